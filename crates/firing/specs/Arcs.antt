@@ -1,0 +1,46 @@
+-- Weights written as arcs: a row has those above 0, by kind and rising flat place.
+use Prim.Native.Nat.{_≤_, _<_}
+use Rattle.reading.specs.Basics.{ℕ, _+_, _-_, List, [], _∷_, map, getD, eqb, given, find, numbersFrom}
+use Rattle.firing.specs.Firing.{Weights}
+
+-- an arc of a row: a flat place, and the weight there
+pub record Arc : Type 0 where
+  pub place : ℕ
+  pub weight : ℕ
+
+-- a row: its arcs by kind
+pub record Row : Type 0 where
+  pub takes : List Arc
+  pub puts : List Arc
+  pub hinders : List Arc
+
+abbrev pub row : List Arc → List Arc → List Arc → Row
+row takes puts hinders = record { takes = takes; puts = puts; hinders = hinders }
+
+-- the weight that a row's arcs give a flat place, 0 where none is written
+unfoldable pub weightIn : List Arc → ℕ → ℕ
+weightIn arcs p = given (find (λ a. eqb (a .place) p) arcs) 0 λ a. a .weight
+
+-- a row's weights
+abbrev pub weights : Row → Weights
+weights r = record { take = weightIn (r .takes); put = weightIn (r .puts); hinder = weightIn (r .hinders) }
+
+-- ---- rows over n flat places
+-- arcs by rising place, from a place on, all below n, each of a weight above 0
+pub data Rising (n : ℕ) : ℕ → List Arc → Type 0 where
+  none : {from : ℕ} → Rising n from []
+  more : {from : ℕ} {a : Arc} {l : List Arc} → from ≤ a .place → a .place < n → 0 < a .weight → Rising n (a .place + 1) l → Rising n from (a ∷ l)
+
+pub record Proper (n : ℕ) (r : Row) : Type 0 where
+  pub takes : Rising n 0 (r .takes)
+  pub puts : Rising n 0 (r .puts)
+  pub hinders : Rising n 0 (r .hinders)
+
+-- ---- rows in lent lists
+-- the arcs number a to b - 1 of two lent lists, one of places and one of weights
+unfoldable pub arcsIn : List ℕ → List ℕ → ℕ → ℕ → List Arc
+arcsIn places weights a b = map (λ i. record { place = getD places i 0; weight = getD weights i 0 }) (numbersFrom a (b - a))
+
+-- the row whose takes, puts and hinders stand there one after the other, each kind up to its end
+abbrev pub rowIn : List ℕ → List ℕ → ℕ → ℕ → ℕ → Row
+rowIn places weights takes puts hinders = row (arcsIn places weights 0 takes) (arcsIn places weights takes puts) (arcsIn places weights puts hinders)

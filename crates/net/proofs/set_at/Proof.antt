@@ -1,0 +1,28 @@
+use borrow.Author.Needs.{needs}
+use native.Mathlib.Omega.{arith}
+use mathlib.Core.Path.{refl}
+use Prim.Native.Nat.{_≤_, _<_}
+use lib.ListN.{length}
+use Rattle.reading.proofs.Commands.{tests, standing-past, standing-none, stands-cut, stands-fails, stands-goes}
+use Rattle.net.specs.Reader.{setPart}
+use Rattle.net.proofs.Shut.{commands}
+use Rattle.net.proofs.set_at.Statement.{statement}
+use Rattle.net.proofs.set_at.Tie as tie
+
+pub set-at-spec : {M : Type 1} → statement M
+unfolding commands setPart
+set-at-spec =
+    tie.close
+    (tie.spec
+    (λ c. (λ sets e. standing-past _ _ _ refl (search needs), search needs))
+    (λ c. search needs)
+    (λ c. search needs)
+    (λ c. (λ sets e. stands-cut _ _ 0x10 _ (search needs) refl (omega arith), search needs))
+    (λ c. search needs)
+    (λ c. search needs)
+    (λ c. (λ sets e. stands-fails _ _ 0x10 _ (search needs) refl (omega arith) (search tests), search needs))
+    (λ c. (λ sets e. stands-fails _ _ 0x10 _ (search needs) refl (omega arith) (search tests), search needs))
+    (λ c. (λ sets e. let h : 16 ≤ length sets = omega arith in stands-fails _ _ 0x10 _ (search needs) refl (omega arith) (search tests), search needs))
+    (λ c. search needs)
+    (λ c. (λ sets e. let h : length sets < 16 = omega arith in stands-goes _ _ 0x10 _ (search needs) refl (omega arith) (search tests), search needs))
+    (λ c. (λ sets e. standing-none _ _ _ (search tests), search needs)))

@@ -1,0 +1,76 @@
+-- What the code's enums say, in the terms of the meanings.
+use mathlib.Core.Path.{_≡_}
+use Prim.Native.Nat.{_^_, _<_, _≤_}
+use Rattle.reading.specs.Basics.{ℕ, zero, suc, _+_, Bool, List, [], _∷_, Option, none, some, length, take, if_then_else_, with}
+use Rattle.reading.specs.Reading.{Answer, fine, fault, _andThen_, whole}
+use Rattle.net.specs.Reader.{setPart, variablePart}
+use Rattle.net.specs.declared.Declared.{Declared}
+use Rattle.net.specs.declared.Declared.the-variants as declared
+use Rattle.net.specs.Net.{Colour, Guard, Net, net, Place, single, pair, setOf, inColour, inGuard}
+use Rattle.net.specs.declared.Read.{Read}
+use Rattle.net.specs.declared.Read.the-variants as read
+use Rattle.net.specs.declared.SetStep.{SetStep}
+use Rattle.net.specs.declared.SetStep.the-variants.{Done, More, Stop}
+use Rattle.net.specs.declared.PlaceStep.{PlaceStep}
+use Rattle.net.specs.declared.PlaceStep.the-variants as place-step
+use Rattle.net.specs.declared.Counted.{Counted}
+use Rattle.net.specs.declared.Counted.the-variants as counted
+
+-- the numbers below n that pass a test, a bit for each
+unfoldable pub bits : (ℕ → Bool) → ℕ → ℕ
+bits test zero = 0
+bits test (suc n) = bits test n + (if test n then 2 ^ n else 0)
+
+-- an answer: the place after an expression, its measure, the variables that stand in it
+abbrev pub told : {A : Type 0} → (A → ℕ) → (ℕ → A → Bool) → Answer A → Read
+told measure stands (fine a next) = read.Whole next (measure a) (bits (λ v. stands v a) 32)
+told measure stands (fault number place) = read.Fault number place
+
+-- a colour tells its set, a guard nothing
+abbrev pub colourTold : Net → Answer Colour → Read
+colourTold n answer = told (setOf n) inColour answer
+
+abbrev pub guardTold : Answer Guard → Read
+guardTold answer = told (λ g. 0) inGuard answer
+
+-- a step of the set part, from the sets before it
+abbrev pub setStep : List ℕ → SetStep → Option (Answer (List ℕ))
+setStep sets Done = none
+setStep sets (More size next) = some (fine (with sets size) next)
+setStep sets (Stop number place) = some (fault number place)
+
+-- a step that goes on has room in the file and among so many, and takes bytes
+abbrev pub RoomFor : ℕ → ℕ → ℕ → ℕ → SetStep → Type 0
+RoomFor limit len count at Done = Unit {0}
+RoomFor limit len count at (More size next) = (count < limit) × (at < next) × (next ≤ len)
+RoomFor limit len count at (Stop number place) = at < len
+
+abbrev pub Room : ℕ → ℕ → ℕ → SetStep → Type 0
+Room len count at r = RoomFor 16 len count at r
+
+-- the sets are the front of the lent list
+abbrev pub setsRead : List ℕ → Counted → Answer (List ℕ)
+setsRead sizes (counted.Whole count next) = fine (take count sizes) next
+setsRead sizes (counted.Fault number place) = fault number place
+
+abbrev pub Few : ℕ → Counted → Type 0
+Few limit (counted.Whole count next) = count ≤ limit
+Few limit (counted.Fault number place) = Unit {0}
+
+-- sets and variables, with nothing after them yet
+abbrev pub declaring : List ℕ → ℕ → Answer Net
+declaring s start =
+    whole s (setPart s) [] start andThen λ sets at.
+    whole s (variablePart s (net sets [] [] [] [])) [] at andThen λ variables at.
+    fine (net sets variables [] [] []) at
+
+abbrev pub declaredRead : List ℕ → List ℕ → Declared → Answer Net
+declaredRead sizes vars (declared.Whole sets variables next) = fine (net (take sets sizes) (take variables vars) [] [] []) next
+declaredRead sizes vars (declared.Fault number place) = fault number place
+
+-- a step of the place part
+abbrev pub placeStep : List Place → PlaceStep → Option (Answer (List Place))
+placeStep places place-step.Done = none
+placeStep places (place-step.One set total next) = some (fine (with places (single set)) next)
+placeStep places (place-step.Two first second total next) = some (fine (with places (pair first second)) next)
+placeStep places (place-step.Stop number place) = some (fault number place)

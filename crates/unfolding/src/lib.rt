@@ -1,0 +1,1 @@
+// The meanings of this crate stand in specs/.
