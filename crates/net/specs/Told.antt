@@ -1,12 +1,12 @@
 -- What the code's enums say, in the terms of the meanings.
 use mathlib.Core.Path.{_≡_}
 use Prim.Native.Nat.{_^_, _<_, _≤_}
-use Rattle.reading.specs.Basics.{ℕ, zero, suc, _+_, Bool, List, [], _∷_, Option, none, some, length, take, if_then_else_, with}
+use Rattle.reading.specs.Basics.{ℕ, zero, suc, _+_, Bool, List, [], _∷_, Option, none, some, length, take, eqb, if_then_else_, with}
 use Rattle.reading.specs.Reading.{Answer, fine, fault, _andThen_, whole}
 use Rattle.net.specs.Reader.{setPart, variablePart}
 use Rattle.net.specs.declared.Declared.{Declared}
 use Rattle.net.specs.declared.Declared.the-variants as declared
-use Rattle.net.specs.Net.{Colour, Guard, Net, net, Place, single, pair, setOf, inColour, inGuard}
+use Rattle.net.specs.Net.{Colour, Guard, Expression, Net, net, Place, single, pair, setOf, ceiling, inColour, inGuard, inExpression}
 use Rattle.net.specs.declared.Read.{Read}
 use Rattle.net.specs.declared.Read.the-variants as read
 use Rattle.net.specs.declared.SetStep.{SetStep}
@@ -32,6 +32,14 @@ colourTold n answer = told (setOf n) inColour answer
 
 abbrev pub guardTold : Answer Guard → Read
 guardTold answer = told (λ g. 0) inGuard answer
+
+-- an arc expression tells its ceiling
+abbrev pub expressionTold : Answer Expression → Read
+expressionTold answer = told ceiling inExpression answer
+
+-- a place by its first and its second set; 255 where it has no second
+abbrev pub placeOf : ℕ → ℕ → Place
+placeOf first second = if eqb second 255 then single first else pair first second
 
 -- a step of the set part, from the sets before it
 abbrev pub setStep : List ℕ → SetStep → Option (Answer (List ℕ))
