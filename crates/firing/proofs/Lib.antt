@@ -1,0 +1,4 @@
+pub mod Rows
+pub mod Rule
+pub mod Passes
+pub mod Running
