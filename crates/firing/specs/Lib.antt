@@ -1,3 +1,4 @@
 pub mod Firing
 pub mod Arcs
 pub mod Calls
+pub mod Steps
