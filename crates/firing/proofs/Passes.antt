@@ -10,6 +10,7 @@ use Rattle.firing.specs.Arcs.{Arc, Rising, none, more, weightIn, arcsIn}
 use Rattle.firing.specs.Steps.{arcAt, spilling, changedBy, changed, Sought}
 use Rattle.firing.proofs.Rows.{arcs-more, arcs-none, weight-hit, weight-skip, weight-below}
 
+-- the first of rising arcs, and the rest
 rise-first : {n from : ℕ} {a : Arc} {l : List Arc} → Rising n from (a ∷ l) → (from ≤ a .place) × Rising n (a .place + 1) l
 rise-first (more f k w r) = (f, r)
 
@@ -49,10 +50,11 @@ module _ (places weights : List ℕ) (b i : ℕ) where
   unfolding weightIn find
   weight-past p h = rw (arcs-none places weights b i h)
 
-  -- the first of rising arcs, and the rest
+  -- the same, in lent lists
   pub rise : {n from : ℕ} → i < b → Rising n from (arcsIn places weights i b) → (from ≤ getD places i 0) × Rising n (getD places i 0 + 1) (arcsIn places weights (i + 1) b)
   rise h r = rise-first (rw (arcs-more places weights b i h) at r)
 
+  -- rising arcs have no weight below the first
   pub weight-above : {n from p : ℕ} → i < b → Rising n from (arcsIn places weights i b) → p < getD places i 0 → weightIn (arcsIn places weights i b) p ≡ 0
   weight-above {p = p} h r l = weight-on h (λ e. omega arith) ∙ weight-below p (rise h r .1) (omega arith)
 

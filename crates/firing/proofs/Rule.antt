@@ -13,16 +13,19 @@ use Rattle.firing.specs.Steps.{lacking, hindering, spilling, changed, ad
 use Rattle.firing.proofs.Rows.{In, here, there, in-inside, in-weight, weight-in, weight-hit, weight-skip}
 
 -- ---- tests that agree
+-- each holds where the other does
 pub alike : (s t : Bool) → (s ≡ true → t ≡ true) → (t ≡ true → s ≡ true) → s ≡ t
 alike true t f g = sym (f refl)
 alike false true f g = g refl
 alike false false f g = refl
 
+-- the first of two that hold
 pub both-first : (s t : Bool) → (s && t) ≡ true → s ≡ true
 both-first true t e = refl
 both-first false t e = e
 
--- ---- a test holds of some number below n
+-- ---- a test of numbers
+-- one of which it holds
 pub some-from : (q : ℕ → Bool) (a n : ℕ) → any q (numbersFrom a n) ≡ true → (p : ℕ) × (p < a + n) × (q p ≡ true)
 unfolding any numbersFrom
 some-from q a zero e = let z : _≡_ {A = ℕ} 0 1 = cc in absurd (omega arith)
@@ -32,6 +35,7 @@ some-from q a (suc n) e = go (q a) refl (some-from q (a + 1) n)
     go true h later = (a, omega arith, h)
     go false h later = let r = later (rw h at e) in (r .0, (let l = r .1 in omega arith), r .2)
 
+-- it holds of some number if it holds of p
 pub from-some : (q : ℕ → Bool) (a n p : ℕ) → a ≤ p → p < a + n → q p ≡ true → any q (numbersFrom a n) ≡ true
 unfolding any numbersFrom
 from-some q a zero p l h e = absurd (omega arith)
@@ -42,6 +46,7 @@ from-some q a (suc n) p l h e = go (eqb a p) refl (q a) refl (from-some q (a + 1
     go false i true k later = rw k
     go false i false k later = rw k (let d = eqb-false a p i in later (omega (arith, d)) (omega arith) e)
 
+-- it holds of none below n, so not of p
 pub none-from : (q : ℕ → Bool) (n : ℕ) → any q (below n) ≡ false → (p : ℕ) → p < n → q p ≡ false
 none-from q n e p h = go (q p) refl
   where
@@ -49,7 +54,8 @@ none-from q n e p h = go (q p) refl
     go true k = k ∙ sym (from-some q 0 n p (omega arith) (omega arith) k) ∙ e
     go false k = k
 
--- ---- a test holds of some arc
+-- ---- a test of arcs
+-- one of which it holds
 pub some-arc : (t : Arc → Bool) (l : List Arc) → any t l ≡ true → (a : Arc) × In a l × (t a ≡ true)
 unfolding any
 some-arc t [] e = let z : _≡_ {A = ℕ} 0 1 = cc in absurd (omega arith)
@@ -59,6 +65,7 @@ some-arc t (b ∷ l) e = go (t b) refl (some-arc t l)
     go true h later = (b, here, h)
     go false h later = let r = later (rw h at e) in (r .0, there (r .1), r .2)
 
+-- it holds of some arc if it holds of this one
 pub arc-some : (t : Arc → Bool) {a : Arc} {l : List Arc} → In a l → t a ≡ true → any t l ≡ true
 unfolding any
 arc-some t here e = rw e
@@ -84,7 +91,7 @@ by-arcs {n} q t l r same only = alike (any q (below n)) (any t l) to from
         let x = some-arc t l e in
         from-some q 0 n (x .0 .place) (omega arith) (let h = in-inside (x .1) r in omega arith) (same (x .0) (x .1) ∙ x .2)
 
--- ---- the three tests
+-- ---- the three tests, over all places and over the arcs
 module _ (m : List ℕ) (row : Row) (proper : Proper (length m) row) where
   pub lacks-is : any (lacks (weights row) m) (below (length m)) ≡ any (lacking m) (row .takes)
   lacks-is =
@@ -104,6 +111,7 @@ module _ (m : List ℕ) (row : Row) (proper : Proper (length m) row) where
       (λ p e. let h : 65535 < moved (weights row) m p = ltb-true _ _ e in omega (arith, fit p))
 
 -- ---- the change
+-- it keeps the length
 pub length-changed : (f : ℕ → ℕ → ℕ) (l : List Arc) (m : List ℕ) → length (changed f l m) ≡ length m
 unfolding changed
 length-changed f [] m = refl
@@ -143,7 +151,7 @@ changed-at f {n} m p e (more {a = a} {l = l} i k w r) still = go (eqb (a .place)
         let same : getD m′ p 0 ≡ getD m p 0 = getD-set-other m (a .place) p v 0 (λ z. d (sym z)) in
         later (rw same still) ∙ ap (λ x. f x (weightIn l p)) same ∙ ap (f (getD m p 0)) (sym (weight-skip a l p d))
 
--- the numbers below n, mapped
+-- a function of the numbers from a on: how many, and each
 pub length-from : (f : ℕ → ℕ) (a n : ℕ) → length (map f (numbersFrom a n)) ≡ n
 unfolding numbersFrom
 length-from f a zero = refl
@@ -155,6 +163,7 @@ getD-from f a zero p h = absurd (omega arith)
 getD-from f a (suc n) zero h = let e : a ≡ a + 0 = omega arith in ap f e
 getD-from f a (suc n) (suc p) h = getD-from f (a + 1) n p (omega arith) ∙ (let e : a + 1 + p ≡ a + suc p = omega arith in ap f e)
 
+-- of the numbers below n
 pub getD-below : (f : ℕ → ℕ) (n p : ℕ) → p < n → getD (map f (below n)) p 0 ≡ f p
 getD-below f n p h = getD-from f 0 n p h ∙ (let e : 0 + p ≡ p = omega arith in ap f e)
 
@@ -163,6 +172,7 @@ abbrev pub after : Row → List ℕ → List ℕ
 after row m = changed added (row .puts) (changed _-_ (row .takes) m)
 
 module _ (m : List ℕ) (row : Row) (proper : Proper (length m) row) (fit : (p : ℕ) → getD m p 0 < 65536) where
+  -- each count after that is the rule's
   counts : (p : ℕ) → moved (weights row) m p < 65536 → getD (after row m) p 0 ≡ moved (weights row) m p
   counts p h =
       let less : getD (changed _-_ (row .takes) m) p 0 ≡ getD m p 0 - weightIn (row .takes) p = changed-at _-_ m p refl (proper .takes) (omega arith) in
@@ -202,7 +212,7 @@ module _ (m : List ℕ) (row : Row) (proper : Proper (length m) row) (fit : (p :
   unfolding fire
   answer-0 e f g = simp (lacks-is m row proper ∙ e, hindered-is m row proper ∙ f, spills-is m row proper fit ∙ g)
 
-  -- the rule, by its answer: 0 changes the counts, any other leaves them
+  -- the answer 0 changes the counts as the code does
   pub fires : {r : ℕ} → r ≡ fire (weights row) m .answer → r ≡ 0 → fired r (after row m) ≡ fire (weights row) m
   unfolding fire
   fires {r} e z = go (any (lacks (weights row) m) (below (length m))) (any (hindered (weights row) m) (below (length m))) (any (spills (weights row) m) (below (length m))) refl e
@@ -215,6 +225,7 @@ module _ (m : List ℕ) (row : Row) (proper : Proper (length m) row) (fit : (p :
       go false false true h a = absurd (omega arith)
       go false false false h a = rw (z, after-is h)
 
+-- any answer but 0 leaves the counts
 pub rests : (w : Weights) (m : List ℕ) {r : ℕ} → r ≡ fire w m .answer → (r ≡ 0 → ⊥) → fired r m ≡ fire w m
 unfolding fire
 rests w m {r} e z = go (any (lacks w m) (below (length m))) (any (hindered w m) (below (length m))) (any (spills w m) (below (length m))) e

@@ -12,6 +12,6 @@ fire-row-spec =
     (λ c κs. search needs)
     (λ c κs. search needs)
     (λ c. search needs)
-    (λ c. λ proper. rw (c .before .before .put-all .ensures, c .before .before .before .before .before .before .take-all .ensures) (fires _ _ proper (λ p. omega (arith, c .before .before .before .before .before .before .before .before .before .before .before .slice-known .given p)) (c .before .before .before .before .before .before .before .before .before .answer .ensures proper) (c .before .before .before .before .before .before .before .before .if1 .taken)))
+    (λ c proper. rw (c .before .before .put-all .ensures, c .before .before .before .before .before .before .take-all .ensures) (fires _ _ proper (λ p. omega (arith, c .before .before .before .before .before .before .before .before .before .before .before .slice-known .given p)) (c .before .before .before .before .before .before .before .before .before .answer .ensures proper) (c .before .before .before .before .before .before .before .before .if1 .taken)))
     (λ c. search needs)
-    (λ c. λ proper. rests _ _ (c .before .answer .ensures proper) (c .if1 .left)))
+    (λ c proper. rests _ _ (c .before .answer .ensures proper) (c .if1 .left)))

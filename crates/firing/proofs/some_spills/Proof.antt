@@ -19,12 +19,12 @@ some-spills-spec =
     (tie.spec
     Inv-loop
     μ-loop
-    (λ c. λ n r s. spill-begins _ _ _ _ _ _ s)
+    (λ c n r s. spill-begins _ _ _ _ _ _ s)
     (λ c κs. search needs)
     (λ c κs. search needs)
     (λ c κs. search needs)
-    (λ c. λ n r s. spill-hit _ _ _ _ _ _ r (c .before .before .before .before .before .loop .inv n r s) (c .before .before .before .before .loop-test .taken) (c .before .before .before .entry .ensures .0) (c .before .before .seek .ensures) (c .before .spills .ensures) (c .if1 .taken))
+    (λ c n r s. spill-hit _ _ _ _ _ _ r (c .before .before .before .before .before .loop .inv n r s) (c .before .before .before .before .loop-test .taken) (c .before .before .before .entry .ensures .0) (c .before .before .seek .ensures) (c .before .spills .ensures) (c .if1 .taken))
     (λ c. omega arith)
     (λ c. omega arith)
-    (λ c. λ n r s. spill-goes _ _ _ _ _ _ r (c .before .before .before .before .before .loop .inv n r s) (c .before .before .before .before .loop-test .taken) (c .before .before .before .entry .ensures .0) (c .before .before .seek .ensures) (c .before .spills .ensures) (c .if1 .left))
-    (λ c. λ n r s. spill-ends _ _ _ _ _ _ (c .before .loop .inv n r s) (c .loop-test .left)))
+    (λ c n r s. spill-goes _ _ _ _ _ _ r (c .before .before .before .before .before .loop .inv n r s) (c .before .before .before .before .loop-test .taken) (c .before .before .before .entry .ensures .0) (c .before .before .seek .ensures) (c .before .spills .ensures) (c .if1 .left))
+    (λ c n r s. spill-ends _ _ _ _ _ _ (c .before .loop .inv n r s) (c .loop-test .left)))
