@@ -1,2 +1,3 @@
 pub mod Bindings
 pub mod Named
+pub mod FlatPlaces
