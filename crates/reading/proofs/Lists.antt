@@ -64,6 +64,10 @@ module _ {A : Type 0} where
   getD-at (b ∷ l) (suc i) d e = getD-at l i d e
 
 module _ {A B : Type 0} where
+  pub all-map : {P : B → Type 0} (f : A → B) {l : List A} → All (λ a. P (f a)) l → All P (map f l)
+  all-map f end = end
+  all-map f (also p q) = also p (all-map f q)
+
   pub at-map : (f : A → B) (l : List A) (i : ℕ) {a : A} → getElem? l i ≡ some a → getElem? (map f l) i ≡ some (f a)
   at-map f [] i e = let z : _≡_ {A = ℕ} 0 1 = cc in absurd (omega arith)
   at-map f (b ∷ l) zero e = cc
@@ -237,6 +241,11 @@ module _ {A : Type 0} where
   pub map-same : {B : Type 0} (f g : A → B) (l : List A) → ((a : A) → In a l → f a ≡ g a) → map f l ≡ map g l
   map-same f g [] h = refl
   map-same f g (a ∷ l) h = ap₂ _∷_ (h a here) (map-same f g l (λ b m. h b (there m)))
+
+  pub flatMap-same : {B : Type 0} (f g : A → List B) (l : List A) → ((a : A) → In a l → f a ≡ g a) → flatMap f l ≡ flatMap g l
+  unfolding flatMap
+  flatMap-same f g [] h = refl
+  flatMap-same f g (a ∷ l) h = ap₂ _++_ (h a here) (flatMap-same f g l (λ b m. h b (there m)))
 
   pub map-map : {B C : Type 0} (f : A → B) (g : B → C) (l : List A) → map g (map f l) ≡ map (λ a. g (f a)) l
   map-map f g [] = refl
