@@ -8,7 +8,7 @@ use native.Mathlib.Numerals.{add-one}
 use native.Mathlib.Nat.{eq-or-lt-of-le}
 use borrow.Author.Tests.{eq-eqb, eqb-true}
 use lib.ListN.{length-append, length-map}
-use Rattle.reading.specs.Basics.{ℕ, zero, suc, _+_, Bool, true, false, _&&_, _||_, List, [], _∷_, _++_, map, flatMap, filterMap, Option, none, some, Option·elim, length, getD, getElem?, eqb, if_then_else_, given, numbersFrom, below, any, every, position, sum, same}
+use Rattle.reading.specs.Basics.{ℕ, zero, suc, _+_, Bool, true, false, _&&_, _||_, List, [], _∷_, _++_, map, flatMap, filterMap, Option, none, some, Option·elim, length, getD, getElem?, eqb, if_then_else_, given, with, numbersFrom, below, any, every, position, sum, same}
 
 -- ---- membership
 abbrev pub In : {A : Type 0} → A → List A → Type 0
@@ -37,6 +37,15 @@ module _ {A : Type 0} where
   pub in-all : {P : A → Type 0} (l : List A) → ((a : A) → In a l → P a) → All P l
   in-all [] h = end
   in-all (b ∷ l) h = also (h b here) (in-all l (λ a m. h a (there m)))
+
+  pub all-with : {P : A → Type 0} {l : List A} {a : A} → All P l → P a → All P (with l a)
+  all-with end p = also p end
+  all-with (also q r) p = also q (all-with r p)
+
+  pub all-getD : {P : A → Type 0} {l : List A} (i : ℕ) (d : A) → All P l → i < length l → P (getD l i d)
+  all-getD i d end lt = absurd (omega arith)
+  all-getD zero d (also p q) lt = p
+  all-getD (suc i) d (also p q) lt = all-getD i d q (omega arith)
 
   -- what stands at a place is an element, and an element stands at a place
   pub at-in : (l : List A) (i : ℕ) {a : A} → getElem? l i ≡ some a → In a l

@@ -15,7 +15,7 @@ use Rattle.flat.specs.Flat.{Flat, readFlat, writeFlat, fireImage}
 use Rattle.flat.specs.Flat as flat
 use Rattle.net.specs.Net.{Net, flatPlaceCount}
 use Rattle.net.specs.Limits.{Limits}
-use Rattle.net.specs.Reader.{readNet}
+use Rattle.net.proofs.Limits.{limits}
 use Rattle.coloured.specs.Effect.{flatPlaces}
 use Rattle.coloured.specs.Orders.{fireOrder}
 use Rattle.coloured.proofs.FlatPlaces.{flat-places}
@@ -129,7 +129,7 @@ module _ (n : Net) (limits : Limits n) where
           sym (of-six others whole .1) ∙ ap (flatMap (λ x. x)) (only-orders (items 6 others) small same) ∙ map-flat orderAt (λ x. x) numbers
 
 -- ---- the demand
-module _ (round-trip : (f : Flat) → flat.Limits f → readFlat (writeFlat f) ≡ accepted f) (limits : (s : List ℕ) (n : Net) → readNet s ≡ accepted n → Limits n) where
+module _ (round-trip : (f : Flat) → flat.Limits f → readFlat (writeFlat f) ≡ accepted f) where
   pub alike : (n : Net) → Limits n → Alike n (unfolded n)
   alike n within-limits =
       record {
