@@ -1,4 +1,4 @@
--- Demand 3: the drawing and its flat net behave alike.
+-- Demand 3: the drawing and its flat net behave alike. Assumes nothing.
 use mathlib.Core.Path.{_≡_, refl, sym, ap, ap₂, _∙_}
 use mathlib.Core.Logic.{_↔_}
 use Prim.Native.Nat.{_≤_, _<_}
@@ -6,13 +6,13 @@ use native.Mathlib.Omega.{arith}
 use borrow.Author.Tests.{ltb-true}
 use lib.ListN.{length-map}
 use Rattle.reading.specs.Basics.{ℕ, _+_, _%_, Bool, true, false, List, [], _∷_, _++_, map, flatMap, Option, none, some, Option·map, length, getD, getElem?, ltb, eqb, if_then_else_, given, every, items, longAt}
-use Rattle.reading.specs.Reading.{accepted}
 use Rattle.reading.proofs.Lists.{All, end, also, all-in, in-all, In, at-below, below-at, at-map, all-map, getD-at, map-flat, flatMap-same, every-in, in-every}
 use Rattle.reading.proofs.Items.{items-joined, of-six, joined-sixes}
 use Rattle.firing.specs.Firing.{Weights, Fired, fire}
 use Rattle.firing.specs.Arcs.{Row, row, Proper}
-use Rattle.flat.specs.Flat.{Flat, readFlat, writeFlat, fireImage}
+use Rattle.flat.specs.Flat.{fireImage}
 use Rattle.flat.specs.Flat as flat
+use Rattle.flat.proofs.RoundTrip.{round-trip}
 use Rattle.net.specs.Net.{Net, flatPlaceCount}
 use Rattle.net.specs.Limits.{Limits}
 use Rattle.net.proofs.Limits.{limits}
@@ -129,16 +129,15 @@ module _ (n : Net) (limits : Limits n) where
           sym (of-six others whole .1) ∙ ap (flatMap (λ x. x)) (only-orders (items 6 others) small same) ∙ map-flat orderAt (λ x. x) numbers
 
 -- ---- the demand
-module _ (round-trip : (f : Flat) → flat.Limits f → readFlat (writeFlat f) ≡ accepted f) where
-  pub alike : (n : Net) → Limits n → Alike n (unfolded n)
-  alike n within-limits =
-      record {
-        reads-back = round-trip (unfolded n) (unfolded-limits n within-limits);
-        exactly = refl;
-        lists-agree = lists-agree n within-limits;
-        rows-have-orders = rows-have-orders n within-limits;
-        some-fires = some-fires n within-limits;
-      }
+pub alike : (n : Net) → Limits n → Alike n (unfolded n)
+alike n within-limits =
+    record {
+      reads-back = round-trip (unfolded n) (unfolded-limits n within-limits);
+      exactly = refl;
+      lists-agree = lists-agree n within-limits;
+      rows-have-orders = rows-have-orders n within-limits;
+      some-fires = some-fires n within-limits;
+    }
 
-  pub likeness : Demand3
-  likeness s n e = (unfolded n, alike n (limits s n e))
+pub likeness : Demand3
+likeness s n e = (unfolded n, alike n (limits s n e))
