@@ -2,3 +2,5 @@ pub mod Rows
 pub mod Rule
 pub mod Passes
 pub mod Running
+pub mod Agree
+pub mod Weighted

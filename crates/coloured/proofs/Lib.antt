@@ -1,0 +1,3 @@
+pub mod Bindings
+pub mod Named
+pub mod FlatPlaces
