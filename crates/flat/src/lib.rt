@@ -1,1 +1,2 @@
-// The meanings of this crate stand in specs/.
+// The flat side: its reader. It knows nothing of colours.
+pub mod reader;
