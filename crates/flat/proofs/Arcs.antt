@@ -11,7 +11,9 @@ use Rattle.reading.proofs.Commands.{Fails, fails, later, passes, done, other, e
 use Rattle.reading.proofs.Parts.{Reading, begins, goes-on, ends, stops}
 use Rattle.firing.specs.Arcs.{Arc, Row, row, Rising, Proper, arcsIn, rowIn}
 use Rattle.flat.specs.Flat.{arcCommand, arcPart}
-use Rattle.flat.specs.Told.{inOrder, added, key, Least, arc, laterEnd}
+use Rattle.flat.specs.Told.{inOrder, added, key, Least, arc, arcStep, ArcRoom, laterEnd}
+use Rattle.flat.specs.declared.reader.ArcStep.{ArcStep}
+use Rattle.flat.specs.declared.reader.ArcStep.the-variants as arc-step
 use Rattle.flat.proofs.Rows.{in-order, least-added, proper-added, row-added, arcs-count, few-arcs, one-more, arcCount}
 
 -- ---- one arc
@@ -112,28 +114,51 @@ module _ {s : List ℕ} {n start : ℕ} {places weights : List ℕ} {takes puts 
   abbrev R : Row
   R = rowIn places weights takes puts end
 
-  -- the arcs so far, and one more, are few enough for the lists
-  pub arc-room : (kind p w : ℕ) → n ≤ 4096 → kind ≤ 2 → p < 65536 → p < n → 0 < w → least ≤ key kind p → end < 12288
+  row-count : arcCount R ≡ end
   unfolding arcCount
-  arc-room kind p w small h lt inside weighs up =
-      let all = proper-added n R (arc p w) (here .proper) inside weighs kind (in-order R least (here .from) kind p h lt up) in
-      omega (arith, few-arcs n _ all, one-more kind R (arc p w), arcs-count places weights 0 takes, arcs-count places weights takes puts, arcs-count places weights puts end, here .first, here .second)
+  row-count = omega (arith, arcs-count places weights 0 takes, arcs-count places weights takes puts, arcs-count places weights puts end, here .first, here .second)
 
-  pub arc-more : (kind p w : ℕ) → n ≤ 4096 → kind ≤ 2 → p < 65536 → p < n → 0 < w → least ≤ key kind p → at + 5 ≤ length s
-      → arcPart s n R at ≡ some (fine (added kind R (arc p w)) (at + 5))
-      → ArcsRead s n start (set places end p) (set weights end w) (laterEnd kind 0 (end + 1) takes) (laterEnd kind 1 (end + 1) puts) (end + 1) (key kind p + 1) (at + 5)
-  arc-more kind p w small h lt inside weighs up le step =
-      let room = arc-room kind p w small h lt inside weighs up in
-      let same = row-added places weights takes puts end p w least (omega (arith, here .long)) (omega (arith, here .wide)) (here .first) (here .second) (here .from) lt kind h up in
-      let rise = ends-rise kind takes puts end h (here .first) (here .second) in
-      record {
-        long = length-set places end p ∙ here .long;
-        wide = length-set weights end w ∙ here .wide;
-        first = rise .0;
-        second = rise .1;
-        proper = rw (← same) (proper-added n R (arc p w) (here .proper) inside weighs kind (in-order R least (here .from) kind p h lt up));
-        from = rw (← same) (least-added R (arc p w) least (here .from) lt kind h up);
-        reading = rw (← same) (goes-on s (arcPart s n) _ (at + 5) (here .reading) (omega arith) le step);
-        onward = omega (arith, here .onward);
-        within = λ _. le;
-      }
+  -- they fit the lists
+  pub arcs-fit : n ≤ 4096 → end ≤ 12288
+  arcs-fit small = omega (arith, few-arcs n R (here .proper), row-count)
+
+  -- the next step
+  module _ {step : ArcStep} (is : (before : Row) → Least before least → arcPart s n before at ≡ arcStep (at + 5) before step) (room : ArcRoom (length s) n at least step) where
+    pub arcs-end : step ≡ arc-step.Done → fine R at ≡ whole s (arcPart s n) (row [] [] []) start
+    arcs-end e = ends s (arcPart s n) (here .reading) (is R (here .from) ∙ ap (arcStep (at + 5) R) e)
+
+    pub arcs-stop : {k p : ℕ} → step ≡ arc-step.Stop k p → fault k p ≡ whole s (arcPart s n) (row [] [] []) start
+    arcs-stop e = stops s (arcPart s n) (here .reading) (rw e at room) (is R (here .from) ∙ ap (arcStep (at + 5) R) e)
+
+    module _ {kind p w : ℕ} (e : step ≡ arc-step.Arc kind p w) (small : n ≤ 4096) where
+      shown : ArcRoom (length s) n at least (arc-step.Arc kind p w)
+      shown = rw e at room
+
+      in-turn : inOrder kind R p ≡ true
+      in-turn = in-order R least (here .from) kind p (shown .0) (omega (arith, shown .1)) (shown .3)
+
+      all-proper : Proper n (added kind R (arc p w))
+      all-proper = proper-added n R (arc p w) (here .proper) (shown .1) (shown .2) kind in-turn
+
+      -- one more fits too
+      pub arc-room : end < 12288
+      arc-room = omega (arith, few-arcs n (added kind R (arc p w)) all-proper, one-more kind R (arc p w), row-count)
+
+      pub arc-inside : at + 5 ≤ length s
+      arc-inside = shown .4
+
+      pub arc-more : ArcsRead s n start (set places end p) (set weights end w) (laterEnd kind 0 (end + 1) takes) (laterEnd kind 1 (end + 1) puts) (end + 1) (key kind p + 1) (at + 5)
+      arc-more =
+          let same = row-added places weights takes puts end p w least (omega (arith, here .long, arc-room)) (omega (arith, here .wide, arc-room)) (here .first) (here .second) (here .from) (omega (arith, shown .1)) kind (shown .0) (shown .3) in
+          let rise = ends-rise kind takes puts end (shown .0) (here .first) (here .second) in
+          record {
+            long = length-set places end p ∙ here .long;
+            wide = length-set weights end w ∙ here .wide;
+            first = rise .0;
+            second = rise .1;
+            proper = rw (← same) all-proper;
+            from = rw (← same) (least-added R (arc p w) least (here .from) (omega (arith, shown .1)) kind (shown .0) (shown .3));
+            reading = rw (← same) (goes-on s (arcPart s n) (added kind R (arc p w)) (at + 5) (here .reading) (omega arith) arc-inside (is R (here .from) ∙ ap (arcStep (at + 5) R) e));
+            onward = omega (arith, here .onward);
+            within = λ _. arc-inside;
+          }
