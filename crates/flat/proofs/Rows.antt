@@ -186,7 +186,7 @@ module _ (places weights : List ℕ) (takes puts end p w least : ℕ) (room : en
       let none-hinder : puts ≡ end = no-hinders (rise (R .takes) p && eqb (length (R .puts)) 0) e in
       rw (none-put, none-hinder, arcs-with places weights end p w room space 0 (omega arith), none-there places weights end, none-there _ _ (end + 1))
   row-added (suc zero) h le =
-            let none-hinder : puts ≡ end = no-hinders (rise (R .puts) p) (in-order R least is 1 p h lt le) in
+      let none-hinder : puts ≡ end = no-hinders (rise (R .puts) p) (in-order R least is 1 p h lt le) in
       rw (none-hinder, arcs-kept places weights end p w room space 0 takes (omega arith) (omega arith), arcs-with places weights end p w room space takes (omega arith), none-there places weights end, none-there _ _ (end + 1))
   row-added (suc (suc zero)) h le = rw (arcs-kept places weights end p w room space 0 takes (omega arith) (omega arith), arcs-kept places weights end p w room space takes puts first second, arcs-with places weights end p w room space puts second)
   row-added (suc (suc (suc k))) h le = absurd (omega arith)

@@ -9,7 +9,7 @@ ghost use Rattle.reading.specs.Basics.{with, wordAt};
 ghost use Rattle.reading.specs.Reading.{Answer, fine, under, whole};
 ghost use Rattle.firing.specs.Arcs.{Row, row};
 ghost use Rattle.flat.specs.Flat.{Flat, placePart, arcPart, rowPart};
-ghost use Rattle.flat.specs.Told.{Least, arcStep, ArcRoom, laterEnd, rowRead, RowProper, RowWithin};
+ghost use Rattle.flat.specs.Told.{Least, arcStep, ArcRoom, laterEnd, rowRead, RowProper, RowWithin, stepTold, StepRoom, PlacesRead, RowsRead, opening, closing, passed, Opened, Scanned};
 
 // One step of a row's arcs: the kind is 0 for a take, 1 for a put, 2 for a hinder.
 pub enum ArcStep {
@@ -90,7 +90,13 @@ pub enum RowRead {
 }
 
 // The arcs from a place on, over so many flat places. They go into the front of two lent lists of 12,288.
-pub fn read_arcs(s: &[u8], count: usize, at: usize, places: &mut [u16], weights: &mut [u16]) -> RowRead
+pub fn read_arcs(
+    s: &[u8],
+    count: usize,
+    at: usize,
+    places: &mut [u16],
+    weights: &mut [u16],
+) -> RowRead
     requires { ⌜ count ≤ 4096 ⌝ }
     requires { ⌜ length (now places) ≡ 12288 ⌝ }
     requires { ⌜ length (now weights) ≡ 12288 ⌝ }
@@ -131,5 +137,236 @@ pub fn read_arcs(s: &[u8], count: usize, at: usize, places: &mut [u16], weights:
                 next += 5;
             }
         }
+    }
+}
+
+// One step of the places, or of the rows.
+pub enum Step {
+    Done,
+    More,
+    Stop { number: u8, place: usize },
+}
+
+// The flat place at a place of the file, after so many.
+fn place_at(s: &[u8], count: usize, at: usize) -> Step
+    ensures is { λ r. ⌜ ((initial : List ℕ) → length initial ≡ count → placePart (now (s .entry)) initial at
+        ≡ stepTold (fine (with initial (wordAt (now (s .entry)) (at + 1))) (at + 3)) r) ⌝ }
+    ensures room { λ r. ⌜ StepRoom 4096 3 (length (now (s .entry))) count at r ⌝ }
+{
+    if s.len() <= at {
+        return Step::Done;
+    }
+    if s[at] == 0x50 {
+        if s.len() < at + 3 {
+            return Step::Stop {
+                number: 2,
+                place: s.len(),
+            };
+        }
+        if 4096 <= count {
+            return Step::Stop {
+                number: 4,
+                place: at,
+            };
+        }
+        return Step::More;
+    }
+    Step::Done
+}
+
+// How many were read, and the place after them; or the first fault.
+pub enum Counted {
+    Whole { count: usize, next: usize },
+    Fault { number: u8, place: usize },
+}
+
+// The flat places. Their initial counts are not kept.
+fn read_places(s: &[u8], start: usize) -> Counted
+    requires { ⌜ start ≤ length (now s) ⌝ }
+    ensures { λ r. ⌜ PlacesRead (now (s .entry)) start r ⌝ }
+{
+    let mut count: usize = 0;
+    let mut at = start;
+    loop {
+        match place_at(s, count, at) {
+            Step::Done => {
+                return Counted::Whole { count, next: at };
+            }
+            Step::Stop { number, place } => {
+                return Counted::Fault { number, place };
+            }
+            Step::More => {
+                count += 1;
+                at += 3;
+            }
+        }
+    }
+}
+
+// The row command at a place of the file, after so many rows. Its arcs are not read here.
+fn row_at(s: &[u8], rows: usize, at: usize) -> Step
+    ensures is { λ r. ⌜ ((places : ℕ) (before : List Row) → length before ≡ rows → rowPart (now (s .entry)) places before at
+        ≡ stepTold (under (with before) (whole (now (s .entry)) (arcPart (now (s .entry)) places) (row [] [] []) (at + 1))) r) ⌝ }
+    ensures room { λ r. ⌜ StepRoom 65536 1 (length (now (s .entry))) rows at r ⌝ }
+{
+    if s.len() <= at {
+        return Step::Done;
+    }
+    if s[at] == 0x51 {
+        if 65536 <= rows {
+            return Step::Stop {
+                number: 4,
+                place: at,
+            };
+        }
+        return Step::More;
+    }
+    Step::Done
+}
+
+// The rows, over so many flat places: where each row's arcs start goes into the front of starts.
+fn read_rows(
+    s: &[u8],
+    count: usize,
+    start: usize,
+    starts: &mut [usize],
+    places: &mut [u16],
+    weights: &mut [u16],
+) -> Counted
+    requires { ⌜ count ≤ 4096 ⌝ }
+    requires { ⌜ start ≤ length (now s) ⌝ }
+    requires { ⌜ length (now starts) ≡ 65536 ⌝ }
+    requires { ⌜ length (now places) ≡ 12288 ⌝ }
+    requires { ⌜ length (now weights) ≡ 12288 ⌝ }
+    ensures { λ r. ⌜ RowsRead (now (s .entry)) count start (now (starts .exit)) r ⌝ }
+{
+    let mut rows: usize = 0;
+    let mut at = start;
+    loop {
+        match row_at(s, rows, at) {
+            Step::Done => {
+                return Counted::Whole {
+                    count: rows,
+                    next: at,
+                };
+            }
+            Step::Stop { number, place } => {
+                return Counted::Fault { number, place };
+            }
+            Step::More => match read_arcs(s, count, at + 1, places, weights) {
+                RowRead::Fault { number, place } => {
+                    return Counted::Fault { number, place };
+                }
+                RowRead::Whole {
+                    takes: _,
+                    puts: _,
+                    hinders: _,
+                    next,
+                } => {
+                    starts[rows] = at + 1;
+                    rows += 1;
+                    at = next;
+                }
+            },
+        }
+    }
+}
+
+// A check that all must pass.
+pub enum Pass {
+    Fine,
+    Stop { number: u8, place: usize },
+}
+
+// The file opens with 0x02 and edition 1.
+fn opens(s: &[u8]) -> Pass
+    ensures is { λ r. ⌜ ((content : ℕ → Answer Flat) → opening (now (s .entry)) content ≡ passed (content 2) r) ⌝ }
+    ensures room { λ r. ⌜ Opened (length (now (s .entry))) r ⌝ }
+{
+    if s.len() < 1 {
+        return Pass::Stop {
+            number: 2,
+            place: s.len(),
+        };
+    }
+    if s[0] != 2 {
+        return Pass::Stop {
+            number: 3,
+            place: 0,
+        };
+    }
+    if s.len() < 2 {
+        return Pass::Stop {
+            number: 2,
+            place: s.len(),
+        };
+    }
+    if s[1] != 1 {
+        return Pass::Stop {
+            number: 5,
+            place: 0,
+        };
+    }
+    Pass::Fine
+}
+
+// The file closes at a place with 0x5F, and nothing after it.
+fn closes(s: &[u8], at: usize) -> Pass
+    ensures { λ r. ⌜ ((f : Flat) → closing (now (s .entry)) f at ≡ passed (fine f (length (now (s .entry)))) r) ⌝ }
+{
+    if s.len() <= at {
+        return Pass::Stop {
+            number: 2,
+            place: s.len(),
+        };
+    }
+    if s[at] != 0x5F {
+        return Pass::Stop {
+            number: 3,
+            place: at,
+        };
+    }
+    if at + 1 < s.len() {
+        return Pass::Stop {
+            number: 15,
+            place: at + 1,
+        };
+    }
+    Pass::Fine
+}
+
+// What reading a whole flat file gives: how many flat places and rows it has, or a refusal.
+pub enum Scan {
+    Net { places: usize, rows: usize },
+    Refused { number: u8, place: usize },
+}
+
+// Reads a whole flat file: where each row's arcs start goes into the front of starts.
+pub fn scan_file(s: &[u8], starts: &mut [usize], places: &mut [u16], weights: &mut [u16]) -> Scan
+    requires { ⌜ length (now starts) ≡ 65536 ⌝ }
+    requires { ⌜ length (now places) ≡ 12288 ⌝ }
+    requires { ⌜ length (now weights) ≡ 12288 ⌝ }
+    ensures { λ r. ⌜ Scanned (now (s .entry)) (now (starts .exit)) r ⌝ }
+{
+    match opens(s) {
+        Pass::Stop { number, place } => Scan::Refused { number, place },
+        Pass::Fine => match read_places(s, 2) {
+            Counted::Fault { number, place } => Scan::Refused { number, place },
+            Counted::Whole { count, next } => {
+                match read_rows(s, count, next, starts, places, weights) {
+                    Counted::Fault { number, place } => Scan::Refused { number, place },
+                    Counted::Whole {
+                        count: rows,
+                        next: end,
+                    } => match closes(s, end) {
+                        Pass::Stop { number, place } => Scan::Refused { number, place },
+                        Pass::Fine => Scan::Net {
+                            places: count,
+                            rows,
+                        },
+                    },
+                }
+            }
+        },
     }
 }
