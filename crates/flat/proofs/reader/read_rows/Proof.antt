@@ -1,5 +1,6 @@
 use borrow.Author.Needs.{needs}
 use native.Mathlib.Omega.{arith}
+use mathlib.Core.Path.{_≡_, _∙_}
 use Prim.Native.Nat.{_-_}
 use lib.ListN.{length}
 use Rattle.flat.proofs.Files.{RowsSoFar, rows-begin, rows-end, rows-stop, row-room, row-stop, row-inside, row-more}
@@ -122,7 +123,7 @@ loop-less c = omega (arith, row-inside (c .before .before .before .before .befor
 
 -- src/reader.rt:245:5
 loop-again : tie.Need-loop-again Inv-loop μ-loop
-loop-again c = (row-more (c .before .before .before .before .before .before .before .before .before .before .before .before .before .loop .inv .0) (c .before .before .before .before .before .before .before .before .before .before .before .before .row-at .ensures .0) (c .before .before .before .before .before .before .before .before .before .before .before .before .row-at .ensures .1) (c .before .before .before .before .before .before .before .before .before .before .enum-told2 .given .1) (rw (c .before .next .given .1) at (c .before .before .before .before .before .before .before .read-arcs .ensures .0)) (rw (c .before .next .given .1) at (c .before .before .before .before .before .before .before .read-arcs .ensures .1 .1)), ?, ?)
+loop-again c = (row-more (c .before .before .before .before .before .before .before .before .before .before .before .before .before .loop .inv .0) (c .before .before .before .before .before .before .before .before .before .before .before .before .row-at .ensures .0) (c .before .before .before .before .before .before .before .before .before .before .before .before .row-at .ensures .1) (c .before .before .before .before .before .before .before .before .before .before .enum-told2 .given .1) (rw (c .before .next .given .1) at (c .before .before .before .before .before .before .before .read-arcs .ensures .0)) (rw (c .before .next .given .1) at (c .before .before .before .before .before .before .before .read-arcs .ensures .1 .1)), c .before .before .before .before .before .before .before .read-arcs .kept .1 .1 .1 .0 ∙ c .before .before .before .before .before .before .before .before .before .before .before .before .before .loop .inv .1, c .before .before .before .before .before .before .before .read-arcs .kept .1 .1 .1 .1 .0 ∙ c .before .before .before .before .before .before .before .before .before .before .before .before .before .loop .inv .2)
 
 pub read-rows-spec : {M : Type 1} → statement M
 read-rows-spec =
