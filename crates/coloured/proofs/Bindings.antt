@@ -1,13 +1,13 @@
 -- The bindings of a net: a colour below each size, each binding once, as many as the binding space. Assumes nothing.
-use mathlib.Core.Path.{_≡_, refl, sym, ap, ap₂, _∙_}
+use mathlib.Core.Path.{_≡_, refl, sym, ap, _∙_}
 use mathlib.Core.List.{List·Memᴰ·eq-of-singleton, List·Memᴰ·not-nil, Memᴰ·of-map}
-use Prim.Native.Nat.{_≤_, _<_}
+use Prim.Native.Nat.{_<_}
 use native.Mathlib.Omega.{arith}
 use native.Mathlib.Nat.{zero-mul, suc-mul}
 use lib.ListN.{length-map}
-use Rattle.reading.specs.Basics.{ℕ, zero, suc, _+_, _*_, List, [], _∷_, map, flatMap, length, numbersFrom, below, sum, product}
-use Rattle.reading.proofs.Lists.{In, here, in-map, in-flatMap, of-flatMap, Apart, alone, new, apart-by, apart-map, apart-flatMap, apart-from, in-from, of-from, map-same, map-getD, length-from, length-flatMap}
-use Rattle.net.specs.Net.{always, Transition, Net, sizesOf, bindingSpace}
+use Rattle.reading.specs.Basics.{ℕ, zero, suc, _+_, _*_, List, [], _∷_, map, length, numbersFrom, below, sum, product}
+use Rattle.reading.proofs.Lists.{In, here, in-map, in-flatMap, of-flatMap, Apart, alone, new, apart-by, apart-map, apart-flatMap, apart-from, in-from, of-from, map-same, map-getD, length-flatMap}
+use Rattle.net.specs.Net.{always, Net, sizesOf, bindingSpace}
 use Rattle.coloured.specs.Effect.{Binding, transitionAt, choices, bindings}
 
 -- a colour below each size

@@ -2,10 +2,10 @@
 use mathlib.Core.Path.{_≡_, refl, sym, ap, ap₂, _∙_}
 use Prim.Native.Nat.{_≤_, _<_}
 use native.Mathlib.Omega.{arith}
-use borrow.Author.Tests.{lt-ltb, ltb-true, eq-eqb, eqb-true}
+use borrow.Author.Tests.{lt-ltb, ltb-true, eqb-true}
 use lib.ListN.{length-map, length-drop}
 use lib.Seq.{take-take, take-at}
-use Rattle.reading.specs.Basics.{ℕ, zero, suc, _+_, Bool, true, false, _&&_, List, [], _∷_, _++_, Option, none, some, length, take, drop, replicate, ltb, eqb, if_then_else_, every, byteAt}
+use Rattle.reading.specs.Basics.{ℕ, zero, suc, Bool, true, false, _&&_, List, [], _∷_, _++_, none, some, length, take, drop, replicate, ltb, eqb, if_then_else_, every, byteAt}
 use Rattle.reading.proofs.Lists.{In, Apart, apart-by}
 use Rattle.net.specs.Net.{Net, variablesOf, sizesOf}
 use Rattle.coloured.specs.Effect.{Binding, transitionAt, bindings}

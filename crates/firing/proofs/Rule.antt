@@ -1,11 +1,11 @@
 -- The firing rule looks at the weights of the marking's own flat places, and keeps their number. Assumes nothing.
-use mathlib.Core.Path.{_≡_, refl, sym, ap, ap₂, _∙_}
-use Prim.Native.Nat.{_≤_, _<_}
+use mathlib.Core.Path.{_≡_, refl, ap, ap₂, _∙_}
+use Prim.Native.Nat.{_<_}
 use native.Mathlib.Omega.{arith}
 use lib.ListN.{length-map}
 use Rattle.reading.specs.Basics.{ℕ, _+_, _-_, Bool, true, false, _&&_, List, map, length, getD, ltb, leb, if_then_else_, below, any}
 use Rattle.reading.proofs.Lists.{In, of-from, length-from, any-same, map-same}
-use Rattle.firing.specs.Firing.{Weights, Fired, fired, lacks, hindered, moved, spills, fire}
+use Rattle.firing.specs.Firing.{Weights, fired, lacks, hindered, moved, spills, fire}
 
 -- two weights that agree at every flat place below a number
 pub record Agree (n : ℕ) (v w : Weights) : Type 0 where

@@ -1,11 +1,11 @@
 -- An accepted net keeps to its limits. Assumes nothing.
-use mathlib.Core.Path.{_≡_, refl, sym, ap, _∙_}
+use mathlib.Core.Path.{_≡_, refl}
 use Prim.Native.Nat.{_≤_, _<_}
 use native.Mathlib.Omega.{arith}
 use borrow.Author.Tests.{leb-true, ltb-true}
 use lib.ListN.{length-append}
-use Rattle.reading.specs.Basics.{ℕ, _+_, _-_, Bool, true, false, _&&_, List, [], _∷_, some, map, length, getD, ltb, leb, eqb, if_then_else_, with, every, sum, byteAt}
-use Rattle.reading.specs.Reading.{Answer, fine, fault, accepted, refused, outcome, _unless_, checked, whole, file}
+use Rattle.reading.specs.Basics.{ℕ, _+_, _-_, Bool, true, false, _&&_, List, [], _∷_, some, map, length, ltb, leb, eqb, if_then_else_, with, every, sum, byteAt}
+use Rattle.reading.specs.Reading.{fine, fault, accepted, refused, outcome, _unless_, checked, whole, file}
 use Rattle.reading.proofs.Lists.{All, end, also, all-with, all-getD}
 use Rattle.reading.proofs.Keeps.{no-value, checked-went, then-went, standing-went, repeat-keeps, file-went, outcome-went}
 use Rattle.net.specs.Net.{always, Place, single, pair, Transition, Tokens, Net, net, setsOf, coloursOf, variablesOf, bindingSpace}

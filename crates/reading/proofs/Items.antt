@@ -1,12 +1,12 @@
 -- The items of a list, so many bytes each. Assumes nothing.
 use mathlib.Core.Path.{_≡_, refl, sym, ap, ap₂, _∙_}
-use Prim.Native.Nat.{_≤_, _<_}
+use Prim.Native.Nat.{_<_}
 use native.Mathlib.Omega.{arith}
 use native.Mathlib.Nat.{add-div-left, zero-div, zero-mul, suc-mul}
 use native.Mathlib.Numerals.{add-one}
 use lib.ListN.{length-append, take-append-drop, length-drop}
 use lib.Seq.{take-at, drop-append-add, length-take-le}
-use Rattle.reading.specs.Basics.{ℕ, zero, suc, _+_, _*_, _/_, _%_, _-_, List, [], _∷_, _++_, map, flatMap, length, take, drop, numbersFrom, below, items}
+use Rattle.reading.specs.Basics.{ℕ, zero, suc, _+_, _*_, _/_, _%_, List, [], _∷_, _++_, map, flatMap, length, take, drop, numbersFrom, below, items}
 use Rattle.reading.proofs.Lists.{All, end, also, map-from, map-same}
 
 module _ (w : ℕ) (some : 0 < w) where

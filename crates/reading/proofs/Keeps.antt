@@ -1,8 +1,8 @@
 -- What has gone on has passed its checks, and what every step of a part keeps holds of the whole part. Assumes nothing.
-use mathlib.Core.Path.{_≡_, refl, sym, ap, _∙_}
+use mathlib.Core.Path.{_≡_, refl, ap, _∙_}
 use native.Mathlib.Omega.{arith}
 use Rattle.reading.specs.Basics.{ℕ, zero, suc, _+_, Bool, true, false, List, [], _∷_, Option, some, none, Option·map, length, ltb, eqb, if_then_else_, given, find, byteAt}
-use Rattle.reading.specs.Reading.{Answer, fine, fault, _andThen_, under, Outcome, accepted, refused, outcome, Check, _unless_, failing, checked, Command, command, obey, standing, needed, Part, onward, repeat, file}
+use Rattle.reading.specs.Reading.{Answer, fine, fault, _andThen_, under, accepted, outcome, Check, _unless_, failing, checked, Command, command, obey, standing, needed, Part, onward, repeat, file}
 use Rattle.reading.proofs.Lists.{All, end, also}
 
 -- a fault is no value

@@ -1,13 +1,13 @@
 -- Laws of lists: membership, keys that differ, where an element stands, numbers from a number on, lengths. Assumes nothing.
 use mathlib.Core.Path.{_≡_, refl, sym, ap, ap₂, _∙_}
-use mathlib.Core.Logic.{_⊎_, inl, inr, ⊎-elim}
-use mathlib.Core.List.{List·Memᴰ, List·Memᴰ·head, List·Memᴰ·tail, List·Memᴰ·not-nil, List·Memᴰ·cases-cons, List·Memᴰ·append-cases, Memᴰ·cast, Memᴰ·append-left, Memᴰ·append-right, Memᴰ·of-map, filterMap-cons-none, filterMap-cons-some}
+use mathlib.Core.Logic.{⊎-elim}
+use mathlib.Core.List.{List·Memᴰ, List·Memᴰ·head, List·Memᴰ·tail, List·Memᴰ·not-nil, List·Memᴰ·cases-cons, List·Memᴰ·append-cases, Memᴰ·append-left, Memᴰ·append-right, Memᴰ·of-map, filterMap-cons-none, filterMap-cons-some}
 use Prim.Native.Nat.{_≤_, _<_}
 use native.Mathlib.Omega.{arith}
 use native.Mathlib.Numerals.{add-one}
 use native.Mathlib.Nat.{eq-or-lt-of-le}
 use borrow.Author.Tests.{eq-eqb, eqb-true}
-use lib.ListN.{length-append, length-map}
+use lib.ListN.{length-append}
 use Rattle.reading.specs.Basics.{ℕ, zero, suc, _+_, Bool, true, false, _&&_, _||_, List, [], _∷_, _++_, map, flatMap, filterMap, Option, none, some, Option·elim, length, getD, getElem?, eqb, if_then_else_, given, with, numbersFrom, below, any, every, position, sum, same}
 
 -- ---- membership

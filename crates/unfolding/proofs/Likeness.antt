@@ -1,15 +1,13 @@
 -- Demand 3: the drawing and its flat net behave alike. Assumes nothing.
 use mathlib.Core.Path.{_≡_, refl, sym, ap, ap₂, _∙_}
-use mathlib.Core.Logic.{_↔_}
-use Prim.Native.Nat.{_≤_, _<_}
+use Prim.Native.Nat.{_<_}
 use native.Mathlib.Omega.{arith}
 use borrow.Author.Tests.{ltb-true}
 use lib.ListN.{length-map}
-use Rattle.reading.specs.Basics.{ℕ, _+_, _%_, Bool, true, false, List, [], _∷_, _++_, map, flatMap, Option, none, some, Option·map, length, getD, getElem?, ltb, eqb, if_then_else_, given, every, items, longAt}
-use Rattle.reading.proofs.Lists.{All, end, also, all-in, in-all, In, at-below, below-at, at-map, all-map, getD-at, map-flat, flatMap-same, every-in, in-every}
+use Rattle.reading.specs.Basics.{ℕ, Bool, true, false, List, [], _∷_, map, flatMap, some, length, getD, getElem?, ltb, eqb, if_then_else_, given, items, longAt}
+use Rattle.reading.proofs.Lists.{All, end, also, all-in, in-all, at-below, below-at, at-map, all-map, getD-at, map-flat, flatMap-same, every-in, in-every}
 use Rattle.reading.proofs.Items.{items-joined, of-six, joined-sixes}
-use Rattle.firing.specs.Firing.{Weights, Fired, fire}
-use Rattle.firing.specs.Arcs.{Row, row, Proper}
+use Rattle.firing.specs.Arcs.{row}
 use Rattle.flat.specs.Flat.{fireImage}
 use Rattle.flat.specs.Flat as flat
 use Rattle.flat.proofs.RoundTrip.{round-trip}
@@ -20,9 +18,9 @@ use Rattle.coloured.specs.Effect.{flatPlaces}
 use Rattle.coloured.specs.Orders.{fireOrder}
 use Rattle.coloured.proofs.FlatPlaces.{flat-places}
 use Rattle.unfolding.specs.Unfolding.{Rowed, rows, rowOf, initialAt, unfolded, rowNumber, orderOfRow, image, images}
-use Rattle.unfolding.specs.Demand3.{Marking, Orders, guardHolds, asRow, Ordered, RowsHaveOrders, SomeFires, Alike, Demand3}
+use Rattle.unfolding.specs.Demand3.{Orders, guardHolds, RowsHaveOrders, SomeFires, Alike, Demand3}
 use Rattle.unfolding.proofs.Written.{row-proper}
-use Rattle.unfolding.proofs.Rows.{Stands, without, within, noRow, rowed, rows-few, stands, row-order, number-of-order, order-of-number}
+use Rattle.unfolding.proofs.Rows.{Stands, without, within, rows-few, stands, row-order, order-of-number}
 use Rattle.unfolding.proofs.Answers.{image-back, order-answered, row-fires, lists-agree}
 
 -- ---- the flat net keeps to the flat file's limits

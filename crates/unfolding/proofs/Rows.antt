@@ -4,9 +4,9 @@ use Prim.Native.Nat.{_≤_, _<_}
 use native.Mathlib.Omega.{arith}
 use lib.ListN.{length-append}
 use lib.Seq.{length-take-le}
-use Rattle.reading.specs.Basics.{ℕ, Bool, true, false, List, [], _∷_, _++_, filterMap, Option, none, some, Option·map, length, getElem?, given, position, same}
+use Rattle.reading.specs.Basics.{ℕ, true, false, List, [], _∷_, _++_, Option, none, some, Option·map, length, getElem?, given, position, same}
 use Rattle.reading.proofs.Lists.{In, Apart, length-filterMap}
-use Rattle.firing.specs.Firing.{Weights, Fired, fired, fire}
+use Rattle.firing.specs.Firing.{Weights, fired, fire}
 use Rattle.net.specs.Net.{Net}
 use Rattle.net.specs.Limits.{Limits}
 use Rattle.coloured.specs.Effect.{Binding, bindings, effect}

@@ -1,13 +1,13 @@
 -- Weights written as arcs: what the arcs give back, and that they rise. Assumes nothing.
-use mathlib.Core.Path.{_≡_, refl, sym, ap, _∙_}
+use mathlib.Core.Path.{_≡_, refl, ap}
 use mathlib.Core.Logic.{⊎-elim}
 use Prim.Native.Nat.{_≤_, _<_}
 use native.Mathlib.Omega.{arith}
 use native.Mathlib.Nat.{eq-or-lt-of-le}
 use borrow.Author.Tests.{ltb-true, ltb-false, eq-eqb, ne-eqb}
-use Rattle.reading.specs.Basics.{ℕ, zero, suc, _+_, Bool, true, false, List, [], _∷_, map, Option, none, some, ltb, eqb, if_then_else_, given, numbersFrom, below, keep, find}
+use Rattle.reading.specs.Basics.{ℕ, zero, suc, _+_, Bool, true, false, List, _∷_, map, Option, none, ltb, eqb, if_then_else_, given, numbersFrom, keep, find}
 use Rattle.firing.specs.Firing.{Weights}
-use Rattle.firing.specs.Arcs.{Arc, Row, weightIn, weights, Rising, none, more, Proper}
+use Rattle.firing.specs.Arcs.{Arc, weightIn, weights, Rising, none, more, Proper}
 use Rattle.firing.proofs.Rule.{Agree}
 use Rattle.unfolding.specs.Unfolding.{arcsOf, rowOf}
 
