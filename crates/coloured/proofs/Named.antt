@@ -7,16 +7,13 @@ use lib.ListN.{length-map, length-drop}
 use lib.Seq.{take-take, take-at}
 use Rattle.reading.specs.Basics.{ℕ, zero, suc, Bool, true, false, _&&_, List, [], _∷_, _++_, none, some, length, take, drop, replicate, ltb, eqb, if_then_else_, every, byteAt}
 use Rattle.reading.proofs.Lists.{In, Apart, apart-by}
+use Rattle.reading.proofs.Keeps.{both-true}
 use Rattle.net.specs.Net.{Net, variablesOf, sizesOf}
 use Rattle.coloured.specs.Effect.{Binding, transitionAt, bindings}
 use Rattle.coloured.specs.Orders.{orderOf, fits, named}
 use Rattle.coloured.proofs.Bindings.{Fit, none, more, fit-length, bound, binding-fits, fit-binding, bindings-apart}
 
--- both of two tests, and a test that let something through
-pub both-true : (a b : Bool) → a && b ≡ true → (a ≡ true) × (b ≡ true)
-both-true true b e = (refl, e)
-both-true false b e = (e, cc)
-
+-- a test that let something through
 pub let-through : {A : Type 0} (t : Bool) {a b : A} → (if t then some a else none) ≡ some b → (t ≡ true) × (a ≡ b)
 let-through true e = (refl, cc)
 let-through false e = (cc, cc)

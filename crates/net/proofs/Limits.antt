@@ -7,14 +7,10 @@ use lib.ListN.{length-append}
 use Rattle.reading.specs.Basics.{ℕ, _+_, _-_, Bool, true, false, _&&_, List, [], _∷_, some, map, length, ltb, leb, eqb, if_then_else_, with, every, sum, byteAt}
 use Rattle.reading.specs.Reading.{fine, fault, accepted, refused, outcome, _unless_, checked, whole, file}
 use Rattle.reading.proofs.Lists.{All, end, also, all-with, all-getD}
-use Rattle.reading.proofs.Keeps.{no-value, checked-went, then-went, standing-went, repeat-keeps, file-went, outcome-went}
+use Rattle.reading.proofs.Keeps.{no-value, both-true, checked-went, then-went, standing-went, repeat-keeps, file-went, outcome-went}
 use Rattle.net.specs.Net.{always, Place, single, pair, Transition, Tokens, Net, net, setsOf, coloursOf, variablesOf, bindingSpace}
 use Rattle.net.specs.Reader.{setPart, variablePart, placePart, arcPart, readGuardIf, transitionPart, tokensPart, content, readNet}
 use Rattle.net.specs.Limits.{Limits}
-
-both-true : (a b : Bool) → a && b ≡ true → (a ≡ true) × (b ≡ true)
-both-true true b e = (refl, e)
-both-true false b e = (e, cc)
 
 one-more : {A : Type 0} (l : List A) (a : A) → length (with l a) ≡ length l + 1
 one-more l a = length-append l (a ∷ [])

@@ -1,7 +1,7 @@
 -- What has gone on has passed its checks, and what every step of a part keeps holds of the whole part. Assumes nothing.
 use mathlib.Core.Path.{_≡_, refl, ap, _∙_}
 use native.Mathlib.Omega.{arith}
-use Rattle.reading.specs.Basics.{ℕ, zero, suc, _+_, Bool, true, false, List, [], _∷_, Option, some, none, Option·map, length, ltb, eqb, if_then_else_, given, find, byteAt}
+use Rattle.reading.specs.Basics.{ℕ, zero, suc, _+_, Bool, true, false, _&&_, List, [], _∷_, Option, some, none, Option·map, length, ltb, eqb, if_then_else_, given, find, byteAt}
 use Rattle.reading.specs.Reading.{Answer, fine, fault, _andThen_, under, accepted, outcome, Check, _unless_, failing, checked, Command, command, obey, standing, needed, Part, onward, repeat, file}
 use Rattle.reading.proofs.Lists.{All, end, also}
 
@@ -10,12 +10,17 @@ pub no-value : {A C : Type 0} {k p last : ℕ} {a : A} → fault k p ≡ fine a 
 no-value e = let z : _≡_ {A = ℕ} 0 1 = cc in absurd (omega arith)
 
 -- ---- checks
+-- both of two tests hold
+pub both-true : (a b : Bool) → a && b ≡ true → (a ≡ true) × (b ≡ true)
+both-true true b e = (refl, e)
+both-true false b e = (e, cc)
+
 -- every condition holds
 abbrev pub Held : List Check → Type 0
 Held [] = Unit {0}
 Held ((k unless condition) ∷ checks) = (condition ≡ true) × Held checks
 
-held : (checks : List Check) → failing checks ≡ none → Held checks
+pub held : (checks : List Check) → failing checks ≡ none → Held checks
 unfolding failing
 held [] e = tt
 held ((k unless true) ∷ checks) e = (refl, held checks e)

@@ -24,11 +24,11 @@ use Rattle.unfolding.proofs.Rows.{Stands, without, within, rows-few, st
 use Rattle.unfolding.proofs.Answers.{image-back, order-answered, row-fires, lists-agree}
 
 -- ---- the flat net keeps to the flat file's limits
-row-count : (n : Net) → length (unfolded n .rows) ≡ length (rows n)
+pub row-count : (n : Net) → length (unfolded n .rows) ≡ length (rows n)
 unfolding unfolded
 row-count n = length-map (rows n) (λ r. rowOf (flatPlaceCount n) (r .weights))
 
-place-count : (n : Net) → length (unfolded n .initial) ≡ flatPlaceCount n
+pub place-count : (n : Net) → length (unfolded n .initial) ≡ flatPlaceCount n
 unfolding unfolded
 place-count n = length-map (flatPlaces n) (initialAt n) ∙ flat-places n
 
