@@ -52,20 +52,82 @@ unfolding ending
 ending-as-rows m [] = refl
 ending-as-rows m (f ∷ l) = ending-as-rows (f .marking) l
 
+-- written over once more
+over-again : (g : ℕ → ℕ) (xs lent : List ℕ) → over (map g (take (length xs) (over xs lent))) (over xs lent) ≡ over (map g xs) lent
+over-again g xs lent =
+    rw (front xs lent refl)
+    (ap (λ l. map g xs ++ l) (let e : drop (length (map g xs)) (over xs lent) ≡ drop (length (map g xs)) lent = rw (length-map xs g, drop-append-seam xs (drop (length xs) lent)) in e))
+
 -- the answers of rows over a lent list, from those of orders
 answers-as-rows : (l : List Fired) (lent : List ℕ)
     → over (map (λ f. f .answer) (map asRow l)) lent
     ≡ over (map twoAsOne (take (length l) (over (map (λ f. f .answer) l) lent))) (over (map (λ f. f .answer) l) lent)
 answers-as-rows l lent =
-    let xs = map (λ f. f .answer) l in
-    ?
+    let same : map (λ f. f .answer) (map asRow l) ≡ map twoAsOne (map (λ f. f .answer) l) = map-map asRow (λ f. f .answer) l ∙ sym (map-map (λ f. f .answer) twoAsOne l) in
+    ap (λ xs. over xs lent) same ∙ sym (over-again twoAsOne (map (λ f. f .answer) l) lent)
+    ∙ ap (λ k. over (map twoAsOne (take k (over (map (λ f. f .answer) l) lent))) (over (map (λ f. f .answer) l) lent)) (length-map l (λ f. f .answer))
 
 -- ---- how many images
+fives : {A : Type 0} (f : A → ℕ) (l : List A) → length (flatMap (λ a. image (f a)) l) ≡ 5 * length l
+unfolding flatMap
+fives f [] = refl
+fives f (a ∷ l) = let e = fives f l in omega arith
+
 images-length : (n : Net) (orders : List ℕ) → length (images n orders) ≡ 5 * (length orders / 6)
 unfolding images
-images-length n orders = ?
+images-length n orders = fives (rowNumber n) (items 6 orders) ∙ ap (λ k. 5 * k) (length-map (below (length orders / 6)) (λ i. take 6 (drop (i * 6) orders)) ∙ length-from 0 (length orders / 6))
 
 -- ---- the call
--- the marking, where the checks hold
-sized : (places width : ℕ) (m orders answers : List ℕ) → failing (fireChecks places width m orders answers) ≡ none → length m ≡ places
-sized places width m orders answers e = eqb-true (length m) places (held (fireChecks places width m orders answers) e .0)
+-- what a firing call gives, by how its checks went and the items fired in turn
+abbrev called : {Order : Type 0} → (Order → List ℕ → Fired) → List ℕ → List ℕ → List Order → Option ℕ → FireCall
+called turn m answers orders o =
+    given o (let l = run turn m orders in record { result = accepted (length l); marking = ending m l; answers = over (map (λ f. f .answer) l) answers })
+    λ number. record { result = refused number 0; marking = m; answers = answers }
+
+called-is : {Net : Type 0} (places : Net → ℕ) (width : ℕ) (turn : Net → List ℕ → List ℕ → Fired) (net : Net) (m orders answers : List ℕ)
+    → fireCall places width turn (accepted net) m orders answers ≡ called (turn net) m answers (items width orders) (failing (fireChecks (places net) width m orders answers))
+unfolding fireCall
+called-is {Net} places width turn net m orders answers = go (failing (fireChecks (places net) width m orders answers))
+  where
+    go : (o : Option ℕ)
+        → on (given o (accepted net) λ number. refused number 0) (λ number place. record { result = refused number place; marking = m; answers = answers })
+          (λ net. let l = run (turn net) m (items width orders) in record { result = accepted (length l); marking = ending m l; answers = over (map (λ f. f .answer) l) answers })
+        ≡ called (turn net) m answers (items width orders) o
+    go none = refl
+    go (some number) = refl
+
+module _ (n : Net) (within-limits : Limits n) (m orders answers : List ℕ) (whole : length orders % 6 ≡ 0) where
+  same-checks : fireChecks (length (unfolded n .initial)) 5 m (images n orders) answers ≡ fireChecks (flatPlaceCount n) 6 m orders answers
+  same-checks =
+      let fifth : length (images n orders) / 5 ≡ length orders / 6 = omega (arith, images-length n orders) in
+      let even : length (images n orders) % 5 ≡ length orders % 6 = omega (arith, images-length n orders) in
+      rw (place-count n, fifth, even)
+
+  fired-alike : fireImages (flatFile n) m (images n orders) answers ≡ asRows (fireCall flatPlaceCount 6 fireOrder (accepted n) m orders answers)
+  unfolding fireImages
+  fired-alike =
+      rw (alike n within-limits .reads-back, called-is (λ f. length (f .initial)) 5 fireImage (unfolded n) m (images n orders) answers, called-is flatPlaceCount 6 fireOrder n m orders answers, same-checks)
+      (go (failing (fireChecks (flatPlaceCount n) 6 m orders answers)) refl)
+    where
+      go : (o : Option ℕ) → failing (fireChecks (flatPlaceCount n) 6 m orders answers) ≡ o
+          → called (fireImage (unfolded n)) m answers (items 5 (images n orders)) o ≡ asRows (called (fireOrder n) m answers (items 6 orders) o)
+      go none e =
+          let fits = eqb-true (length m) (flatPlaceCount n) (held (fireChecks (flatPlaceCount n) 6 m orders answers) e .0) in
+          let l = run (fireOrder n) m (items 6 orders) in
+          rw (lists-agree n within-limits m orders fits whole, length-map l asRow, ending-as-rows m l, answers-as-rows l answers)
+      go (some number) e = refl
+
+pub fire-calls : FireCallsAgree
+unfolding unfoldCall imagesCall fireOrders
+fire-calls s m orders answers flatOut imagesOut bytes count e f =
+    writing-went (λ n. (14 unless leb (length (flatFile n)) (length flatOut)) ∷ []) (λ n. length (flatFile n)) flatFile s flatOut e λ n reads checks is w.
+    writing-went (λ n. (13 unless eqb (length orders % 6) 0) ∷ (14 unless leb (length orders / 6 * 5) (length imagesOut)) ∷ []) (λ n. length orders / 6) (λ n. images n orders) s imagesOut f
+    λ n′ reads′ checks′ is′ w′.
+    let same : n′ ≡ n = cc in
+    let whole = eqb-true (length orders % 6) 0 (held ((13 unless eqb (length orders % 6) 0) ∷ (14 unless leb (length orders / 6 * 5) (length imagesOut)) ∷ []) checks′ .0) in
+    let flat-is : take bytes (unfoldCall s flatOut .out) ≡ flatFile n = ap (take bytes) w ∙ front (flatFile n) flatOut is in
+    let sized : length (images n′ orders) ≡ count * 5 = omega (arith, images-length n′ orders) in
+    let images-is : take (count * 5) (imagesCall s orders imagesOut .out) ≡ images n orders =
+      ap (take (count * 5)) w′ ∙ front (images n′ orders) imagesOut sized ∙ ap (λ x. images x orders) same in
+    ap₂ (λ x y. fireImages x m y answers) flat-is images-is ∙ fired-alike n (limits s n reads) m orders answers whole
+    ∙ ap (λ o. asRows (fireCall flatPlaceCount 6 fireOrder o m orders answers)) (sym reads)
