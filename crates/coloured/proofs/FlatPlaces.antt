@@ -10,6 +10,7 @@ use Rattle.coloured.specs.Effect.{FlatPlace, flatPlaces}
 abbrev flatPlacesOf : Net → ℕ → List FlatPlace
 flatPlacesOf n p = map (λ rank. record { place = p; rank = rank }) (below (coloursOf n (placeAt n p)))
 
+-- as many as the colours of all places
 pub flat-places : (n : Net) → length (flatPlaces n) ≡ flatPlaceCount n
 unfolding flatPlaces
 flat-places n =

@@ -31,6 +31,7 @@ are-zeros [] z e le = refl
 are-zeros (c ∷ colours) zero e le = absurd (omega arith)
 are-zeros (c ∷ colours) (suc z) e le = let (p, q) = both-true (eqb 0 c) (every (eqb 0) colours) e in ap₂ _∷_ (eqb-true 0 c p) (are-zeros colours z q (omega arith))
 
+-- colours that fit, with zeros after them, fit; and what fits is colours with zeros after them
 pub padded-fits : {sizes colours : List ℕ} (w z : ℕ) → Fit sizes colours → length sizes ≤ w → fits sizes (take w (colours ++ replicate z 0)) ≡ true
 unfolding fits
 padded-fits w z none le = zeros w z
@@ -56,6 +57,7 @@ by-bytes (a ∷ b ∷ l) e = refl
 
 -- each transition has at most four variables
 module _ (n : Net) (few : (t : ℕ) → t < length (n .transitions) → length (variablesOf n (transitionAt n t)) ≤ 4) where
+  -- at most four sizes
   few-sizes : (t : ℕ) → t < length (n .transitions) → length (sizesOf n (transitionAt n t)) ≤ 4
   few-sizes t lt = rw length-map (few t lt)
 

@@ -1,5 +1,5 @@
 -- An accepted net keeps to its limits. Assumes nothing.
-use mathlib.Core.Path.{_≡_, refl}
+use mathlib.Core.Path.{_≡_}
 use Prim.Native.Nat.{_≤_, _<_}
 use native.Mathlib.Omega.{arith}
 use borrow.Author.Tests.{leb-true, ltb-true}
@@ -12,6 +12,7 @@ use Rattle.net.specs.Net.{always, Place, single, pair, Transition, Token
 use Rattle.net.specs.Reader.{setPart, variablePart, placePart, arcPart, readGuardIf, transitionPart, tokensPart, content, readNet}
 use Rattle.net.specs.Limits.{Limits}
 
+-- one more is one longer
 one-more : {A : Type 0} (l : List A) (a : A) → length (with l a) ≡ length l + 1
 one-more l a = length-append l (a ∷ [])
 
@@ -79,6 +80,7 @@ transition-keeps s n transitions more at next k e = standing-went s at (also (λ
         )
 
 -- ---- the whole net
+-- the parts together
 kept : (sets variables : List ℕ) (places : List Place) (transitions : List Transition) (tokens : List Tokens)
     → SetsKeep sets → VariablesKeep sets variables → PlacesKeep (net sets variables [] [] []) places → TransitionsKeep (net sets variables places [] []) transitions
     → Limits (net sets variables places transitions tokens)
@@ -97,6 +99,7 @@ kept sets variables places transitions tokens a b c d =
       space = d .2;
     }
 
+-- what the parts in their order give
 content-keeps : (s : List ℕ) (start : ℕ) {n : Net} {last : ℕ} → content s start ≡ fine n last → Limits n
 content-keeps s start {n} {last} e =
     then-went (whole s (setPart s) [] start) _ e λ sets at₁ f e.
@@ -112,6 +115,7 @@ content-keeps s start {n} {last} e =
     (repeat-keeps (transitionPart s (net sets variables places [] [])) (TransitionsKeep (net sets variables places [] [])) (transition-keeps s (net sets variables places [] [])) (length s - at₃) at₃
     (omega arith, end, omega arith) i))
 
+-- an accepted net
 pub limits : (s : List ℕ) (n : Net) → readNet s ≡ accepted n → Limits n
 unfolding readNet
 limits s n e = go (ltb 16384 (length s)) e

@@ -30,6 +30,7 @@ module _ (w : ℕ) (some : 0 < w) where
       rest = map-from (λ i. take w (drop (i * w) (x ++ s))) 0 (length s / w)
           ∙ map-same (λ i. take w (drop ((i + 1) * w) (x ++ s))) (λ i. take w (drop (i * w) s)) (below (length s / w)) (λ i m. ap (take w) (further i))
 
+  -- no bytes, no items
   items-none : items w [] ≡ []
   unfolding numbersFrom
   items-none = rw (zero-div w)
@@ -61,6 +62,7 @@ module _ (w : ℕ) (some : 0 < w) where
 pub of-six : (s : List ℕ) → length s % 6 ≡ 0 → All (λ x. length x ≡ 6) (items 6 s) × (flatMap (λ x. x) (items 6 s) ≡ s)
 of-six s e = items-whole 6 (omega arith) (length s / 6) s (omega arith)
 
+-- lists of 6 bytes, joined, are a whole number of sixes
 pub joined-sixes : {A : Type 0} (f : A → List ℕ) {l : List A} → All (λ a. length (f a) ≡ 6) l → length (flatMap f l) % 6 ≡ 0
 unfolding flatMap
 joined-sixes f end = refl

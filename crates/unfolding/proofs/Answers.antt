@@ -52,6 +52,7 @@ order-keeps n order m = by-name (named n order)
 
 -- a row fires by its binding's weights, and where there is no row the answer is 1
 module _ (n : Net) where
+  -- by its weights
   pub row-fires : (i : ℕ) {r : Rowed} (m : List ℕ) → Marking n m → getElem? (rows n) i ≡ some r → fireImage (unfolded n) (image i) m ≡ fire (r .weights) m
   unfolding fireImage fireRow unfolded
   row-fires i {r} m sized e =
@@ -63,6 +64,7 @@ module _ (n : Net) where
       )
       (fire-same (weights (rowOf (flatPlaceCount n) (r .weights))) (r .weights) m (rw sized (row-agrees (flatPlaceCount n) (r .weights))))
 
+  -- no such row
   pub no-row-fires : (i : ℕ) (m : List ℕ) → length (rows n) ≤ i → fireImage (unfolded n) (image i) m ≡ fired 1 m
   unfolding fireImage fireRow unfolded
   no-row-fires i m le =

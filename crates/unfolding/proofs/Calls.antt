@@ -1,24 +1,23 @@
 -- Demand 3 over the calls: firing a list. Assumes nothing.
 use mathlib.Core.Path.{_≡_, refl, sym, ap, ap₂, _∙_}
-use Prim.Native.Nat.{_≤_, _<_}
 use native.Mathlib.Omega.{arith}
-use borrow.Author.Tests.{eqb-true, eq-eqb}
-use lib.ListN.{length-append, length-map}
+use borrow.Author.Tests.{eqb-true}
+use lib.ListN.{length-map}
 use lib.Seq.{take-append-seam, drop-append-seam}
-use Rattle.reading.specs.Basics.{ℕ, _+_, _*_, _/_, _%_, Bool, true, false, List, [], _∷_, _++_, map, flatMap, Option, none, some, length, take, drop, leb, eqb, if_then_else_, given, below, items, over}
+use Rattle.reading.specs.Basics.{ℕ, _*_, _/_, _%_, List, [], _∷_, _++_, map, flatMap, Option, none, some, length, take, drop, leb, eqb, given, below, items, over}
 use Rattle.reading.specs.Reading.{Outcome, accepted, refused, on, Check, _unless_, failing, permitted}
-use Rattle.reading.proofs.Lists.{All, end, also, in-all, length-from, map-map}
+use Rattle.reading.proofs.Lists.{length-from, map-map}
 use Rattle.reading.proofs.Keeps.{held}
-use Rattle.firing.specs.Firing.{Fired, fired, run, ending}
+use Rattle.firing.specs.Firing.{Fired, run, ending}
 use Rattle.firing.specs.Calls.{FireCall, fireChecks, fireCall}
-use Rattle.flat.specs.Flat.{Flat, readFlat, fireImage, fireImages}
+use Rattle.flat.specs.Flat.{fireImage, fireImages}
 use Rattle.net.specs.Net.{Net, flatPlaceCount}
 use Rattle.net.specs.Reader.{readNet}
 use Rattle.net.specs.Limits.{Limits}
 use Rattle.net.proofs.Limits.{limits}
 use Rattle.coloured.specs.Orders.{fireOrder, fireOrders}
 use Rattle.unfolding.specs.Unfolding.{unfolded, flatFile, rowNumber, image, images, WriteCall, writing, unfoldCall, imagesCall}
-use Rattle.unfolding.specs.Demand3.{Marking, twoAsOne, asRow, asRows, FireCallsAgree}
+use Rattle.unfolding.specs.Demand3.{twoAsOne, asRow, asRows, FireCallsAgree}
 use Rattle.unfolding.proofs.Answers.{lists-agree}
 use Rattle.unfolding.proofs.Likeness.{place-count, alike}
 
@@ -73,6 +72,7 @@ unfolding flatMap
 fives f [] = refl
 fives f (a ∷ l) = let e = fives f l in omega arith
 
+-- five bytes an order
 images-length : (n : Net) (orders : List ℕ) → length (images n orders) ≡ 5 * (length orders / 6)
 unfolding images
 images-length n orders = fives (rowNumber n) (items 6 orders) ∙ ap (λ k. 5 * k) (length-map (below (length orders / 6)) (λ i. take 6 (drop (i * 6) orders)) ∙ length-from 0 (length orders / 6))
@@ -84,6 +84,7 @@ called turn m answers orders o =
     given o (let l = run turn m orders in record { result = accepted (length l); marking = ending m l; answers = over (map (λ f. f .answer) l) answers })
     λ number. record { result = refused number 0; marking = m; answers = answers }
 
+-- the call on a net that was read
 called-is : {Net : Type 0} (places : Net → ℕ) (width : ℕ) (turn : Net → List ℕ → List ℕ → Fired) (net : Net) (m orders answers : List ℕ)
     → fireCall places width turn (accepted net) m orders answers ≡ called (turn net) m answers (items width orders) (failing (fireChecks (places net) width m orders answers))
 unfolding fireCall
@@ -91,18 +92,20 @@ called-is {Net} places width turn net m orders answers = go (failing (fireChecks
   where
     go : (o : Option ℕ)
         → on (given o (accepted net) λ number. refused number 0) (λ number place. record { result = refused number place; marking = m; answers = answers })
-          (λ net. let l = run (turn net) m (items width orders) in record { result = accepted (length l); marking = ending m l; answers = over (map (λ f. f .answer) l) answers })
+        (λ net. let l = run (turn net) m (items width orders) in record { result = accepted (length l); marking = ending m l; answers = over (map (λ f. f .answer) l) answers })
         ≡ called (turn net) m answers (items width orders) o
     go none = refl
     go (some number) = refl
 
 module _ (n : Net) (within-limits : Limits n) (m orders answers : List ℕ) (whole : length orders % 6 ≡ 0) where
+  -- both calls make the same checks
   same-checks : fireChecks (length (unfolded n .initial)) 5 m (images n orders) answers ≡ fireChecks (flatPlaceCount n) 6 m orders answers
   same-checks =
       let fifth : length (images n orders) / 5 ≡ length orders / 6 = omega (arith, images-length n orders) in
       let even : length (images n orders) % 5 ≡ length orders % 6 = omega (arith, images-length n orders) in
       rw (place-count n, fifth, even)
 
+  -- and fire alike
   fired-alike : fireImages (flatFile n) m (images n orders) answers ≡ asRows (fireCall flatPlaceCount 6 fireOrder (accepted n) m orders answers)
   unfolding fireImages
   fired-alike =
@@ -117,6 +120,7 @@ module _ (n : Net) (within-limits : Limits n) (m orders answers : List ℕ) (who
           rw (lists-agree n within-limits m orders fits whole, length-map l asRow, ending-as-rows m l, answers-as-rows l answers)
       go (some number) e = refl
 
+-- the demand
 pub fire-calls : FireCallsAgree
 unfolding unfoldCall imagesCall fireOrders
 fire-calls s m orders answers flatOut imagesOut bytes count e f =
@@ -128,6 +132,6 @@ fire-calls s m orders answers flatOut imagesOut bytes count e f =
     let flat-is : take bytes (unfoldCall s flatOut .out) ≡ flatFile n = ap (take bytes) w ∙ front (flatFile n) flatOut is in
     let sized : length (images n′ orders) ≡ count * 5 = omega (arith, images-length n′ orders) in
     let images-is : take (count * 5) (imagesCall s orders imagesOut .out) ≡ images n orders =
-      ap (take (count * 5)) w′ ∙ front (images n′ orders) imagesOut sized ∙ ap (λ x. images x orders) same in
+    ap (take (count * 5)) w′ ∙ front (images n′ orders) imagesOut sized ∙ ap (λ x. images x orders) same in
     ap₂ (λ x y. fireImages x m y answers) flat-is images-is ∙ fired-alike n (limits s n reads) m orders answers whole
     ∙ ap (λ o. asRows (fireCall flatPlaceCount 6 fireOrder o m orders answers)) (sym reads)

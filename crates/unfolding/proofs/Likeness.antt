@@ -32,10 +32,12 @@ pub place-count : (n : Net) → length (unfolded n .initial) ≡ flatPlaceCount 
 unfolding unfolded
 place-count n = length-map (flatPlaces n) (initialAt n) ∙ flat-places n
 
+-- the row at a number
 row-at : (n : Net) (i : ℕ) {r : Rowed} → getElem? (rows n) i ≡ some r → getD (unfolded n .rows) i (row [] [] []) ≡ rowOf (flatPlaceCount n) (r .weights)
 unfolding unfolded
 row-at n i e = getD-at (unfolded n .rows) i (row [] [] []) (at-map (λ r. rowOf (flatPlaceCount n) (r .weights)) (rows n) i e)
 
+-- within the limits
 pub unfolded-limits : (n : Net) → Limits n → flat.Limits (unfolded n)
 unfolded-limits n limits =
     record {
@@ -75,6 +77,7 @@ module _ (n : Net) (limits : Limits n) where
   abbrev orderAt : ℕ → List ℕ
   orderAt i = given (orderOfRow n i) [] λ order. order
 
+  -- it carries the row number, has 6 bytes, and its guard holds
   order-there : (i : ℕ) → i < length (unfolded n .rows) → (rowNumber n (orderAt i) ≡ i) × (length (orderAt i) ≡ 6) × (guardHolds n (orderAt i) ≡ true)
   unfolding orderOfRow
   order-there i lt =
@@ -99,6 +102,7 @@ module _ (n : Net) (limits : Limits n) where
       let it : order ≡ orderAt i = rw back refl in
       ap₂ _∷_ it (only-orders orders few (cc))
 
+  -- exactly one list
   pub rows-have-orders : RowsHaveOrders n (unfolded n)
   unfolding images
   rows-have-orders numbers few =

@@ -46,6 +46,7 @@ module _ (w : ℕ → ℕ) where
       later h true ih = rw (ne-eqb a p (λ e. omega arith)) ih
       later h false ih = ih
 
+  -- from the first place on
   pub weight-back : (n p : ℕ) → p < n → weightIn (arcsOf n w) p ≡ w p
   unfolding weightIn
   weight-back n p lt = given-back p 0 n (omega arith) (omega arith)
@@ -59,6 +60,7 @@ lower : {n a : ℕ} {l : List Arc} → Rising n (a + 1) l → Rising n a l
 lower none = none
 lower {n} {a} (more {a = arc} le lt above r) = let h : a ≤ arc .place = omega arith in more h lt above r
 
+-- the arcs from a place on
 rising-from : (w : ℕ → ℕ) (n a k : ℕ) → a + k ≤ n → Rising n a (arcsFrom w a k)
 unfolding keep numbersFrom
 rising-from w n a zero le = none
@@ -69,6 +71,7 @@ rising-from w n a (suc k) le = go (ltb 0 (w a)) refl (rising-from w n (a + 1) k 
     go true q ih = more {from = a} {a = record { place = a; weight = w a }} (omega arith) (omega arith) (ltb-true 0 (w a) q) ih
     go false q ih = lower ih
 
+-- the row of some weights is proper
 pub row-proper : (n : ℕ) (w : Weights) → Proper n (rowOf n w)
 row-proper n w =
     record {
