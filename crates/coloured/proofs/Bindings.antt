@@ -1,13 +1,13 @@
 -- The bindings of a net: a colour below each size, each binding once, as many as the binding space. Assumes nothing.
-use mathlib.Core.Path.{_≡_, refl, sym, ap, ap₂, _∙_}
+use mathlib.Core.Path.{_≡_, refl, sym, ap, _∙_}
 use mathlib.Core.List.{List·Memᴰ·eq-of-singleton, List·Memᴰ·not-nil, Memᴰ·of-map}
-use Prim.Native.Nat.{_≤_, _<_}
+use Prim.Native.Nat.{_<_}
 use native.Mathlib.Omega.{arith}
 use native.Mathlib.Nat.{zero-mul, suc-mul}
 use lib.ListN.{length-map}
-use Rattle.reading.specs.Basics.{ℕ, zero, suc, _+_, _*_, List, [], _∷_, map, flatMap, length, numbersFrom, below, sum, product}
-use Rattle.reading.proofs.Lists.{In, here, in-map, in-flatMap, of-flatMap, Apart, alone, new, apart-by, apart-map, apart-flatMap, apart-from, in-from, of-from, map-same, map-getD, length-from, length-flatMap}
-use Rattle.net.specs.Net.{always, Transition, Net, sizesOf, bindingSpace}
+use Rattle.reading.specs.Basics.{ℕ, zero, suc, _+_, _*_, List, [], _∷_, map, length, numbersFrom, below, sum, product}
+use Rattle.reading.proofs.Lists.{In, here, in-map, in-flatMap, of-flatMap, Apart, alone, new, apart-by, apart-map, apart-flatMap, apart-from, in-from, of-from, map-same, map-getD, length-flatMap}
+use Rattle.net.specs.Net.{always, Net, sizesOf, bindingSpace}
 use Rattle.coloured.specs.Effect.{Binding, transitionAt, choices, bindings}
 
 -- a colour below each size
@@ -15,6 +15,7 @@ pub data Fit : List ℕ → List ℕ → Type 0 where
   none : Fit [] []
   more : {size c : ℕ} {sizes colours : List ℕ} → c < size → Fit sizes colours → Fit (size ∷ sizes) (c ∷ colours)
 
+-- as many colours as sizes
 pub fit-length : {sizes colours : List ℕ} → Fit sizes colours → length colours ≡ length sizes
 fit-length none = refl
 fit-length (more lt f) = ap suc (fit-length f)
@@ -47,11 +48,13 @@ choices-apart (size ∷ sizes) =
     let (v, o, g) = Memᴰ·of-map (λ rest. y ∷ rest) (choices sizes) n in
     cc)
 
+-- the same number over and over
 same-each : (k a n : ℕ) → sum (map (λ i. k) (numbersFrom a n)) ≡ n * k
 unfolding numbersFrom
 same-each k a zero = sym (zero-mul k)
 same-each k a (suc n) = let e = same-each k (a + 1) n in omega (arith, suc-mul n k)
 
+-- how many choices there are
 pub choices-length : (sizes : List ℕ) → length (choices sizes) ≡ product sizes
 unfolding choices
 choices-length [] = refl
@@ -78,10 +81,12 @@ module _ (n : Net) where
       let h = of-from 0 (length (n .transitions)) i in
       rw (← e) (omega arith, chosen-fits (sizesOf n (transitionAt n t)) j)
 
+  -- and each such is a binding
   pub fit-binding : {t : ℕ} {colours : List ℕ} → t < length (n .transitions) → Fit (sizesOf n (transitionAt n t)) colours → In (bound t colours) (bindings n)
   unfolding bindings
   fit-binding {t} lt f = in-flatMap (bindingsOf n) (below (length (n .transitions))) (in-from 0 (length (n .transitions)) (omega arith) (omega arith)) (in-map (bound t) (fit-chosen f))
 
+  -- each once
   pub bindings-apart : Apart (λ b. b) (bindings n)
   unfolding bindings
   bindings-apart =

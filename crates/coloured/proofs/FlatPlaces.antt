@@ -1,7 +1,7 @@
 -- How many flat places a net has. Assumes nothing.
 use mathlib.Core.Path.{_≡_, ap, _∙_}
 use lib.ListN.{length-map}
-use Rattle.reading.specs.Basics.{ℕ, List, map, flatMap, length, below, sum}
+use Rattle.reading.specs.Basics.{ℕ, List, map, length, below, sum}
 use Rattle.reading.proofs.Lists.{map-same, map-getD, length-from, length-flatMap}
 use Rattle.net.specs.Net.{Net, single, coloursOf, flatPlaceCount, placeAt}
 use Rattle.coloured.specs.Effect.{FlatPlace, flatPlaces}
@@ -10,6 +10,7 @@ use Rattle.coloured.specs.Effect.{FlatPlace, flatPlaces}
 abbrev flatPlacesOf : Net → ℕ → List FlatPlace
 flatPlacesOf n p = map (λ rank. record { place = p; rank = rank }) (below (coloursOf n (placeAt n p)))
 
+-- as many as the colours of all places
 pub flat-places : (n : Net) → length (flatPlaces n) ≡ flatPlaceCount n
 unfolding flatPlaces
 flat-places n =

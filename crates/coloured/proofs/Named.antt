@@ -2,21 +2,18 @@
 use mathlib.Core.Path.{_≡_, refl, sym, ap, ap₂, _∙_}
 use Prim.Native.Nat.{_≤_, _<_}
 use native.Mathlib.Omega.{arith}
-use borrow.Author.Tests.{lt-ltb, ltb-true, eq-eqb, eqb-true}
+use borrow.Author.Tests.{lt-ltb, ltb-true, eqb-true}
 use lib.ListN.{length-map, length-drop}
 use lib.Seq.{take-take, take-at}
-use Rattle.reading.specs.Basics.{ℕ, zero, suc, _+_, Bool, true, false, _&&_, List, [], _∷_, _++_, Option, none, some, length, take, drop, replicate, ltb, eqb, if_then_else_, every, byteAt}
+use Rattle.reading.specs.Basics.{ℕ, zero, suc, Bool, true, false, _&&_, List, [], _∷_, _++_, none, some, length, take, drop, replicate, ltb, eqb, if_then_else_, every, byteAt}
 use Rattle.reading.proofs.Lists.{In, Apart, apart-by}
+use Rattle.reading.proofs.Keeps.{both-true}
 use Rattle.net.specs.Net.{Net, variablesOf, sizesOf}
 use Rattle.coloured.specs.Effect.{Binding, transitionAt, bindings}
 use Rattle.coloured.specs.Orders.{orderOf, fits, named}
 use Rattle.coloured.proofs.Bindings.{Fit, none, more, fit-length, bound, binding-fits, fit-binding, bindings-apart}
 
--- both of two tests, and a test that let something through
-pub both-true : (a b : Bool) → a && b ≡ true → (a ≡ true) × (b ≡ true)
-both-true true b e = (refl, e)
-both-true false b e = (e, cc)
-
+-- a test that let something through
 pub let-through : {A : Type 0} (t : Bool) {a b : A} → (if t then some a else none) ≡ some b → (t ≡ true) × (a ≡ b)
 let-through true e = (refl, cc)
 let-through false e = (cc, cc)
@@ -34,6 +31,7 @@ are-zeros [] z e le = refl
 are-zeros (c ∷ colours) zero e le = absurd (omega arith)
 are-zeros (c ∷ colours) (suc z) e le = let (p, q) = both-true (eqb 0 c) (every (eqb 0) colours) e in ap₂ _∷_ (eqb-true 0 c p) (are-zeros colours z q (omega arith))
 
+-- colours that fit, with zeros after them, fit; and what fits is colours with zeros after them
 pub padded-fits : {sizes colours : List ℕ} (w z : ℕ) → Fit sizes colours → length sizes ≤ w → fits sizes (take w (colours ++ replicate z 0)) ≡ true
 unfolding fits
 padded-fits w z none le = zeros w z
@@ -59,6 +57,7 @@ by-bytes (a ∷ b ∷ l) e = refl
 
 -- each transition has at most four variables
 module _ (n : Net) (few : (t : ℕ) → t < length (n .transitions) → length (variablesOf n (transitionAt n t)) ≤ 4) where
+  -- at most four sizes
   few-sizes : (t : ℕ) → t < length (n .transitions) → length (sizesOf n (transitionAt n t)) ≤ 4
   few-sizes t lt = rw length-map (few t lt)
 

@@ -1,11 +1,11 @@
 -- The firing rule looks at the weights of the marking's own flat places, and keeps their number. Assumes nothing.
-use mathlib.Core.Path.{_≡_, refl, sym, ap, ap₂, _∙_}
-use Prim.Native.Nat.{_≤_, _<_}
+use mathlib.Core.Path.{_≡_, refl, ap, ap₂, _∙_}
+use Prim.Native.Nat.{_<_}
 use native.Mathlib.Omega.{arith}
 use lib.ListN.{length-map}
 use Rattle.reading.specs.Basics.{ℕ, _+_, _-_, Bool, true, false, _&&_, List, map, length, getD, ltb, leb, if_then_else_, below, any}
 use Rattle.reading.proofs.Lists.{In, of-from, length-from, any-same, map-same}
-use Rattle.firing.specs.Firing.{Weights, Fired, fired, lacks, hindered, moved, spills, fire}
+use Rattle.firing.specs.Firing.{Weights, fired, lacks, hindered, moved, spills, fire}
 
 -- two weights that agree at every flat place below a number
 pub record Agree (n : ℕ) (v w : Weights) : Type 0 where
@@ -13,6 +13,7 @@ pub record Agree (n : ℕ) (v w : Weights) : Type 0 where
   pub put : (p : ℕ) → p < n → v .put p ≡ w .put p
   pub hinder : (p : ℕ) → p < n → v .hinder p ≡ w .hinder p
 
+-- they fire alike
 pub fire-same : (v w : Weights) (m : List ℕ) → Agree (length m) v w → fire v m ≡ fire w m
 unfolding fire
 fire-same v w m a = rw (first, second, third, counts)
@@ -35,6 +36,7 @@ fire-same v w m a = rw (first, second, third, counts)
     counts : map (moved v m) (below (length m)) ≡ map (moved w m) (below (length m))
     counts = map-same (moved v m) (moved w m) (below (length m)) move
 
+-- the marking keeps its length
 pub fire-length : (w : Weights) (m : List ℕ) → length (fire w m .marking) ≡ length m
 unfolding fire
 fire-length w m = go (any (lacks w m) (below (length m))) (any (hindered w m) (below (length m))) (any (spills w m) (below (length m)))

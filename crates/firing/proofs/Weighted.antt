@@ -1,13 +1,13 @@
 -- Weights written as arcs: what the arcs give back, and that they rise. Assumes nothing.
-use mathlib.Core.Path.{_≡_, refl, sym, ap, _∙_}
+use mathlib.Core.Path.{_≡_, refl, ap}
 use mathlib.Core.Logic.{⊎-elim}
 use Prim.Native.Nat.{_≤_, _<_}
 use native.Mathlib.Omega.{arith}
 use native.Mathlib.Nat.{eq-or-lt-of-le}
 use borrow.Author.Tests.{ltb-true, ltb-false, eq-eqb, ne-eqb}
-use Rattle.reading.specs.Basics.{ℕ, zero, suc, _+_, Bool, true, false, List, [], _∷_, map, Option, none, some, ltb, eqb, if_then_else_, given, numbersFrom, below, keep, find}
+use Rattle.reading.specs.Basics.{ℕ, zero, suc, _+_, Bool, true, false, List, _∷_, map, Option, none, ltb, eqb, if_then_else_, given, numbersFrom, keep, find}
 use Rattle.firing.specs.Firing.{Weights}
-use Rattle.firing.specs.Arcs.{Arc, Row, weightIn, weights, arcsOf, rowOf, Rising, none, more, Proper}
+use Rattle.firing.specs.Arcs.{Arc, weightIn, weights, arcsOf, rowOf, Rising, none, more, Proper}
 use Rattle.firing.proofs.Agree.{Agree}
 
 -- the arcs from a place on
@@ -45,6 +45,7 @@ module _ (w : ℕ → ℕ) where
       later h true ih = rw (ne-eqb a p (λ e. omega arith)) ih
       later h false ih = ih
 
+  -- from the first place on
   pub weight-back : (n p : ℕ) → p < n → weightIn (arcsOf n w) p ≡ w p
   unfolding weightIn
   weight-back n p lt = given-back p 0 n (omega arith) (omega arith)
@@ -58,6 +59,7 @@ lower : {n a : ℕ} {l : List Arc} → Rising n (a + 1) l → Rising n a l
 lower none = none
 lower {n} {a} (more {a = arc} le lt above r) = let h : a ≤ arc .place = omega arith in more h lt above r
 
+-- the arcs from a place on
 rising-from : (w : ℕ → ℕ) (n a k : ℕ) → a + k ≤ n → Rising n a (arcsFrom w a k)
 unfolding keep numbersFrom
 rising-from w n a zero le = none
@@ -68,6 +70,7 @@ rising-from w n a (suc k) le = go (ltb 0 (w a)) refl (rising-from w n (a + 1) k 
     go true q ih = more {from = a} {a = record { place = a; weight = w a }} (omega arith) (omega arith) (ltb-true 0 (w a) q) ih
     go false q ih = lower ih
 
+-- the row of some weights is proper
 pub row-proper : (n : ℕ) (w : Weights) → Proper n (rowOf n w)
 row-proper n w =
     record {

@@ -1,21 +1,18 @@
 -- An accepted net keeps to its limits. Assumes nothing.
-use mathlib.Core.Path.{_≡_, refl, sym, ap, _∙_}
+use mathlib.Core.Path.{_≡_}
 use Prim.Native.Nat.{_≤_, _<_}
 use native.Mathlib.Omega.{arith}
 use borrow.Author.Tests.{leb-true, ltb-true}
 use lib.ListN.{length-append}
-use Rattle.reading.specs.Basics.{ℕ, _+_, _-_, Bool, true, false, _&&_, List, [], _∷_, some, map, length, getD, ltb, leb, eqb, if_then_else_, with, every, sum, byteAt}
-use Rattle.reading.specs.Reading.{Answer, fine, fault, accepted, refused, outcome, _unless_, checked, whole, file}
+use Rattle.reading.specs.Basics.{ℕ, _+_, _-_, Bool, true, false, _&&_, List, [], _∷_, some, map, length, ltb, leb, eqb, if_then_else_, with, every, sum, byteAt}
+use Rattle.reading.specs.Reading.{fine, fault, accepted, refused, outcome, _unless_, checked, whole, file}
 use Rattle.reading.proofs.Lists.{All, end, also, all-with, all-getD}
-use Rattle.reading.proofs.Keeps.{no-value, checked-went, then-went, standing-went, repeat-keeps, file-went, outcome-went}
+use Rattle.reading.proofs.Keeps.{no-value, both-true, checked-went, then-went, standing-went, repeat-keeps, file-went, outcome-went}
 use Rattle.net.specs.Net.{always, Place, single, pair, Transition, Tokens, Net, net, setsOf, coloursOf, variablesOf, bindingSpace}
 use Rattle.net.specs.Reader.{setPart, variablePart, placePart, arcPart, readGuardIf, transitionPart, tokensPart, content, readNet}
 use Rattle.net.specs.Limits.{Limits}
 
-both-true : (a b : Bool) → a && b ≡ true → (a ≡ true) × (b ≡ true)
-both-true true b e = (refl, e)
-both-true false b e = (e, cc)
-
+-- one more is one longer
 one-more : {A : Type 0} (l : List A) (a : A) → length (with l a) ≡ length l + 1
 one-more l a = length-append l (a ∷ [])
 
@@ -83,6 +80,7 @@ transition-keeps s n transitions more at next k e = standing-went s at (also (λ
         )
 
 -- ---- the whole net
+-- the parts together
 kept : (sets variables : List ℕ) (places : List Place) (transitions : List Transition) (tokens : List Tokens)
     → SetsKeep sets → VariablesKeep sets variables → PlacesKeep (net sets variables [] [] []) places → TransitionsKeep (net sets variables places [] []) transitions
     → Limits (net sets variables places transitions tokens)
@@ -101,6 +99,7 @@ kept sets variables places transitions tokens a b c d =
       space = d .2;
     }
 
+-- what the parts in their order give
 content-keeps : (s : List ℕ) (start : ℕ) {n : Net} {last : ℕ} → content s start ≡ fine n last → Limits n
 content-keeps s start {n} {last} e =
     then-went (whole s (setPart s) [] start) _ e λ sets at₁ f e.
@@ -116,6 +115,7 @@ content-keeps s start {n} {last} e =
     (repeat-keeps (transitionPart s (net sets variables places [] [])) (TransitionsKeep (net sets variables places [] [])) (transition-keeps s (net sets variables places [] [])) (length s - at₃) at₃
     (omega arith, end, omega arith) i))
 
+-- an accepted net
 pub limits : (s : List ℕ) (n : Net) → readNet s ≡ accepted n → Limits n
 unfolding readNet
 limits s n e = go (ltb 16384 (length s)) e

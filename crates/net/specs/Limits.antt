@@ -2,7 +2,7 @@
 use Prim.Native.Nat.{_≤_, _<_}
 use mathlib.Core.Path.{_≡_}
 use Rattle.reading.specs.Basics.{ℕ, true, [], length, getD, ltb, every}
-use Rattle.net.specs.Net.{always, Transition, Net, sizeOf, setsOf, placeAt, flatPlaceCount, variablesOf, bindingSpace}
+use Rattle.net.specs.Net.{always, Net, sizeOf, setsOf, placeAt, flatPlaceCount, variablesOf, bindingSpace}
 
 pub record Limits (n : Net) : Type 0 where
   -- at most 16 sets, each of 1 to 64 colours

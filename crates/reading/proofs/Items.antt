@@ -1,12 +1,12 @@
 -- The items of a list, so many bytes each. Assumes nothing.
 use mathlib.Core.Path.{_≡_, refl, sym, ap, ap₂, _∙_}
-use Prim.Native.Nat.{_≤_, _<_}
+use Prim.Native.Nat.{_<_}
 use native.Mathlib.Omega.{arith}
 use native.Mathlib.Nat.{add-div-left, zero-div, zero-mul, suc-mul}
 use native.Mathlib.Numerals.{add-one}
 use lib.ListN.{length-append, take-append-drop, length-drop}
 use lib.Seq.{take-at, drop-append-add, length-take-le}
-use Rattle.reading.specs.Basics.{ℕ, zero, suc, _+_, _*_, _/_, _%_, _-_, List, [], _∷_, _++_, map, flatMap, length, take, drop, numbersFrom, below, items}
+use Rattle.reading.specs.Basics.{ℕ, zero, suc, _+_, _*_, _/_, _%_, List, [], _∷_, _++_, map, flatMap, length, take, drop, numbersFrom, below, items}
 use Rattle.reading.proofs.Lists.{All, end, also, map-from, map-same}
 
 module _ (w : ℕ) (some : 0 < w) where
@@ -30,6 +30,7 @@ module _ (w : ℕ) (some : 0 < w) where
       rest = map-from (λ i. take w (drop (i * w) (x ++ s))) 0 (length s / w)
           ∙ map-same (λ i. take w (drop ((i + 1) * w) (x ++ s))) (λ i. take w (drop (i * w) s)) (below (length s / w)) (λ i m. ap (take w) (further i))
 
+  -- no bytes, no items
   items-none : items w [] ≡ []
   unfolding numbersFrom
   items-none = rw (zero-div w)
@@ -61,6 +62,7 @@ module _ (w : ℕ) (some : 0 < w) where
 pub of-six : (s : List ℕ) → length s % 6 ≡ 0 → All (λ x. length x ≡ 6) (items 6 s) × (flatMap (λ x. x) (items 6 s) ≡ s)
 of-six s e = items-whole 6 (omega arith) (length s / 6) s (omega arith)
 
+-- lists of 6 bytes, joined, are a whole number of sixes
 pub joined-sixes : {A : Type 0} (f : A → List ℕ) {l : List A} → All (λ a. length (f a) ≡ 6) l → length (flatMap f l) % 6 ≡ 0
 unfolding flatMap
 joined-sixes f end = refl

@@ -1,8 +1,8 @@
 -- What has gone on has passed its checks, and what every step of a part keeps holds of the whole part. Assumes nothing.
-use mathlib.Core.Path.{_≡_, refl, sym, ap, _∙_}
+use mathlib.Core.Path.{_≡_, refl, ap, _∙_}
 use native.Mathlib.Omega.{arith}
-use Rattle.reading.specs.Basics.{ℕ, zero, suc, _+_, Bool, true, false, List, [], _∷_, Option, some, none, Option·map, length, ltb, eqb, if_then_else_, given, find, byteAt}
-use Rattle.reading.specs.Reading.{Answer, fine, fault, _andThen_, under, Outcome, accepted, refused, outcome, Check, _unless_, failing, checked, Command, command, obey, standing, needed, Part, onward, repeat, file}
+use Rattle.reading.specs.Basics.{ℕ, zero, suc, _+_, Bool, true, false, _&&_, List, [], _∷_, Option, some, none, Option·map, length, ltb, eqb, if_then_else_, given, find, byteAt}
+use Rattle.reading.specs.Reading.{Answer, fine, fault, _andThen_, under, accepted, outcome, Check, _unless_, failing, checked, Command, command, obey, standing, needed, Part, onward, repeat, file}
 use Rattle.reading.proofs.Lists.{All, end, also}
 
 -- a fault is no value
@@ -10,17 +10,24 @@ pub no-value : {A C : Type 0} {k p last : ℕ} {a : A} → fault k p ≡ fine a 
 no-value e = let z : _≡_ {A = ℕ} 0 1 = cc in absurd (omega arith)
 
 -- ---- checks
+-- both of two tests hold
+pub both-true : (a b : Bool) → a && b ≡ true → (a ≡ true) × (b ≡ true)
+both-true true b e = (refl, e)
+both-true false b e = (e, cc)
+
 -- every condition holds
 abbrev pub Held : List Check → Type 0
 Held [] = Unit {0}
 Held ((k unless condition) ∷ checks) = (condition ≡ true) × Held checks
 
-held : (checks : List Check) → failing checks ≡ none → Held checks
+-- no check fails: all hold
+pub held : (checks : List Check) → failing checks ≡ none → Held checks
 unfolding failing
 held [] e = tt
 held ((k unless true) ∷ checks) e = (refl, held checks e)
 held ((k unless false) ∷ checks) e = let z : _≡_ {A = ℕ} 0 1 = cc in absurd (omega arith)
 
+-- a value after checks: they hold, and it is the value
 pub checked-went : {A : Type 0} (at : ℕ) (checks : List Check) (a : A) (next : ℕ) {b : A} {last : ℕ} → checked at checks a next ≡ fine b last → Held checks × (a ≡ b)
 checked-went at checks a next {b} {last} e = go (failing checks) refl e
   where
@@ -30,6 +37,7 @@ checked-went at checks a next {b} {last} e = go (failing checks) refl e
 
 -- ---- one reading after another
 module _ {A B P : Type 0} where
+  -- both gave a value
   pub then-went : (x : Answer A) (go : A → ℕ → Answer B) {b : B} {last : ℕ} → x andThen go ≡ fine b last
       → ((a : A) (next : ℕ) → x ≡ fine a next → go a next ≡ fine b last → P) → P
   then-went (fine a next) go e h = h a next refl e
@@ -45,6 +53,7 @@ abbrev pub Went : {A : Type 0} → A → ℕ → Type 0 → Command A → Type 0
 Went b last P c = Held (c .checks) → (next : ℕ) → c .goes next ≡ fine b last → P
 
 module _ {A : Type 0} (s : List ℕ) (at : ℕ) {b : A} {last : ℕ} where
+  -- a command that gave a value was whole and its checks hold; so was the one of a list that stood there
   obey-went : {P : Type 0} (c : Command A) → Went b last P c → obey s at c ≡ fine b last → P
   unfolding obey
   obey-went {P} c h e = by-length (ltb (length s) (at + (1 + c .width))) e
@@ -103,6 +112,7 @@ file-went opening content closing s {a} {last} e h =
     let k : c ≡ a = checked-went more ((15 unless eqb more (length s)) ∷ []) c more j .1 in
     let l : b ≡ a = cc in h start at (rw (← l) r)) end) f) end) i
 
+-- an accepted value was read
 pub outcome-went : {A P : Type 0} (x : Answer A) {a : A} → outcome x ≡ accepted a → ((next : ℕ) → x ≡ fine a next → P) → P
 outcome-went (fine a next) e h = h next (cc)
 outcome-went (fault k p) e h = let z : _≡_ {A = ℕ} 0 1 = cc in absurd (omega arith)

@@ -1,13 +1,13 @@
 -- Laws of lists: membership, keys that differ, where an element stands, numbers from a number on, lengths. Assumes nothing.
 use mathlib.Core.Path.{_≡_, refl, sym, ap, ap₂, _∙_}
-use mathlib.Core.Logic.{_⊎_, inl, inr, ⊎-elim}
-use mathlib.Core.List.{List·Memᴰ, List·Memᴰ·head, List·Memᴰ·tail, List·Memᴰ·not-nil, List·Memᴰ·cases-cons, List·Memᴰ·append-cases, Memᴰ·cast, Memᴰ·append-left, Memᴰ·append-right, Memᴰ·of-map, filterMap-cons-none, filterMap-cons-some}
+use mathlib.Core.Logic.{⊎-elim}
+use mathlib.Core.List.{List·Memᴰ, List·Memᴰ·head, List·Memᴰ·tail, List·Memᴰ·not-nil, List·Memᴰ·cases-cons, List·Memᴰ·append-cases, Memᴰ·append-left, Memᴰ·append-right, Memᴰ·of-map, filterMap-cons-none, filterMap-cons-some}
 use Prim.Native.Nat.{_≤_, _<_}
 use native.Mathlib.Omega.{arith}
 use native.Mathlib.Numerals.{add-one}
 use native.Mathlib.Nat.{eq-or-lt-of-le}
 use borrow.Author.Tests.{eq-eqb, eqb-true}
-use lib.ListN.{length-append, length-map}
+use lib.ListN.{length-append}
 use Rattle.reading.specs.Basics.{ℕ, zero, suc, _+_, Bool, true, false, _&&_, _||_, List, [], _∷_, _++_, map, flatMap, filterMap, Option, none, some, Option·elim, length, getD, getElem?, eqb, if_then_else_, given, with, numbersFrom, below, any, every, position, sum, same}
 
 -- ---- membership
@@ -24,12 +24,14 @@ module _ {A : Type 0} where
   pub in-cases : {a b : A} {l : List A} {C : Type 0} → (a ≡ b → C) → (In a l → C) → In a (b ∷ l) → C
   in-cases f g m = ⊎-elim f g (List·Memᴰ·cases-cons m)
 
+  -- the first is an element, and so are the others
   pub here : {a : A} {l : List A} → In a (a ∷ l)
   here = List·Memᴰ·head refl
 
   pub there : {a b : A} {l : List A} → In a l → In a (b ∷ l)
   there m = List·Memᴰ·tail m
 
+  -- what holds of all holds of each, and back
   pub all-in : {P : A → Type 0} {l : List A} {a : A} → All P l → In a l → P a
   all-in end m = absurd (List·Memᴰ·not-nil m)
   all-in {P} (also {a = b} {l = l} p q) m = in-cases (λ e. rw e p) (λ k. all-in q k) m
@@ -38,6 +40,7 @@ module _ {A : Type 0} where
   in-all [] h = end
   in-all (b ∷ l) h = also (h b here) (in-all l (λ a m. h a (there m)))
 
+  -- of one more at the end, and of the element at a place
   pub all-with : {P : A → Type 0} {l : List A} {a : A} → All P l → P a → All P (with l a)
   all-with end p = also p end
   all-with (also q r) p = also q (all-with r p)
@@ -57,6 +60,7 @@ module _ {A : Type 0} where
   in-at [] m = absurd (List·Memᴰ·not-nil m)
   in-at {a} (b ∷ l) m = in-cases (λ e. (0, ap some (sym e))) (λ k. let (i, e) = in-at l k in (suc i, e)) m
 
+  -- something stands at every place below the length, and nowhere else
   pub at-below : (l : List A) (i : ℕ) → i < length l → (a : A) × (getElem? l i ≡ some a)
   at-below [] i h = absurd (omega arith)
   at-below (b ∷ l) zero h = (b, refl)
@@ -67,12 +71,14 @@ module _ {A : Type 0} where
   below-at (b ∷ l) zero e = omega arith
   below-at (b ∷ l) (suc i) e = let h = below-at l i e in omega arith
 
+  -- read with a default, it is what stands there
   pub getD-at : (l : List A) (i : ℕ) (d : A) {a : A} → getElem? l i ≡ some a → getD l i d ≡ a
   getD-at [] i d e = let z : _≡_ {A = ℕ} 0 1 = cc in absurd (omega arith)
   getD-at (b ∷ l) zero d e = cc
   getD-at (b ∷ l) (suc i) d e = getD-at l i d e
 
 module _ {A B : Type 0} where
+  -- through a function
   pub all-map : {P : B → Type 0} (f : A → B) {l : List A} → All (λ a. P (f a)) l → All P (map f l)
   all-map f end = end
   all-map f (also p q) = also p (all-map f q)
@@ -124,6 +130,7 @@ pub data Apart {A K : Type 0} (key : A → K) : List A → Type 0 where
   new : {a : A} {l : List A} → ((b : A) → In b l → key a ≡ key b → ⊥) → Apart key l → Apart key (a ∷ l)
 
 module _ {A K : Type 0} (key : A → K) where
+  -- two lists that share no key
   pub apart-append : {l m : List A} → Apart key l → Apart key m → ((a b : A) → In a l → In b m → key a ≡ key b → ⊥) → Apart key (l ++ m)
   apart-append alone q h = q
   apart-append (new {a = a} {l = l} f p) q h =
@@ -242,6 +249,7 @@ map-from f a (suc n) = ap (λ l. f (a + 1) ∷ l) (map-from f (a + 1) n)
 
 -- ---- equal at each element
 module _ {A : Type 0} where
+  -- two functions that agree on a list give the same
   pub any-same : (f g : A → Bool) (l : List A) → ((a : A) → In a l → f a ≡ g a) → any f l ≡ any g l
   unfolding any
   any-same f g [] h = refl
@@ -256,6 +264,7 @@ module _ {A : Type 0} where
   flatMap-same f g [] h = refl
   flatMap-same f g (a ∷ l) h = ap₂ _++_ (h a here) (flatMap-same f g l (λ b m. h b (there m)))
 
+  -- one function after another
   pub map-map : {B C : Type 0} (f : A → B) (g : B → C) (l : List A) → map g (map f l) ≡ map (λ a. g (f a)) l
   map-map f g [] = refl
   map-map f g (a ∷ l) = ap (λ m. g (f a) ∷ m) (map-map f g l)
@@ -282,6 +291,7 @@ module _ {A : Type 0} where
 
 -- ---- lengths
 module _ {A B : Type 0} where
+  -- of joined lists, and of those that pass
   pub length-flatMap : (f : A → List B) (l : List A) → length (flatMap f l) ≡ sum (map (λ a. length (f a)) l)
   unfolding flatMap
   length-flatMap f [] = refl

@@ -1,16 +1,16 @@
 -- Each order is answered as its image is, and so is each list of orders. Assumes nothing.
-use mathlib.Core.Path.{_≡_, refl, sym, ap, ap₂, _∙_}
+use mathlib.Core.Path.{_≡_, refl, ap, _∙_}
 use Prim.Native.Nat.{_≤_, _<_}
 use native.Mathlib.Omega.{arith}
 use borrow.Author.Tests.{lt-ltb, le-ltb}
 use lib.ListN.{length-map}
-use Rattle.reading.specs.Basics.{ℕ, _+_, Bool, true, false, List, [], _∷_, _++_, map, flatMap, Option, none, some, length, getD, getElem?, ltb, eqb, if_then_else_, given, below, any, items, longAt}
+use Rattle.reading.specs.Basics.{ℕ, Bool, true, false, List, [], _∷_, map, Option, none, some, length, getElem?, if_then_else_, given, below, any, items, longAt}
 use Rattle.reading.proofs.Lists.{All, end, also, in-all, at-map, below-at, getD-at}
 use Rattle.reading.proofs.Items.{items-joined, of-six}
-use Rattle.firing.specs.Firing.{Weights, Fired, fired, lacks, hindered, moved, spills, fire, run}
-use Rattle.firing.specs.Arcs.{Row, row, weights}
+use Rattle.firing.specs.Firing.{Weights, fired, lacks, hindered, moved, spills, fire, run}
+use Rattle.firing.specs.Arcs.{row, weights}
 use Rattle.firing.proofs.Agree.{fire-same, fire-length}
-use Rattle.flat.specs.Flat.{Flat, fireRow, fireImage}
+use Rattle.flat.specs.Flat.{fireRow, fireImage}
 use Rattle.net.specs.Net.{Net, flatPlaceCount}
 use Rattle.net.specs.Limits.{Limits}
 use Rattle.coloured.specs.Effect.{Binding, effect}
@@ -53,6 +53,7 @@ order-keeps n order m = by-name (named n order)
 
 -- a row fires by its binding's weights, and where there is no row the answer is 1
 module _ (n : Net) where
+  -- by its weights
   pub row-fires : (i : ℕ) {r : Rowed} (m : List ℕ) → Marking n m → getElem? (rows n) i ≡ some r → fireImage (unfolded n) (image i) m ≡ fire (r .weights) m
   unfolding fireImage fireRow unfolded
   row-fires i {r} m sized e =
@@ -64,6 +65,7 @@ module _ (n : Net) where
       )
       (fire-same (weights (rowOf (flatPlaceCount n) (r .weights))) (r .weights) m (rw sized (row-agrees (flatPlaceCount n) (r .weights))))
 
+  -- no such row
   pub no-row-fires : (i : ℕ) (m : List ℕ) → length (rows n) ≤ i → fireImage (unfolded n) (image i) m ≡ fired 1 m
   unfolding fireImage fireRow unfolded
   no-row-fires i m le =

@@ -1,15 +1,13 @@
 -- Demand 3: the drawing and its flat net behave alike. Assumes nothing.
 use mathlib.Core.Path.{_≡_, refl, sym, ap, ap₂, _∙_}
-use mathlib.Core.Logic.{_↔_}
-use Prim.Native.Nat.{_≤_, _<_}
+use Prim.Native.Nat.{_<_}
 use native.Mathlib.Omega.{arith}
 use borrow.Author.Tests.{ltb-true}
 use lib.ListN.{length-map}
-use Rattle.reading.specs.Basics.{ℕ, _+_, _%_, Bool, true, false, List, [], _∷_, _++_, map, flatMap, Option, none, some, Option·map, length, getD, getElem?, ltb, eqb, if_then_else_, given, every, items, longAt}
-use Rattle.reading.proofs.Lists.{All, end, also, all-in, in-all, In, at-below, below-at, at-map, all-map, getD-at, map-flat, flatMap-same, every-in, in-every}
+use Rattle.reading.specs.Basics.{ℕ, Bool, true, false, List, [], _∷_, map, flatMap, some, length, getD, getElem?, ltb, eqb, if_then_else_, given, items, longAt}
+use Rattle.reading.proofs.Lists.{All, end, also, all-in, in-all, at-below, below-at, at-map, all-map, getD-at, map-flat, flatMap-same, every-in, in-every}
 use Rattle.reading.proofs.Items.{items-joined, of-six, joined-sixes}
-use Rattle.firing.specs.Firing.{Weights, Fired, fire}
-use Rattle.firing.specs.Arcs.{Row, row, Proper}
+use Rattle.firing.specs.Arcs.{row}
 use Rattle.flat.specs.Flat.{fireImage}
 use Rattle.flat.specs.Flat as flat
 use Rattle.flat.proofs.RoundTrip.{round-trip}
@@ -21,24 +19,26 @@ use Rattle.coloured.specs.Orders.{fireOrder}
 use Rattle.coloured.proofs.FlatPlaces.{flat-places}
 use Rattle.firing.specs.Arcs.{rowOf}
 use Rattle.unfolding.specs.Unfolding.{Rowed, rows, initialAt, unfolded, rowNumber, orderOfRow, image, images}
-use Rattle.unfolding.specs.Demand3.{Marking, Orders, guardHolds, asRow, Ordered, RowsHaveOrders, SomeFires, Alike, Demand3}
+use Rattle.unfolding.specs.Demand3.{Orders, guardHolds, RowsHaveOrders, SomeFires, Alike, Demand3}
 use Rattle.firing.proofs.Weighted.{row-proper}
-use Rattle.unfolding.proofs.Rows.{Stands, without, within, noRow, rowed, rows-few, stands, row-order, number-of-order, order-of-number}
+use Rattle.unfolding.proofs.Rows.{Stands, without, within, rows-few, stands, row-order, order-of-number}
 use Rattle.unfolding.proofs.Answers.{image-back, order-answered, row-fires, lists-agree}
 
 -- ---- the flat net keeps to the flat file's limits
-row-count : (n : Net) → length (unfolded n .rows) ≡ length (rows n)
+pub row-count : (n : Net) → length (unfolded n .rows) ≡ length (rows n)
 unfolding unfolded
 row-count n = length-map (rows n) (λ r. rowOf (flatPlaceCount n) (r .weights))
 
-place-count : (n : Net) → length (unfolded n .initial) ≡ flatPlaceCount n
+pub place-count : (n : Net) → length (unfolded n .initial) ≡ flatPlaceCount n
 unfolding unfolded
 place-count n = length-map (flatPlaces n) (initialAt n) ∙ flat-places n
 
+-- the row at a number
 row-at : (n : Net) (i : ℕ) {r : Rowed} → getElem? (rows n) i ≡ some r → getD (unfolded n .rows) i (row [] [] []) ≡ rowOf (flatPlaceCount n) (r .weights)
 unfolding unfolded
 row-at n i e = getD-at (unfolded n .rows) i (row [] [] []) (at-map (λ r. rowOf (flatPlaceCount n) (r .weights)) (rows n) i e)
 
+-- within the limits
 pub unfolded-limits : (n : Net) → Limits n → flat.Limits (unfolded n)
 unfolded-limits n limits =
     record {
@@ -78,6 +78,7 @@ module _ (n : Net) (limits : Limits n) where
   abbrev orderAt : ℕ → List ℕ
   orderAt i = given (orderOfRow n i) [] λ order. order
 
+  -- it carries the row number, has 6 bytes, and its guard holds
   order-there : (i : ℕ) → i < length (unfolded n .rows) → (rowNumber n (orderAt i) ≡ i) × (length (orderAt i) ≡ 6) × (guardHolds n (orderAt i) ≡ true)
   unfolding orderOfRow
   order-there i lt =
@@ -102,6 +103,7 @@ module _ (n : Net) (limits : Limits n) where
       let it : order ≡ orderAt i = rw back refl in
       ap₂ _∷_ it (only-orders orders few (cc))
 
+  -- exactly one list
   pub rows-have-orders : RowsHaveOrders n (unfolded n)
   unfolding images
   rows-have-orders numbers few =

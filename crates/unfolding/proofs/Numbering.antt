@@ -1,7 +1,7 @@
 -- Numbering, for any candidates of which some pass: the rows are those that pass, in their sequence, and a row's number and a candidate's code
 -- give each other. Assumes nothing.
-use mathlib.Core.Path.{_≡_, refl, sym, ap, _∙_}
-use Rattle.reading.specs.Basics.{ℕ, List, filterMap, Option, none, some, getElem?, position, same}
+use mathlib.Core.Path.{_≡_, sym, _∙_}
+use Rattle.reading.specs.Basics.{ℕ, List, filterMap, Option, some, getElem?, position, same}
 use Rattle.reading.proofs.Lists.{In, at-in, in-at, in-filterMap, of-filterMap, Apart, apart-filterMap, same-true, position-at, at-position}
 
 -- codes tell the candidates apart, and a row's key is its candidate's code

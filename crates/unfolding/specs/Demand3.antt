@@ -1,15 +1,16 @@
 -- Demand 3, stated: the drawing and its flat net behave alike. Types only, no proof.
 use mathlib.Core.Path.{_≡_}
 use mathlib.Core.Logic.{_↔_}
-use Rattle.reading.specs.Basics.{Bool, true, false, List, map, flatMap, ℕ, _<_, _%_, length, ltb, eqb, if_then_else_, given, every, items}
-use Rattle.reading.specs.Reading.{accepted}
-use Rattle.firing.specs.Firing.{Fired, fired, run}
-use Rattle.flat.specs.Flat.{Flat, readFlat, fireImage}
+use Rattle.reading.specs.Basics.{Bool, true, false, List, map, flatMap, some, ℕ, _<_, _*_, _%_, length, take, ltb, eqb, if_then_else_, given, every, items, over}
+use Rattle.reading.specs.Reading.{Outcome, accepted, refused, on}
+use Rattle.firing.specs.Firing.{Fired, fired, run, First, found, nothing}
+use Rattle.firing.specs.Calls.{FireCall}
+use Rattle.flat.specs.Flat.{Flat, readFlat, fireImage, fireImages, firstRow}
 use Rattle.net.specs.Net.{Net, flatPlaceCount}
 use Rattle.net.specs.Reader.{readNet}
 use Rattle.coloured.specs.Effect.{effect}
-use Rattle.coloured.specs.Orders.{named, fireOrder}
-use Rattle.unfolding.specs.Unfolding.{unfolded, flatFile, image, images}
+use Rattle.coloured.specs.Orders.{named, fireOrder, fireOrders, firstOrder}
+use Rattle.unfolding.specs.Unfolding.{unfolded, flatFile, image, images, unfoldCall, imagesCall, orderCall}
 
 -- a marking of a net: one count for each flat place
 abbrev pub Marking : Net → List ℕ → Type 0
@@ -24,8 +25,11 @@ abbrev pub guardHolds : Net → List ℕ → Bool
 guardHolds n order = given (named n order) false λ b. given (effect n b) false λ w. true
 
 -- an order's answer as its row gives it: 2 reads as 1
+abbrev pub twoAsOne : ℕ → ℕ
+twoAsOne answer = if eqb answer 2 then 1 else answer
+
 abbrev pub asRow : Fired → Fired
-asRow f = fired (if eqb (f .answer) 2 then 1 else f .answer) (f .marking)
+asRow f = fired (twoAsOne (f .answer)) (f .marking)
 
 -- from every marking, for every whole list of orders: each is answered as its image is, and leaves the same marking
 abbrev pub ListsAgree : Net → Flat → Type 0
@@ -61,3 +65,30 @@ pub record Alike (n : Net) (f : Flat) : Type 0 where
 -- so it is for every net file that is accepted
 abbrev pub Demand3 : Type 0
 Demand3 = (s : List ℕ) (n : Net) → readNet s ≡ accepted n → (f : Flat) × Alike n f
+
+-- ---- once more, over the calls: on the bytes that the unfolding and the images left in lent lists
+-- a call on the drawing as the rows give it: each answer written, 2 reading as 1
+abbrev pub asRows : FireCall → FireCall
+asRows c =
+    record {
+      result = c .result;
+      marking = c .marking;
+      answers = on (c .result) (λ number place. c .answers) λ count. over (map twoAsOne (take count (c .answers))) (c .answers);
+    }
+
+-- for every marking, every list of orders and every lent list, refusals included
+abbrev pub FireCallsAgree : Type 0
+FireCallsAgree = (s m orders answers flatOut imagesOut : List ℕ) (bytes count : ℕ)
+    → unfoldCall s flatOut .result ≡ accepted bytes → imagesCall s orders imagesOut .result ≡ accepted count
+    → fireImages (take bytes (unfoldCall s flatOut .out)) m (take (count * 5) (imagesCall s orders imagesOut .out)) answers ≡ asRows (fireOrders s m orders answers)
+
+-- the first order that fires is the order of the first row that does
+pub data FirstAlike (s : List ℕ) : Outcome (First (List ℕ)) → Outcome (First ℕ) → Type 0 where
+  both-found : {order : List ℕ} {i tried rowsTried : ℕ} → orderCall s i ≡ accepted (some order)
+      → FirstAlike s (accepted (found order tried)) (accepted (found i rowsTried))
+  both-nothing : {tried rowsTried : ℕ} → FirstAlike s (accepted (nothing tried)) (accepted (nothing rowsTried))
+  both-refused : {number place : ℕ} → FirstAlike s (refused number place) (refused number place)
+
+abbrev pub FirstCallsAgree : Type 0
+FirstCallsAgree = (s m flatOut : List ℕ) (bytes : ℕ) → unfoldCall s flatOut .result ≡ accepted bytes
+    → FirstAlike s (firstOrder s m) (firstRow (take bytes (unfoldCall s flatOut .out)) m)
