@@ -1,7 +1,12 @@
 -- What the code's results say of the trees in the bytes.
+use mathlib.Core.Path.{_≡_}
 use Prim.Native.Nat.{_≤_}
-use Rattle.reading.specs.Basics.{ℕ, Bool, leb, if_then_else_}
-use Rattle.net.specs.Net.{Expression, plus, minus}
+use Rattle.reading.specs.Basics.{_+_, _-_, List, getD, eqb, ℕ, Bool, leb, if_then_else_}
+use Rattle.reading.specs.Reading.{Answer, fine, fault}
+use Rattle.net.specs.Net.{Colour, Guard, Expression, plus, minus, Net, setOf}
+use Rattle.net.specs.Values.{colour, holds}
+use Rattle.net.specs.declared.evaluate.Value.{Value}
+use Rattle.net.specs.declared.evaluate.Tested.{Tested}
 use Rattle.net.specs.declared.Read.{Read}
 use Rattle.net.specs.declared.Read.the-variants as read
 
@@ -17,3 +22,25 @@ measured at ceiling next uses = if leb ceiling 65535 then read.Whole next ceilin
 -- the first less the second, or their sum
 abbrev pub joins : Bool → Expression → Expression → Expression
 joins less a b = if less then minus a b else plus a b
+
+-- ---- values under a binding; env holds each variable's colour
+-- the colour after c and the one before it, going round a set
+abbrev pub after : ℕ → ℕ → ℕ
+after size c = if eqb (c + 1) size then 0 else c + 1
+
+abbrev pub before : ℕ → ℕ → ℕ
+before size c = if eqb c 0 then size - 1 else c - 1
+
+-- the binding that a list of colours gives
+abbrev pub bound : List ℕ → ℕ → ℕ
+bound env v = getD env v 0
+
+-- where the bytes hold a colour, the value is its colour, its set and the place after it
+abbrev pub Valued : Net → List ℕ → Value → Answer Colour → Type 0
+Valued n env r (fine k next) = r ≡ record { colour = colour n (bound env) k; set = setOf n k; next = next }
+Valued n env r (fault number place) = Unit {0}
+
+-- where they hold a guard, whether it holds, and the place after it
+abbrev pub Held : Net → List ℕ → Tested → Answer Guard → Type 0
+Held n env r (fine g next) = r ≡ record { holds = holds n (bound env) g; next = next }
+Held n env r (fault number place) = Unit {0}

@@ -1,6 +1,11 @@
 // Reads net files. The meanings of this crate stand in specs/.
+mod evaluate;
 mod expression;
 
+pub use evaluate::Tested;
+pub use evaluate::Value;
+pub use evaluate::eval_colour;
+pub use evaluate::eval_guard;
 pub use expression::read_expression;
 ghost use mathlib.Core.Path.{_≡_};
 ghost use mathlib.Core.List.{List, [], map};
