@@ -59,7 +59,7 @@ module _ {A : Type 0} (P : Answer A → Type 0) (faults : (k p : ℕ) → P (fau
       go (some answer) e = e
 
 -- a value after a check
-checked-by : {A : Type 0} (P : Answer A → Type 0) → ((k p : ℕ) → P (fault k p)) → (at : ℕ) (checks : List Check) (a : A) (next : ℕ) → P (fine a next) → P (checked at checks a next)
+pub checked-by : {A : Type 0} (P : Answer A → Type 0) → ((k p : ℕ) → P (fault k p)) → (at : ℕ) (checks : List Check) (a : A) (next : ℕ) → P (fine a next) → P (checked at checks a next)
 checked-by P faults at checks a next h = go (failing checks)
   where
     go : (o : Option ℕ) → P (given o (fine a next) λ number. fault number at)

@@ -1,12 +1,14 @@
 -- What the code's results say of the trees in the bytes.
 use mathlib.Core.Path.{_≡_}
-use Prim.Native.Nat.{_≤_}
-use Rattle.reading.specs.Basics.{_+_, _-_, List, getD, eqb, ℕ, Bool, leb, if_then_else_}
+use Prim.Native.Nat.{_≤_, _<_}
+use Rattle.reading.specs.Basics.{_+_, _-_, List, getD, eqb, ℕ, Bool, true, false, leb, if_then_else_}
 use Rattle.reading.specs.Reading.{Answer, fine, fault}
-use Rattle.net.specs.Net.{Colour, Guard, Expression, plus, minus, Net, setOf}
-use Rattle.net.specs.Values.{colour, holds}
+use Rattle.net.specs.Net.{Colour, Guard, Expression, plus, minus, Place, single, pair, Net, setOf}
+use Rattle.net.specs.Values.{colour, holds, weight}
 use Rattle.net.specs.declared.evaluate.Value.{Value}
 use Rattle.net.specs.declared.evaluate.Tested.{Tested}
+use Rattle.net.specs.declared.evaluate.Ranked.{Ranked}
+use Rattle.net.specs.declared.evaluate.Weighed.{Weighed}
 use Rattle.net.specs.declared.Read.{Read}
 use Rattle.net.specs.declared.Read.the-variants as read
 
@@ -44,3 +46,30 @@ Valued n env r (fault number place) = Unit {0}
 abbrev pub Held : Net → List ℕ → Tested → Answer Guard → Type 0
 Held n env r (fine g next) = r ≡ record { holds = holds n (bound env) g; next = next }
 Held n env r (fault number place) = Unit {0}
+
+-- a place of one set or of two
+abbrev pub placeBy : Bool → ℕ → ℕ → Place
+placeBy paired first second = if paired then pair first second else single first
+
+abbrev pub isPair : Place → Bool
+isPair (single set) = false
+isPair (pair first second) = true
+
+-- a weight above 65,535 counts as 0: no expression that is read has one
+abbrev pub limit : ℕ → ℕ
+limit w = if leb w 65535 then w else 0
+
+-- where they hold an arc expression, its weight at a rank, and the place after it
+abbrev pub Weighs : Net → List ℕ → ℕ → Weighed → Answer Expression → Type 0
+Weighs n env rank r (fine e next) = r ≡ record { weight = weight n (bound env) rank e; next = next }
+Weighs n env rank r (fault number place) = Unit {0}
+
+-- a count goes to one rank
+abbrev pub Ranks : Net → List ℕ → ℕ → Ranked → Answer Expression → Type 0
+Ranks n env count r (fine e next) = (r .next ≡ next) × ((rank : ℕ) → weight n (bound env) rank e ≡ (if eqb (r .rank) rank then count else 0))
+Ranks n env count r (fault number place) = Unit {0}
+
+-- no rank from one on up to another has a weight
+abbrev pub Skips : Net → List ℕ → ℕ → Ranked → Answer Expression → Type 0
+Skips n env from r (fine e next) = (r .next ≡ next) × ((rank : ℕ) → from ≤ rank → rank < r .rank → weight n (bound env) rank e ≡ 0)
+Skips n env from r (fault number place) = Unit {0}
