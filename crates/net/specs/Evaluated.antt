@@ -1,9 +1,10 @@
 -- What the code's results say of the trees in the bytes.
 use mathlib.Core.Path.{_≡_}
 use Prim.Native.Nat.{_≤_, _<_}
-use Rattle.reading.specs.Basics.{_+_, _-_, List, getD, eqb, ℕ, Bool, true, false, leb, if_then_else_}
+use Rattle.reading.specs.Basics.{_+_, _-_, List, getD, eqb, ℕ, Bool, true, false, leb, if_then_else_, given}
 use Rattle.reading.specs.Reading.{Answer, fine, fault}
 use Rattle.net.specs.Net.{Colour, Guard, Expression, plus, minus, Place, single, pair, Net, setOf}
+use Rattle.net.specs.Reader.{widthOf}
 use Rattle.net.specs.Values.{colour, holds, weight}
 use Rattle.net.specs.declared.evaluate.Value.{Value}
 use Rattle.net.specs.declared.evaluate.Tested.{Tested}
@@ -73,3 +74,7 @@ Ranks n env count r (fault number place) = Unit {0}
 abbrev pub Skips : Net → List ℕ → ℕ → Ranked → Answer Expression → Type 0
 Skips n env from r (fine e next) = (r .next ≡ next) × ((rank : ℕ) → from ≤ rank → rank < r .rank → weight n (bound env) rank e ≡ 0)
 Skips n env from r (fault number place) = Unit {0}
+
+-- ---- the width of a byte's operands, 255 where it is no command
+abbrev pub widthTold : ℕ → ℕ
+widthTold b = given (widthOf b) 255 λ width. width
