@@ -4,12 +4,12 @@ use mathlib.Core.Bool.{Bool, true, false}
 use Prim.Native.Nat.{_≤_, _<_}
 use native.Mathlib.Omega.{arith}
 use borrow.Author.Tests.{ltb-true, leb-true}
-use Rattle.reading.specs.Basics.{ℕ, _+_, List, [], length, ltb, every, map, sum, with, if_then_else_}
-use Rattle.reading.specs.Reading.{Answer, fine, _andThen_, Outcome, accepted, refused, outcome, whole, file}
+use Rattle.reading.specs.Basics.{ℕ, _+_, _&&_, List, [], _∷_, length, ltb, leb, eqb, every, map, sum, with, if_then_else_, byteAt}
+use Rattle.reading.specs.Reading.{Answer, fine, fault, accepted, refused, outcome, Check, _unless_, checked, whole, file}
 use Rattle.reading.proofs.Lists.{All, end}
-use Rattle.reading.proofs.Keeps.{both-first, both-second, all-with, all-at, length-with, Gives, gives, stops, GivesIf, of-outcome, checked-gives, repeat-gives, then-gives, standing-gives, file-gives}
-use Rattle.net.specs.Net.{Place, Transition, Tokens, Net, net, setsOf, coloursOf, variablesOf, bindingSpace}
-use Rattle.net.specs.Reader.{setPart, variablePart, placePart, transitionPart, tokensPart, content, readNet}
+use Rattle.reading.proofs.Keeps.{both-first, both-second, all-with, all-at, length-with, Gives, gives, stops, GivesIf, anything, of-outcome, checked-gives, repeat-gives, then-gives, standing-gives, file-gives}
+use Rattle.net.specs.Net.{always, Place, single, pair, Transition, Net, net, setsOf, coloursOf, variablesOf, bindingSpace}
+use Rattle.net.specs.Reader.{setPart, variablePart, placePart, readGuardIf, arcPart, ended, transitionPart, tokensPart, content, readNet}
 use Rattle.net.specs.Limits.{Limits}
 use Rattle.net.proofs.Shut.{commands}
 
@@ -33,6 +33,98 @@ pub record Transitions (n : Net) (transitions : List Transition) : Type 0 where
   pub space : bindingSpace n transitions ≤ 65536
 
 module _ (s : List ℕ) where
-  pub set-keeps : (sets : List ℕ) (at : ℕ) → Sets sets → GivesIf Sets (setPart s sets at)
+  set-keeps : (sets : List ℕ) (at : ℕ) → Sets sets → GivesIf Sets (setPart s sets at)
   unfolding commands setPart
-  set-keeps sets at k = standing-gives s at _ ((λ b le p. ?), tt)
+  set-keeps sets at k = standing-gives s at _ (
+    (λ b le p. gives (
+        let size = byteAt s (at + 1) in
+        let e = length-with sets size in
+        let room = ltb-true (length sets) 16 (p .1 .0) in
+        record {
+          few = omega arith;
+          sized = all-with (k .sized) (leb-true 1 size (both-first (leb 1 size) (leb size 64) (p .0)), leb-true size 64 (both-second (leb 1 size) (leb size 64) (p .0)));
+        }
+        )),
+    tt,
+  )
+
+  variable-keeps : (n : Net) (variables : List ℕ) (at : ℕ) → Variables n variables → GivesIf (Variables n) (variablePart s n variables at)
+  unfolding commands variablePart
+  variable-keeps n variables at k = standing-gives s at _ (
+    (λ b le p. gives (
+        let set = byteAt s (at + 1) in
+        let e = length-with variables set in
+        let room = ltb-true (length variables) 32 (p .1 .0) in
+        record { few = omega arith; known = all-with (k .known) (ltb-true set (length (n .sets)) (p .0)) }
+        )),
+    tt,
+  )
+
+  -- one more place of either form
+  one-more : (n : Net) (places : List Place) (p : Place) → Places n places → every (λ set. ltb set (length (n .sets))) (setsOf p) ≡ true
+      → ltb (length places) 32 && leb (sum (map (coloursOf n) (with places p))) 4096 ≡ true → Places n (with places p)
+  one-more n places p k sets room =
+      let total = sum (map (coloursOf n) (with places p)) in
+      let e = length-with places p in
+      let few = ltb-true (length places) 32 (both-first (ltb (length places) 32) (leb total 4096) room) in
+      record { few = omega arith; known = all-with (k .known) sets; colours = leb-true total 4096 (both-second (ltb (length places) 32) (leb total 4096) room) }
+
+  place-keeps : (n : Net) (places : List Place) (at : ℕ) → Places n places → GivesIf (Places n) (placePart s n places at)
+  unfolding commands placePart
+  place-keeps n places at k = standing-gives s at _ (
+    (λ b le p. gives (one-more n places (single (byteAt s (at + 1))) k (p .0) (p .1 .0))),
+    ((λ b le p. gives (one-more n places (pair (byteAt s (at + 1)) (byteAt s (at + 2))) k (p .0) (p .1 .0))), tt),
+  )
+
+  -- where a transition ends
+  abbrev endChecks : Net → List Transition → Transition → List Check
+  endChecks n transitions t = (10 unless leb (length (variablesOf n t)) 4) ∷ (11 unless leb (bindingSpace n (with transitions t)) 65536) ∷ []
+
+  ended-keeps : (n : Net) (transitions : List Transition) (at : ℕ) (t : Transition) (last : ℕ) → Transitions n transitions → length transitions < 32
+      → Gives (Transitions n) (ended s n transitions at t last)
+  ended-keeps n transitions at t last k room = go (eqb (byteAt s last) 0x15)
+    where
+      go : (stray : Bool) → Gives (Transitions n) (if stray then fault 3 last else checked at (endChecks n transitions t) (with transitions t) last)
+      go true = stops
+      go false = checked-gives at (endChecks n transitions t) (with transitions t) last (λ p.
+          let e = length-with transitions t in
+          record { few = omega arith; narrow = all-with (k .narrow) (leb-true _ 4 (p .0)); space = leb-true _ 65536 (p .1 .0) })
+
+  transition-keeps : (n : Net) (transitions : List Transition) (at : ℕ) → Transitions n transitions → GivesIf (Transitions n) (transitionPart s n transitions at)
+  unfolding commands transitionPart
+  transition-keeps n transitions at k = standing-gives s at _ (
+    (λ b le p.
+        then-gives (anything (readGuardIf s n (at + 1))) (λ guard more u.
+        then-gives (anything (whole s (arcPart s n) [] more)) (λ arcs last v.
+        ended-keeps n transitions at (record { guard = guard; arcs = arcs }) last k (ltb-true (length transitions) 32 (p .0))))),
+    tt,
+  )
+
+  content-keeps : (start : ℕ) → Gives Limits (content s start)
+  unfolding variablesOf
+  content-keeps start =
+      then-gives (repeat-gives (setPart s) set-keeps _ [] start (record { few = omega arith; sized = end })) (λ sets at a.
+      then-gives (repeat-gives _ (variable-keeps (net sets [] [] [] [])) _ [] at (record { few = omega arith; known = end })) (λ variables at b.
+      then-gives (repeat-gives _ (place-keeps (net sets variables [] [] [])) _ [] at (record { few = omega arith; known = end; colours = omega arith })) (λ places at c.
+      then-gives (repeat-gives _ (transition-keeps (net sets variables places [] [])) _ [] at (record { few = omega arith; narrow = end; space = omega arith })) (λ transitions at d.
+      then-gives (anything (whole s (tokensPart s (net sets variables places transitions [])) [] at)) (λ tokens at e. gives (record {
+        sets = a .few;
+        sizes = λ i. all-at i 0 (a .sized);
+        variables = b .few;
+        variable-sets = λ v. all-at v 0 (b .known);
+        places = c .few;
+        place-sets = λ p. all-at p (single 0) (c .known);
+        flat-places = c .colours;
+        transitions = d .few;
+        few-variables = λ t. all-at t (record { guard = always; arcs = [] }) (d .narrow);
+        space = d .space;
+      }))))))
+
+-- what a net file's reader accepts keeps to the limits
+pub limits : (s : List ℕ) (n : Net) → readNet s ≡ accepted n → Limits n
+unfolding readNet
+limits s n e = go (ltb 16384 (length s)) e
+  where
+    go : (long : Bool) → (if long then refused 1 16384 else outcome (file 0x01 (content s) 0x1F s)) ≡ accepted n → Limits n
+    go true q = let z : _≡_ {A = ℕ} 0 1 = cc in absurd (omega arith)
+    go false q = of-outcome (file-gives s 0x01 (content s) 0x1F (content-keeps s 2)) q

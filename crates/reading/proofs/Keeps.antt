@@ -60,6 +60,11 @@ abbrev pub Each : {A : Type 0} → List ℕ → ℕ → (A → Type 0) → List 
 Each s at P [] = Unit {0}
 Each s at P (c ∷ commands) = Obeyed s at P c × Each s at P commands
 
+-- of any value there is nothing to keep
+pub anything : {A : Type 0} (x : Answer A) → Gives (λ a. Unit {0}) x
+anything (fine a next) = gives tt
+anything (fault number place) = stops
+
 module _ {A : Type 0} {P : A → Type 0} where
   -- from an equation, and to one
   pub to-gives : (x : Answer A) → ((a : A) (next : ℕ) → x ≡ fine a next → P a) → Gives P x
@@ -252,8 +257,14 @@ module _ {A : Type 0} where
       let (a, at, p, q) = then-gave (needed s (command opening 1 ((5 unless eqb (byteAt s 1) 1) ∷ []) content ∷ []) 0) _ e in
       let (c, last, u, v) = then-gave (needed s (command closing 0 [] (fine a) ∷ []) at) _ q in
       let (w, x, y) = checked-gave last ((15 unless eqb last (length s)) ∷ []) c last v in
-      stood-by (needed-gave s 0 _ p) ((λ f g h i. stood-by (needed-gave s at _ u) ((λ j k l m.
-      let z : a ≡ b = cc in
-      let t = eqb-true last (length s) (passed _ w .0) in
-      let n : at + 1 ≡ last = cc in
-      (at, rw z at i, j, n ∙ t)), tt)), tt)
+      stood-by (needed-gave s 0 _ p) (
+        (λ f g h i. stood-by (needed-gave s at _ u) (
+          (λ j k l m.
+              let z : a ≡ b = cc in
+              let t = eqb-true last (length s) (passed _ w .0) in
+              let n : at + 1 ≡ last = cc in
+              (at, rw z at i, j, n ∙ t)),
+          tt,
+        )),
+        tt,
+      )
