@@ -14,49 +14,46 @@ use Rattle.net.specs.Limits.{Limits}
 use Rattle.net.proofs.Shut.{commands}
 
 -- what the parts keep to, over what was read before them
-pub record Sets (sets : List ℕ) : Type 0 where
-  pub few : length sets ≤ 16
-  pub sized : All (λ size. (1 ≤ size) × (size ≤ 64)) sets
+record Sets (sets : List ℕ) : Type 0 where
+  few : length sets ≤ 16
+  sized : All (λ size. (1 ≤ size) × (size ≤ 64)) sets
 
-pub record Variables (n : Net) (variables : List ℕ) : Type 0 where
-  pub few : length variables ≤ 32
-  pub known : All (λ set. set < length (n .sets)) variables
+record Variables (n : Net) (variables : List ℕ) : Type 0 where
+  few : length variables ≤ 32
+  known : All (λ set. set < length (n .sets)) variables
 
-pub record Places (n : Net) (places : List Place) : Type 0 where
-  pub few : length places ≤ 32
-  pub known : All (λ p. every (λ set. ltb set (length (n .sets))) (setsOf p) ≡ true) places
-  pub colours : sum (map (coloursOf n) places) ≤ 4096
+record Places (n : Net) (places : List Place) : Type 0 where
+  few : length places ≤ 32
+  known : All (λ p. every (λ set. ltb set (length (n .sets))) (setsOf p) ≡ true) places
+  colours : sum (map (coloursOf n) places) ≤ 4096
 
-pub record Transitions (n : Net) (transitions : List Transition) : Type 0 where
-  pub few : length transitions ≤ 32
-  pub narrow : All (λ t. length (variablesOf n t) ≤ 4) transitions
-  pub space : bindingSpace n transitions ≤ 65536
+record Transitions (n : Net) (transitions : List Transition) : Type 0 where
+  few : length transitions ≤ 32
+  narrow : All (λ t. length (variablesOf n t) ≤ 4) transitions
+  space : bindingSpace n transitions ≤ 65536
 
 module _ (s : List ℕ) where
   set-keeps : (sets : List ℕ) (at : ℕ) → Sets sets → GivesIf Sets (setPart s sets at)
   unfolding commands setPart
   set-keeps sets at k = standing-gives s at _ (
-    (λ b le p. gives (
+    (λ b le p.
         let size = byteAt s (at + 1) in
         let e = length-with sets size in
         let room = ltb-true (length sets) 16 (p .1 .0) in
-        record {
-          few = omega arith;
-          sized = all-with (k .sized) (leb-true 1 size (both-first (leb 1 size) (leb size 64) (p .0)), leb-true size 64 (both-second (leb 1 size) (leb size 64) (p .0)));
-        }
-        )),
+        let low = leb-true 1 size (both-first (leb 1 size) (leb size 64) (p .0)) in
+        let high = leb-true size 64 (both-second (leb 1 size) (leb size 64) (p .0)) in
+        gives (record { few = omega arith; sized = all-with (k .sized) (low, high) })),
     tt,
   )
 
   variable-keeps : (n : Net) (variables : List ℕ) (at : ℕ) → Variables n variables → GivesIf (Variables n) (variablePart s n variables at)
   unfolding commands variablePart
   variable-keeps n variables at k = standing-gives s at _ (
-    (λ b le p. gives (
+    (λ b le p.
         let set = byteAt s (at + 1) in
         let e = length-with variables set in
         let room = ltb-true (length variables) 32 (p .1 .0) in
-        record { few = omega arith; known = all-with (k .known) (ltb-true set (length (n .sets)) (p .0)) }
-        )),
+        gives (record { few = omega arith; known = all-with (k .known) (ltb-true set (length (n .sets)) (p .0)) })),
     tt,
   )
 
@@ -77,26 +74,26 @@ module _ (s : List ℕ) where
   )
 
   -- where a transition ends
-  abbrev endChecks : Net → List Transition → Transition → List Check
-  endChecks n transitions t = (10 unless leb (length (variablesOf n t)) 4) ∷ (11 unless leb (bindingSpace n (with transitions t)) 65536) ∷ []
-
-  ended-keeps : (n : Net) (transitions : List Transition) (at : ℕ) (t : Transition) (last : ℕ) → Transitions n transitions → length transitions < 32
-      → Gives (Transitions n) (ended s n transitions at t last)
-  ended-keeps n transitions at t last k room = go (eqb (byteAt s last) 0x15)
+  pub ended-gives : {P : List Transition → Type 0} (n : Net) (transitions : List Transition) (at : ℕ) (t : Transition) (last : ℕ)
+      → (leb (length (variablesOf n t)) 4 ≡ true → leb (bindingSpace n (with transitions t)) 65536 ≡ true → P (with transitions t))
+      → Gives P (ended s n transitions at t last)
+  ended-gives {P} n transitions at t last h = go (eqb (byteAt s last) 0x15)
     where
-      go : (stray : Bool) → Gives (Transitions n) (if stray then fault 3 last else checked at (endChecks n transitions t) (with transitions t) last)
+      go : (stray : Bool) → Gives P (if stray then fault 3 last
+          else checked at ((10 unless leb (length (variablesOf n t)) 4) ∷ (11 unless leb (bindingSpace n (with transitions t)) 65536) ∷ []) (with transitions t) last)
       go true = stops
-      go false = checked-gives at (endChecks n transitions t) (with transitions t) last (λ p.
-          let e = length-with transitions t in
-          record { few = omega arith; narrow = all-with (k .narrow) (leb-true _ 4 (p .0)); space = leb-true _ 65536 (p .1 .0) })
+      go false = checked-gives at _ (with transitions t) last (λ p. h (p .0) (p .1 .0))
 
   transition-keeps : (n : Net) (transitions : List Transition) (at : ℕ) → Transitions n transitions → GivesIf (Transitions n) (transitionPart s n transitions at)
   unfolding commands transitionPart
   transition-keeps n transitions at k = standing-gives s at _ (
-    (λ b le p.
+    (λ b le c.
         then-gives (anything (readGuardIf s n (at + 1))) (λ guard more u.
         then-gives (anything (whole s (arcPart s n) [] more)) (λ arcs last v.
-        ended-keeps n transitions at (record { guard = guard; arcs = arcs }) last k (ltb-true (length transitions) 32 (p .0))))),
+        ended-gives n transitions at (record { guard = guard; arcs = arcs }) last (λ p q.
+        let e = length-with transitions (record { guard = guard; arcs = arcs }) in
+        let room = ltb-true (length transitions) 32 (c .0) in
+        record { few = omega arith; narrow = all-with (k .narrow) (leb-true _ 4 p); space = leb-true _ 65536 q })))),
     tt,
   )
 
@@ -120,11 +117,15 @@ module _ (s : List ℕ) where
         space = d .space;
       }))))))
 
+-- what is true of the content of a file is true of the net that its reader accepts
+pub of-accepted : {P : Net → Type 0} (s : List ℕ) {n : Net} → Gives P (content s 2) → readNet s ≡ accepted n → P n
+unfolding readNet
+of-accepted {P} s {n} g e = go (ltb 16384 (length s)) e
+  where
+    go : (long : Bool) → (if long then refused 1 16384 else outcome (file 0x01 (content s) 0x1F s)) ≡ accepted n → P n
+    go true q = let z : _≡_ {A = ℕ} 0 1 = cc in absurd (omega arith)
+    go false q = of-outcome (file-gives s 0x01 (content s) 0x1F g) q
+
 -- what a net file's reader accepts keeps to the limits
 pub limits : (s : List ℕ) (n : Net) → readNet s ≡ accepted n → Limits n
-unfolding readNet
-limits s n e = go (ltb 16384 (length s)) e
-  where
-    go : (long : Bool) → (if long then refused 1 16384 else outcome (file 0x01 (content s) 0x1F s)) ≡ accepted n → Limits n
-    go true q = let z : _≡_ {A = ℕ} 0 1 = cc in absurd (omega arith)
-    go false q = of-outcome (file-gives s 0x01 (content s) 0x1F (content-keeps s 2)) q
+limits s n e = of-accepted s (content-keeps s 2) e

@@ -1,0 +1,181 @@
+-- The trees, arcs and tokens of an accepted net are formed. Assumes nothing.
+use mathlib.Core.Path.{_≡_, refl, sym, ap₂, _∙_}
+use native.Mathlib.Omega.{arith}
+use borrow.Author.Tests.{not-true}
+use Rattle.reading.specs.Basics.{ℕ, _+_, Bool, true, false, not, _&&_, _||_, List, [], _∷_, some, length, ltb, leb, eqb, any, every, find, absent, with, if_then_else_, byteAt, wordAt}
+use Rattle.reading.specs.Reading.{under, accepted, whole}
+use Rattle.reading.proofs.Lists.{All, end, in-all, all-in, in-every}
+use Rattle.reading.proofs.Commands.{both-hold}
+use Rattle.reading.proofs.Keeps.{both-first, both-second, all-with, Gives, gives, GivesIf, anything, repeat-gives, then-gives, under-gives, standing-gives, given-gives}
+use Rattle.net.specs.Net.{Colour, variable, constant, successor, predecessor, Guard, always, opposite, both, either, equal, less, Expression, one, two, all, plus, minus, times, Place, Arc, Transition, Tokens, Net, net, setsOf, coloursOf, placeAt, arcOn, tokensOn, setOf, ceiling, variablesOf, bindingSpace}
+use Rattle.net.specs.Reader.{readExpression, setPart, variablePart, placePart, readGuardIf, arcPart, ended, transitionPart, tokensPart, content, readNet}
+use Rattle.net.specs.Formed.{colourFormed, comparable, guardFormed, ofSets, expressionFormed, once, arcFormed, sameArc, transitionFormed, tokensFormed, sameTokens, Formed, Words}
+use Rattle.net.proofs.Shut.{commands}
+use Rattle.net.proofs.Limits.{ended-gives, of-accepted}
+use Rattle.net.proofs.Trees.{Bytes, word-fits, guard-formed, expression-sound}
+
+-- ---- lists
+every-same : {A : Type 0} (f g : A → Bool) (l : List A) → ((a : A) → f a ≡ g a) → every f l ≡ every g l
+unfolding every
+every-same f g [] h = refl
+every-same f g (a ∷ l) h = ap₂ _&&_ (h a) (every-same f g l h)
+
+-- one more, which is not alike to any before it
+any-with : {A : Type 0} (test : A → Bool) (l : List A) (b : A) → any test l ≡ false → test b ≡ false → any test (with l b) ≡ false
+unfolding any
+any-with test [] b e f = rw f
+any-with test (a ∷ l) b e f = go (test a) e (λ q. any-with test l b q f)
+  where
+    go : (t : Bool) → t || any test l ≡ false → (any test l ≡ false → any test (with l b) ≡ false) → t || any test (with l b) ≡ false
+    go true q ih = q
+    go false q ih = ih q
+
+once-with : {A : Type 0} (alike : A → A → Bool) (l : List A) (b : A) → once alike l ≡ true → absent (find (λ a. alike a b) l) ≡ true → once alike (with l b) ≡ true
+unfolding once any find
+once-with alike [] b e f = refl
+once-with alike (a ∷ l) b e f = go (alike a b) refl f (once-with alike l b (both-second (not (any (alike a) l)) (once alike l) e))
+  where
+    go : (t : Bool) → alike a b ≡ t → absent (if t then some a else find (λ x. alike x b) l) ≡ true
+        → (absent (find (λ x. alike x b) l) ≡ true → once alike (with l b) ≡ true) → not (any (alike a) (with l b)) && once alike (with l b) ≡ true
+    go true p q ih = cc
+    go false p q ih = rw (any-with (alike a) l b (not-true (any (alike a) l) (both-first (not (any (alike a) l)) (once alike l) e)) p, ih q)
+
+-- ---- what is formed in one net is so in any other with the same sets, variables and places
+module _ (n m : Net) (sets : n .sets ≡ m .sets) (variables : n .variables ≡ m .variables) where
+  same-set : (k : Colour) → setOf n k ≡ setOf m k
+  unfolding setOf
+  same-set (variable v) = rw variables
+  same-set (constant set c) = refl
+  same-set (successor k) = same-set k
+  same-set (predecessor k) = same-set k
+
+  same-colour : (k : Colour) → colourFormed n k ≡ colourFormed m k
+  unfolding colourFormed
+  same-colour (variable v) = rw variables
+  same-colour (constant set c) = rw sets
+  same-colour (successor k) = same-colour k
+  same-colour (predecessor k) = same-colour k
+
+  same-comparable : (a b : Colour) → comparable n a b ≡ comparable m a b
+  same-comparable a b = rw (same-colour a, same-colour b, same-set a, same-set b)
+
+  same-guard : (g : Guard) → guardFormed n g ≡ guardFormed m g
+  unfolding guardFormed
+  same-guard always = refl
+  same-guard (opposite g) = same-guard g
+  same-guard (both a b) = ap₂ _&&_ (same-guard a) (same-guard b)
+  same-guard (either a b) = ap₂ _&&_ (same-guard a) (same-guard b)
+  same-guard (equal a b) = same-comparable a b
+  same-guard (less a b) = same-comparable a b
+
+  same-of-sets : (sets : List ℕ) (colours : List Colour) → ofSets n sets colours ≡ ofSets m sets colours
+  unfolding ofSets
+  same-of-sets [] [] = refl
+  same-of-sets [] (k ∷ colours) = refl
+  same-of-sets (set ∷ sets) [] = refl
+  same-of-sets (set ∷ sets) (k ∷ colours) = rw (same-colour k, same-set k, same-of-sets sets colours)
+
+  same-expression : (p : Place) (e : Expression) → expressionFormed n p e ≡ expressionFormed m p e
+  unfolding expressionFormed
+  same-expression p (one count k) = same-of-sets (setsOf p) (k ∷ [])
+  same-expression p (two count a b) = same-of-sets (setsOf p) (a ∷ b ∷ [])
+  same-expression p (all count) = refl
+  same-expression p (plus a b) = rw (same-expression p a, same-expression p b)
+  same-expression p (minus a b) = rw (same-expression p a, same-expression p b)
+  same-expression p (times factor e) = rw (same-expression p e)
+
+  same-transition : n .places ≡ m .places → (t : Transition) → transitionFormed n t ≡ transitionFormed m t
+  same-transition places t = rw (same-guard (t .guard), every-same (arcFormed n) (arcFormed m) (t .arcs) (λ a. rw (same-expression (placeAt n (a .place)) (a .expression), places)))
+
+-- ---- the parts of a file
+-- a ceiling that is u16; every one of a transition
+abbrev low : Arc → Bool
+low a = leb (ceiling (a .expression)) 65535
+
+record Arcs (s : List ℕ) (n : Net) (arcs : List Arc) : Type 0 where
+  formed : All (λ a. arcFormed n a ≡ true) arcs
+  single : once sameArc arcs ≡ true
+  words : Bytes s → All (λ a. low a ≡ true) arcs
+
+record Transitions (s : List ℕ) (n : Net) (transitions : List Transition) : Type 0 where
+  formed : All (λ t. transitionFormed n t ≡ true) transitions
+  words : Bytes s → All (λ t. every low (t .arcs) ≡ true) transitions
+
+record Marked (s : List ℕ) (n : Net) (tokens : List Tokens) : Type 0 where
+  formed : All (λ t. tokensFormed n t ≡ true) tokens
+  single : once sameTokens tokens ≡ true
+  words : Bytes s → All (λ t. leb (t .count) 65535 ≡ true) tokens
+
+module _ (s : List ℕ) (n : Net) where
+  one-more : (arcs : List Arc) (kind p next : ℕ) → Arcs s n arcs → ltb p (length (n .places)) ≡ true → absent (arcOn arcs kind p) ≡ true
+      → Gives (Arcs s n) (under (λ e. with arcs (record { kind = kind; place = p; expression = e })) (readExpression s n (placeAt n p) 16 next))
+  one-more arcs kind p next k here new = under-gives _ (expression-sound s n (placeAt n p) 16 next) (λ e r. record {
+    formed = all-with (k .formed) (both-hold _ _ here (r .formed));
+    single = once-with sameArc arcs (record { kind = kind; place = p; expression = e }) (k .single) new;
+    words = λ bytes. all-with (k .words bytes) (r .word bytes);
+  })
+
+  arc-keeps : (arcs : List Arc) (at : ℕ) → Arcs s n arcs → GivesIf (Arcs s n) (arcPart s n arcs at)
+  unfolding commands arcPart
+  arc-keeps arcs at k = standing-gives s at _ (
+    (λ b le p. one-more arcs 0x16 (byteAt s (at + 1)) (at + 2) k (p .0) (p .1 .0)),
+    ((λ b le p. one-more arcs 0x17 (byteAt s (at + 1)) (at + 2) k (p .0) (p .1 .0)), ((λ b le p. one-more arcs 0x18 (byteAt s (at + 1)) (at + 2) k (p .0) (p .1 .0)), tt)),
+  )
+
+  guard-if-formed : (at : ℕ) → Gives (λ g. guardFormed n g ≡ true) (readGuardIf s n at)
+  unfolding commands readGuardIf guardFormed
+  guard-if-formed at = given-gives s at _ ((λ b le p. guard-formed s n 16 (at + 1)), tt) (gives refl)
+
+  transition-keeps : (transitions : List Transition) (at : ℕ) → Transitions s n transitions → GivesIf (Transitions s n) (transitionPart s n transitions at)
+  unfolding commands transitionPart once
+  transition-keeps transitions at k = standing-gives s at _ (
+    (λ b le p.
+        then-gives (guard-if-formed (at + 1)) (λ guard more u.
+        then-gives (repeat-gives (arcPart s n) arc-keeps _ [] more (record { formed = end; single = refl; words = λ bytes. end })) (λ arcs last v.
+        ended-gives s n transitions at (record { guard = guard; arcs = arcs }) last (λ q r. record {
+          formed = all-with (k .formed) (both-hold _ _ (both-hold _ _ u (in-every (arcFormed n) (v .formed))) (v .single));
+          words = λ bytes. all-with (k .words bytes) (in-every low (v .words bytes));
+        })))),
+    tt,
+  )
+
+  tokens-keep : (tokens : List Tokens) (at : ℕ) → Marked s n tokens → GivesIf (Marked s n) (tokensPart s n tokens at)
+  unfolding commands tokensPart
+  tokens-keep tokens at k = standing-gives s at _ (
+    (λ b le p. gives (record {
+      formed = all-with (k .formed) (p .0);
+      single = once-with sameTokens tokens (record { place = byteAt s (at + 1); rank = wordAt s (at + 2); count = wordAt s (at + 4) }) (k .single) (p .1 .0);
+      words = λ bytes. all-with (k .words bytes) (word-fits s (at + 4) bytes);
+    })),
+    tt,
+  )
+
+-- a net that is read: formed, and of bytes with ceilings and counts that are u16
+record Good (s : List ℕ) (n : Net) : Type 0 where
+  formed : Formed n
+  words : Bytes s → Words n
+
+content-keeps : (s : List ℕ) (start : ℕ) → Gives (Good s) (content s start)
+unfolding once
+content-keeps s start =
+    then-gives (anything (whole s (setPart s) [] start)) (λ sets at a.
+    then-gives (anything (whole s (variablePart s (net sets [] [] [] [])) [] at)) (λ variables at b.
+    then-gives (anything (whole s (placePart s (net sets variables [] [] [])) [] at)) (λ places at c.
+    then-gives (repeat-gives _ (transition-keeps s (net sets variables places [] [])) _ [] at (record { formed = end; words = λ bytes. end })) (λ transitions at d.
+    then-gives (repeat-gives _ (tokens-keep s (net sets variables places transitions [])) _ [] at (record { formed = end; single = refl; words = λ bytes. end })) (λ tokens at e.
+    let n : Net = net sets variables places transitions tokens in
+    gives (record {
+      formed = record {
+        transitions = in-every (transitionFormed n) (in-all transitions (λ t m. sym (same-transition (net sets variables places [] []) n refl refl refl t) ∙ all-in (d .formed) m));
+        tokens = in-every (tokensFormed n) (e .formed);
+        tokens-once = e .single;
+      };
+      words = λ bytes. record { ceilings = in-every (λ t. every low (t .arcs)) (d .words bytes); counts = in-every (λ t. leb (t .count) 65535) (e .words bytes) };
+    }))))))
+
+-- what a net file's reader accepts is formed; where the file is made of bytes, its ceilings and counts are u16
+pub formed : (s : List ℕ) (n : Net) → readNet s ≡ accepted n → Formed n
+formed s n e = of-accepted s (content-keeps s 2) e .formed
+
+pub words : (s : List ℕ) (n : Net) → Bytes s → readNet s ≡ accepted n → Words n
+words s n bytes e = of-accepted s (content-keeps s 2) e .words bytes
