@@ -1,14 +1,16 @@
 -- The trees, arcs and tokens of an accepted net are formed. Assumes nothing.
 use mathlib.Core.Path.{_≡_, refl, sym, ap₂, _∙_}
+use mathlib.Core.List.{List·Memᴰ·not-nil}
+use Prim.Native.Nat.{_≤_, _<_}
 use native.Mathlib.Omega.{arith}
-use borrow.Author.Tests.{not-true}
-use Rattle.reading.specs.Basics.{ℕ, _+_, Bool, true, false, not, _&&_, _||_, List, [], _∷_, some, length, ltb, leb, eqb, any, every, find, absent, with, if_then_else_, byteAt, wordAt}
+use borrow.Author.Tests.{ltb-true, leb-true, eq-eqb, not-true}
+use Rattle.reading.specs.Basics.{ℕ, _+_, Bool, true, false, not, _&&_, _||_, List, [], _∷_, some, length, ltb, leb, any, every, find, absent, with, if_then_else_, byteAt, wordAt}
 use Rattle.reading.specs.Reading.{under, accepted, whole}
-use Rattle.reading.proofs.Lists.{All, end, in-all, all-in, in-every}
+use Rattle.reading.proofs.Lists.{In, in-cases, here, there, All, end, in-all, all-in, in-every, every-in}
 use Rattle.reading.proofs.Commands.{both-hold}
 use Rattle.reading.proofs.Keeps.{both-first, both-second, all-with, Gives, gives, GivesIf, anything, repeat-gives, then-gives, under-gives, standing-gives, given-gives}
-use Rattle.net.specs.Net.{Colour, variable, constant, successor, predecessor, Guard, always, opposite, both, either, equal, less, Expression, one, two, all, plus, minus, times, Place, Arc, Transition, Tokens, Net, net, setsOf, coloursOf, placeAt, arcOn, tokensOn, setOf, ceiling, variablesOf, bindingSpace}
-use Rattle.net.specs.Reader.{readExpression, setPart, variablePart, placePart, readGuardIf, arcPart, ended, transitionPart, tokensPart, content, readNet}
+use Rattle.net.specs.Net.{Colour, variable, constant, successor, predecessor, Guard, always, opposite, both, either, equal, less, Expression, one, two, all, plus, minus, times, Place, Arc, Transition, Tokens, Net, net, setsOf, coloursOf, placeAt, arcOn, tokensOn, setOf, ceiling}
+use Rattle.net.specs.Reader.{readExpression, setPart, variablePart, placePart, readGuardIf, arcPart, transitionPart, tokensPart, content, readNet}
 use Rattle.net.specs.Formed.{colourFormed, comparable, guardFormed, ofSets, expressionFormed, once, arcFormed, sameArc, transitionFormed, tokensFormed, sameTokens, Formed, Words}
 use Rattle.net.proofs.Shut.{commands}
 use Rattle.net.proofs.Limits.{ended-gives, of-accepted}
@@ -179,3 +181,79 @@ formed s n e = of-accepted s (content-keeps s 2) e .formed
 
 pub words : (s : List ℕ) (n : Net) → Bytes s → readNet s ≡ accepted n → Words n
 words s n bytes e = of-accepted s (content-keeps s 2) e .words bytes
+
+-- ---- what follows for each transition, arc and token
+pub found-in : {A : Type 0} (test : A → Bool) (l : List A) {a : A} → find test l ≡ some a → In a l
+unfolding find
+found-in test [] e = let z : _≡_ {A = ℕ} 0 1 = cc in absurd (omega arith)
+found-in test (b ∷ l) {a} e = go (test b) e (found-in test l)
+  where
+    go : (t : Bool) → (if t then some b else find test l) ≡ some a → (find test l ≡ some a → In a l) → In a (b ∷ l)
+    go true q ih = let p : a ≡ b = cc in rw p here
+    go false q ih = there (ih q)
+
+not-any : {A : Type 0} (test : A → Bool) (l : List A) {a : A} → any test l ≡ false → In a l → test a ≡ false
+unfolding any
+not-any test [] e i = absurd (List·Memᴰ·not-nil i)
+not-any test (b ∷ l) {a} e i = in-cases (λ p. rw p (left (test b) e)) (λ k. not-any test l (right (test b) e) k) i
+  where
+    left : (t : Bool) → t || any test l ≡ false → t ≡ false
+    left true q = q
+    left false q = refl
+
+    right : (t : Bool) → t || any test l ≡ false → any test l ≡ false
+    right true q = cc
+    right false q = q
+
+-- an element is found by what it is alike to, where no two are alike
+once-found : {A : Type 0} (alike : A → A → Bool) (l : List A) {a : A} → ((b : A) → alike b b ≡ true) → once alike l ≡ true → In a l → find (λ b. alike b a) l ≡ some a
+unfolding once find
+once-found alike [] r e i = absurd (List·Memᴰ·not-nil i)
+once-found alike (x ∷ l) {a} r e i = in-cases {a = a} {b = x} (λ p. rw (p, r x))
+    (λ k. rw (not-any (alike x) l (not-true (any (alike x) l) (both-first (not (any (alike x) l)) (once alike l) e)) k) (once-found alike l r (both-second (not (any (alike x) l)) (once alike l) e) k)) i
+
+module _ {n : Net} (f : Formed n) where
+  module _ {t : Transition} (i : In t (n .transitions)) where
+    whole-transition : transitionFormed n t ≡ true
+    whole-transition = all-in (every-in (transitionFormed n) (n .transitions) (f .transitions)) i
+
+    abbrev tests : Bool
+    tests = guardFormed n (t .guard) && every (arcFormed n) (t .arcs)
+
+    guard-and-arcs : tests ≡ true
+    guard-and-arcs = both-first tests (once sameArc (t .arcs)) whole-transition
+
+    pub its-guard : guardFormed n (t .guard) ≡ true
+    its-guard = both-first (guardFormed n (t .guard)) (every (arcFormed n) (t .arcs)) guard-and-arcs
+
+    module _ {a : Arc} (j : In a (t .arcs)) where
+      whole-arc : arcFormed n a ≡ true
+      whole-arc = all-in (every-in (arcFormed n) (t .arcs) (both-second (guardFormed n (t .guard)) (every (arcFormed n) (t .arcs)) guard-and-arcs)) j
+
+      -- an arc's place is there, its expression is formed, and it is the one of its kind on its place
+      pub its-place : a .place < length (n .places)
+      its-place = ltb-true (a .place) (length (n .places)) (both-first (ltb (a .place) (length (n .places))) (expressionFormed n (placeAt n (a .place)) (a .expression)) whole-arc)
+
+      pub its-expression : expressionFormed n (placeAt n (a .place)) (a .expression) ≡ true
+      its-expression = both-second (ltb (a .place) (length (n .places))) (expressionFormed n (placeAt n (a .place)) (a .expression)) whole-arc
+
+      pub its-arc : arcOn (t .arcs) (a .kind) (a .place) ≡ some a
+      its-arc = once-found sameArc (t .arcs) (λ b. both-hold _ _ (eq-eqb (b .kind) (b .kind) refl) (eq-eqb (b .place) (b .place) refl)) (both-second tests (once sameArc (t .arcs)) whole-transition) j
+
+  module _ {t : Tokens} (i : In t (n .tokens)) where
+    whole-tokens : tokensFormed n t ≡ true
+    whole-tokens = all-in (every-in (tokensFormed n) (n .tokens) (f .tokens)) i
+
+    -- tokens lie at a rank of a place, and are those found there
+    pub tokens-place : t .place < length (n .places)
+    tokens-place = ltb-true (t .place) (length (n .places)) (both-first (ltb (t .place) (length (n .places))) (ltb (t .rank) (coloursOf n (placeAt n (t .place)))) whole-tokens)
+
+    pub tokens-rank : t .rank < coloursOf n (placeAt n (t .place))
+    tokens-rank = ltb-true (t .rank) (coloursOf n (placeAt n (t .place))) (both-second (ltb (t .place) (length (n .places))) (ltb (t .rank) (coloursOf n (placeAt n (t .place)))) whole-tokens)
+
+    pub tokens-found : tokensOn (n .tokens) (t .place) (t .rank) ≡ some t
+    tokens-found = once-found sameTokens (n .tokens) (λ b. both-hold _ _ (eq-eqb (b .place) (b .place) refl) (eq-eqb (b .rank) (b .rank) refl)) (f .tokens-once) i
+
+-- the counts of a file of bytes
+pub count-word : {n : Net} → Words n → {t : Tokens} → In t (n .tokens) → t .count ≤ 65535
+count-word {n} w {t} i = leb-true (t .count) 65535 (all-in (every-in (λ u. leb (u .count) 65535) (n .tokens) (w .counts)) i)

@@ -1,11 +1,11 @@
 -- An accepted net keeps to the limits: each part of the file keeps what its checks ask. Assumes nothing.
-use mathlib.Core.Path.{_≡_, refl, sym, ap, _∙_}
+use mathlib.Core.Path.{_≡_}
 use mathlib.Core.Bool.{Bool, true, false}
 use Prim.Native.Nat.{_≤_, _<_}
 use native.Mathlib.Omega.{arith}
 use borrow.Author.Tests.{ltb-true, leb-true}
 use Rattle.reading.specs.Basics.{ℕ, _+_, _&&_, List, [], _∷_, length, ltb, leb, eqb, every, map, sum, with, if_then_else_, byteAt}
-use Rattle.reading.specs.Reading.{Answer, fine, fault, accepted, refused, outcome, Check, _unless_, checked, whole, file}
+use Rattle.reading.specs.Reading.{fault, accepted, refused, outcome, _unless_, checked, whole, file}
 use Rattle.reading.proofs.Lists.{All, end}
 use Rattle.reading.proofs.Keeps.{both-first, both-second, all-with, all-at, length-with, Gives, gives, stops, GivesIf, anything, of-outcome, checked-gives, repeat-gives, then-gives, standing-gives, file-gives}
 use Rattle.net.specs.Net.{always, Place, single, pair, Transition, Net, net, setsOf, coloursOf, variablesOf, bindingSpace}
