@@ -1,12 +1,12 @@
 -- What the colours of a binding give: each variable a colour of its set, each weight a u16. Assumes nothing.
-use mathlib.Core.Path.{_≡_, refl}
+use mathlib.Core.Path.{_≡_, refl, subst}
 use Prim.Native.Nat.{_≤_, _<_}
 use native.Mathlib.Omega.{arith}
 use borrow.Author.Tests.{eqb-true}
 use Rattle.reading.specs.Basics.{ℕ, Bool, true, false, List, [], _∷_, map, Option, none, some, length, getD, getElem?, eqb, if_then_else_, given}
 use Rattle.reading.proofs.Lists.{In, at-below, getD-at, at-in}
 use Rattle.firing.specs.Firing.{Weights}
-use Rattle.net.specs.Net.{always, Net, sizeOf, arcOn, variablesOf}
+use Rattle.net.specs.Net.{always, Transition, Net, sizeOf, arcOn, variablesOf}
 use Rattle.net.specs.Values.{holds, weight}
 use Rattle.net.specs.Limits.{Limits}
 use Rattle.net.specs.Formed.{Words}
@@ -32,6 +32,11 @@ binding-stands n l {b} i v lt =
     stands-below (λ w. sizeOf n (getD (n .variables) w 0)) (variablesOf n (transitionAt n (b .transition))) (binding-fits n i .1) v (omega arith)
 
 -- ---- weights of a binding, in a net whose ceilings are u16
+pub record Low (w : Weights) : Type 0 where
+  pub take : (p : ℕ) → w .take p ≤ 65535
+  pub put : (p : ℕ) → w .put p ≤ 65535
+  pub hinder : (p : ℕ) → w .hinder p ≤ 65535
+
 given-low : {A : Type 0} (o : Option A) (f : A → ℕ) → ((a : A) → o ≡ some a → f a ≤ 65535) → given o 0 f ≤ 65535
 given-low none f h = omega arith
 given-low (some a) f h = h a refl
@@ -43,22 +48,23 @@ module _ (n : Net) (w : Words n) {t : ℕ} (there : t < length (n .transitions))
       let i : In (transitionAt n t) (n .transitions) = rw (getD-at (n .transitions) t (record { guard = always; arcs = [] }) e) (at-in (n .transitions) t e) in
       given-low (arcOn (transitionAt n t .arcs) kind (f .place)) (λ a. weight n env (f .rank) (a .expression)) (λ a q. weight-word n w env (f .rank) i (found-in _ (transitionAt n t .arcs) q))
 
-  pub weights-word : (p : ℕ) → (weightsOf n (transitionAt n t) env .take p ≤ 65535) × (weightsOf n (transitionAt n t) env .put p ≤ 65535) × (weightsOf n (transitionAt n t) env .hinder p ≤ 65535)
-  weights-word p = (from 0x16, from 0x17, from 0x18)
+  pub weights-word : Low (weightsOf n (transitionAt n t) env)
+  weights-word = record { take = from 0x16; put = from 0x17; hinder = from 0x18 }
     where
-      from : (kind : ℕ) → given (getElem? (flatPlaces n) p) 0 (arcWeight n (transitionAt n t) env kind) ≤ 65535
-      from kind = given-low (getElem? (flatPlaces n) p) (arcWeight n (transitionAt n t) env kind) (λ f q. arc-word kind f)
+      from : (kind p : ℕ) → given (getElem? (flatPlaces n) p) 0 (arcWeight n (transitionAt n t) env kind) ≤ 65535
+      from kind p = given-low (getElem? (flatPlaces n) p) (arcWeight n (transitionAt n t) env kind) (λ f q. arc-word kind f)
 
-pub effect-word : (n : Net) → Words n → {b : Binding} {e : Weights} → In b (bindings n) → effect n b ≡ some e → (p : ℕ) → (e .take p ≤ 65535) × (e .put p ≤ 65535) × (e .hinder p ≤ 65535)
+-- the effect of a binding
+pub effect-word : (n : Net) → Words n → {b : Binding} {w : Weights} → In b (bindings n) → effect n b ≡ some w → Low w
 unfolding effect
-effect-word n w {b} {e} i q p =
-    let t = transitionAt n (b .transition) in
-    let env = standsFor (variablesOf n t) (b .colours) in
-    go (holds n env (t .guard)) q
+effect-word n words {b} {w} i e = go (holds n env (t .guard)) e
   where
-    go : (h : Bool) → (if h then some (weightsOf n (transitionAt n (b .transition)) (standsFor (variablesOf n (transitionAt n (b .transition))) (b .colours))) else none) ≡ some e
-        → (e .take p ≤ 65535) × (e .put p ≤ 65535) × (e .hinder p ≤ 65535)
-    go true r =
-        let s : weightsOf n (transitionAt n (b .transition)) (standsFor (variablesOf n (transitionAt n (b .transition))) (b .colours)) ≡ e = cc in
-        rw s at (weights-word n w (binding-fits n i .0) (standsFor (variablesOf n (transitionAt n (b .transition))) (b .colours)) p)
-    go false r = let z : _≡_ {A = ℕ} 0 1 = cc in absurd (omega arith)
+    t : Transition
+    t = transitionAt n (b .transition)
+
+    env : ℕ → ℕ
+    env = standsFor (variablesOf n t) (b .colours)
+
+    go : (h : Bool) → (if h then some (weightsOf n t env) else none) ≡ some w → Low w
+    go true q = let s : weightsOf n t env ≡ w = cc in subst Low s (weights-word n words (binding-fits n i .0) env)
+    go false q = let z : _≡_ {A = ℕ} 0 1 = cc in absurd (omega arith)
