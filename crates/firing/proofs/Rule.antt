@@ -1,46 +1,238 @@
--- The firing rule looks at the weights of the marking's own flat places, and keeps their number. Assumes nothing.
-use mathlib.Core.Path.{_≡_, refl, sym, ap, ap₂, _∙_}
-use Prim.Native.Nat.{_≤_, _<_}
+-- The firing rule over all flat places is the rule over a row's arcs. Assumes nothing.
+use mathlib.Core.Path.{_≡_, refl, sym, ap, _∙_}
 use native.Mathlib.Omega.{arith}
-use lib.ListN.{length-map}
-use Rattle.reading.specs.Basics.{ℕ, _+_, _-_, Bool, true, false, _&&_, List, map, length, getD, ltb, leb, if_then_else_, below, any}
-use Rattle.reading.proofs.Lists.{In, of-from, length-from, any-same, map-same}
-use Rattle.firing.specs.Firing.{Weights, Fired, fired, lacks, hindered, moved, spills, fire}
+use native.Mathlib.Nat.{mod-eq-of-lt}
+use Prim.Native.Nat.{_≤_}
+use borrow.Author.Tests.{ltb-true, ltb-false, eqb-true, eqb-false}
+use lib.ListN.{set, length-set}
+use lib.Seq.{getD-set-same, getD-set-other, ext-getD}
+use Rattle.reading.specs.Basics.{ℕ, zero, suc, _+_, _-_, _<_, Bool, true, false, _&&_, _||_, find, List, [], _∷_, map, length, getD, ltb, leb, eqb, if_then_else_, any, below, numbersFrom}
+use Rattle.firing.specs.Firing.{Weights, fired, lacks, hindered, moved, spills, fire}
+use Rattle.firing.specs.Arcs.{Arc, Row, Rising, none, more, Proper, weightIn, weights}
+use Rattle.firing.specs.Steps.{lacking, hindering, spilling, changed, added}
+use Rattle.firing.proofs.Rows.{In, here, there, in-inside, in-weight, weight-in, weight-hit, weight-skip}
 
--- two weights that agree at every flat place below a number
-pub record Agree (n : ℕ) (v w : Weights) : Type 0 where
-  pub take : (p : ℕ) → p < n → v .take p ≡ w .take p
-  pub put : (p : ℕ) → p < n → v .put p ≡ w .put p
-  pub hinder : (p : ℕ) → p < n → v .hinder p ≡ w .hinder p
+-- ---- tests that agree
+-- each holds where the other does
+pub alike : (s t : Bool) → (s ≡ true → t ≡ true) → (t ≡ true → s ≡ true) → s ≡ t
+alike true t f g = sym (f refl)
+alike false true f g = g refl
+alike false false f g = refl
 
-pub fire-same : (v w : Weights) (m : List ℕ) → Agree (length m) v w → fire v m ≡ fire w m
-unfolding fire
-fire-same v w m a = rw (first, second, third, counts)
+-- the first of two that hold
+pub both-first : (s t : Bool) → (s && t) ≡ true → s ≡ true
+both-first true t e = refl
+both-first false t e = e
+
+-- ---- a test of numbers
+-- one of which it holds
+pub some-from : (q : ℕ → Bool) (a n : ℕ) → any q (numbersFrom a n) ≡ true → (p : ℕ) × (p < a + n) × (q p ≡ true)
+unfolding any numbersFrom
+some-from q a zero e = let z : _≡_ {A = ℕ} 0 1 = cc in absurd (omega arith)
+some-from q a (suc n) e = go (q a) refl (some-from q (a + 1) n)
   where
-    under : (p : ℕ) → In p (below (length m)) → p < length m
-    under p i = let h = of-from 0 (length m) i in omega arith
+    go : (t : Bool) → q a ≡ t → (any q (numbersFrom (a + 1) n) ≡ true → (p : ℕ) × (p < a + 1 + n) × (q p ≡ true)) → (p : ℕ) × (p < a + suc n) × (q p ≡ true)
+    go true h later = (a, omega arith, h)
+    go false h later = let r = later (rw h at e) in (r .0, (let l = r .1 in omega arith), r .2)
 
-    move : (p : ℕ) → In p (below (length m)) → moved v m p ≡ moved w m p
-    move p i = ap₂ (λ x y. getD m p 0 - x + y) (a .take p (under p i)) (a .put p (under p i))
-
-    first : any (lacks v m) (below (length m)) ≡ any (lacks w m) (below (length m))
-    first = any-same (lacks v m) (lacks w m) (below (length m)) (λ p i. ap (λ x. ltb (getD m p 0) x) (a .take p (under p i)))
-
-    second : any (hindered v m) (below (length m)) ≡ any (hindered w m) (below (length m))
-    second = any-same (hindered v m) (hindered w m) (below (length m)) (λ p i. ap (λ x. ltb 0 x && leb x (getD m p 0)) (a .hinder p (under p i)))
-
-    third : any (spills v m) (below (length m)) ≡ any (spills w m) (below (length m))
-    third = any-same (spills v m) (spills w m) (below (length m)) (λ p i. ap (λ x. ltb 65535 x) (move p i))
-
-    counts : map (moved v m) (below (length m)) ≡ map (moved w m) (below (length m))
-    counts = map-same (moved v m) (moved w m) (below (length m)) move
-
-pub fire-length : (w : Weights) (m : List ℕ) → length (fire w m .marking) ≡ length m
-unfolding fire
-fire-length w m = go (any (lacks w m) (below (length m))) (any (hindered w m) (below (length m))) (any (spills w m) (below (length m)))
+-- it holds of some number if it holds of p
+pub from-some : (q : ℕ → Bool) (a n p : ℕ) → a ≤ p → p < a + n → q p ≡ true → any q (numbersFrom a n) ≡ true
+unfolding any numbersFrom
+from-some q a zero p l h e = absurd (omega arith)
+from-some q a (suc n) p l h e = go (eqb a p) refl (q a) refl (from-some q (a + 1) n p)
   where
-    go : (a b c : Bool) → length ((if a then fired 3 m else if b then fired 4 m else if c then fired 5 m else fired 0 (map (moved w m) (below (length m)))) .marking) ≡ length m
-    go true b c = refl
-    go false true c = refl
-    go false false true = refl
-    go false false false = length-map (below (length m)) (moved w m) ∙ length-from 0 (length m)
+    go : (s : Bool) → eqb a p ≡ s → (t : Bool) → q a ≡ t → (a + 1 ≤ p → p < a + 1 + n → q p ≡ true → any q (numbersFrom (a + 1) n) ≡ true) → (q a || any q (numbersFrom (a + 1) n)) ≡ true
+    go true i t k later = let j = eqb-true a p i in rw (j, e)
+    go false i true k later = rw k
+    go false i false k later = rw k (let d = eqb-false a p i in later (omega (arith, d)) (omega arith) e)
+
+-- it holds of none below n, so not of p
+pub none-from : (q : ℕ → Bool) (n : ℕ) → any q (below n) ≡ false → (p : ℕ) → p < n → q p ≡ false
+none-from q n e p h = go (q p) refl
+  where
+    go : (t : Bool) → q p ≡ t → q p ≡ false
+    go true k = k ∙ sym (from-some q 0 n p (omega arith) (omega arith) k) ∙ e
+    go false k = k
+
+-- ---- a test of arcs
+-- one of which it holds
+pub some-arc : (t : Arc → Bool) (l : List Arc) → any t l ≡ true → (a : Arc) × In a l × (t a ≡ true)
+unfolding any
+some-arc t [] e = let z : _≡_ {A = ℕ} 0 1 = cc in absurd (omega arith)
+some-arc t (b ∷ l) e = go (t b) refl (some-arc t l)
+  where
+    go : (s : Bool) → t b ≡ s → (any t l ≡ true → (a : Arc) × In a l × (t a ≡ true)) → (a : Arc) × In a (b ∷ l) × (t a ≡ true)
+    go true h later = (b, here, h)
+    go false h later = let r = later (rw h at e) in (r .0, there (r .1), r .2)
+
+-- it holds of some arc if it holds of this one
+pub arc-some : (t : Arc → Bool) {a : Arc} {l : List Arc} → In a l → t a ≡ true → any t l ≡ true
+unfolding any
+arc-some t here e = rw e
+arc-some t (there {b = b} {l = l} i) e = go (t b) (arc-some t i e)
+  where
+    go : (s : Bool) → any t l ≡ true → (s || any t l) ≡ true
+    go true h = refl
+    go false h = h
+
+-- a test of places that only holds where an arc stands is a test of arcs
+pub by-arcs : {n : ℕ} (q : ℕ → Bool) (t : Arc → Bool) (l : List Arc) → Rising n 0 l
+    → ((a : Arc) → In a l → q (a .place) ≡ t a) → ((p : ℕ) → q p ≡ true → 0 < weightIn l p) → any q (below n) ≡ any t l
+by-arcs {n} q t l r same only = alike (any q (below n)) (any t l) to from
+  where
+    to : any q (below n) ≡ true → any t l ≡ true
+    to e =
+        let x = some-from q 0 n e in
+        let y = weight-in l (x .0) (only (x .0) (x .2)) in
+        arc-some t (y .1) (sym (same (y .0) (y .1)) ∙ ap q (y .2) ∙ x .2)
+
+    from : any t l ≡ true → any q (below n) ≡ true
+    from e =
+        let x = some-arc t l e in
+        from-some q 0 n (x .0 .place) (omega arith) (let h = in-inside (x .1) r in omega arith) (same (x .0) (x .1) ∙ x .2)
+
+-- ---- the three tests, over all places and over the arcs
+module _ (m : List ℕ) (row : Row) (proper : Proper (length m) row) where
+  pub lacks-is : any (lacks (weights row) m) (below (length m)) ≡ any (lacking m) (row .takes)
+  lacks-is =
+      by-arcs (lacks (weights row) m) (lacking m) (row .takes) (proper .takes) (λ a i. ap (ltb (getD m (a .place) 0)) (in-weight i (proper .takes)))
+      (λ p e. let h : getD m p 0 < weightIn (row .takes) p = ltb-true _ _ e in omega arith)
+
+  pub hindered-is : any (hindered (weights row) m) (below (length m)) ≡ any (hindering m) (row .hinders)
+  hindered-is =
+      by-arcs (hindered (weights row) m) (hindering m) (row .hinders) (proper .hinders)
+      (λ a i. ap (λ w. ltb 0 w && leb w (getD m (a .place) 0)) (in-weight i (proper .hinders)))
+      (λ p e. ltb-true 0 (weightIn (row .hinders) p) (both-first _ _ e))
+
+  pub spills-is : ((p : ℕ) → getD m p 0 < 65536) → any (spills (weights row) m) (below (length m)) ≡ any (spilling m (row .takes)) (row .puts)
+  spills-is fit =
+      by-arcs (spills (weights row) m) (spilling m (row .takes)) (row .puts) (proper .puts)
+      (λ a i. ap (λ w. ltb 65535 (getD m (a .place) 0 - weightIn (row .takes) (a .place) + w)) (in-weight i (proper .puts)))
+      (λ p e. let h : 65535 < moved (weights row) m p = ltb-true _ _ e in omega (arith, fit p))
+
+-- ---- the change
+-- it keeps the length
+pub length-changed : (f : ℕ → ℕ → ℕ) (l : List Arc) (m : List ℕ) → length (changed f l m) ≡ length m
+unfolding changed
+length-changed f [] m = refl
+length-changed f (a ∷ l) m = length-changed f l (set m (a .place) (f (getD m (a .place) 0) (a .weight))) ∙ length-set m (a .place) (f (getD m (a .place) 0) (a .weight))
+
+-- below the place from which the arcs rise nothing changes
+pub changed-below : (f : ℕ → ℕ → ℕ) {n from : ℕ} {l : List Arc} (m : List ℕ) (p : ℕ) → Rising n from l → p < from → getD (changed f l m) p 0 ≡ getD m p 0
+unfolding changed
+changed-below f m p none h = refl
+changed-below f m p (more {a = a} i k w r) h =
+    changed-below f (set m (a .place) (f (getD m (a .place) 0) (a .weight))) p r (omega arith)
+    ∙ getD-set-other m (a .place) p (f (getD m (a .place) 0) (a .weight)) 0 (λ e. omega arith)
+
+-- each count is changed by the weight at its place
+pub changed-at : (f : ℕ → ℕ → ℕ) {n from : ℕ} {l : List Arc} (m : List ℕ) (p : ℕ) → length m ≡ n → Rising n from l → f (getD m p 0) 0 ≡ getD m p 0
+    → getD (changed f l m) p 0 ≡ f (getD m p 0) (weightIn l p)
+unfolding changed weightIn find
+changed-at f m p e none still = sym still
+changed-at f {n} m p e (more {a = a} {l = l} i k w r) still = go (eqb (a .place) p) refl (changed-at f m′ p (length-set m (a .place) v ∙ e) r)
+  where
+    v : ℕ
+    v = f (getD m (a .place) 0) (a .weight)
+
+    m′ : List ℕ
+    m′ = set m (a .place) v
+
+    go : (t : Bool) → eqb (a .place) p ≡ t → (f (getD m′ p 0) 0 ≡ getD m′ p 0 → getD (changed f l m′) p 0 ≡ f (getD m′ p 0) (weightIn l p)) → getD (changed f l m′) p 0 ≡ f (getD m p 0) (weightIn (a ∷ l) p)
+    go true h later =
+        let q : a .place ≡ p = eqb-true (a .place) p h in
+        changed-below f m′ p r (omega arith)
+        ∙ ap (λ j. getD m′ j 0) (sym q)
+        ∙ getD-set-same m (a .place) v 0 (omega arith)
+        ∙ ap (λ j. f (getD m j 0) (a .weight)) q
+        ∙ ap (f (getD m p 0)) (sym (weight-hit a l p q))
+    go false h later =
+        let d = eqb-false (a .place) p h in
+        let same : getD m′ p 0 ≡ getD m p 0 = getD-set-other m (a .place) p v 0 (λ z. d (sym z)) in
+        later (rw same still) ∙ ap (λ x. f x (weightIn l p)) same ∙ ap (f (getD m p 0)) (sym (weight-skip a l p d))
+
+-- a function of the numbers from a on: how many, and each
+pub length-from : (f : ℕ → ℕ) (a n : ℕ) → length (map f (numbersFrom a n)) ≡ n
+unfolding numbersFrom
+length-from f a zero = refl
+length-from f a (suc n) = ap suc (length-from f (a + 1) n)
+
+pub getD-from : (f : ℕ → ℕ) (a n p : ℕ) → p < n → getD (map f (numbersFrom a n)) p 0 ≡ f (a + p)
+unfolding numbersFrom
+getD-from f a zero p h = absurd (omega arith)
+getD-from f a (suc n) zero h = let e : a ≡ a + 0 = omega arith in ap f e
+getD-from f a (suc n) (suc p) h = getD-from f (a + 1) n p (omega arith) ∙ (let e : a + 1 + p ≡ a + suc p = omega arith in ap f e)
+
+-- of the numbers below n
+pub getD-below : (f : ℕ → ℕ) (n p : ℕ) → p < n → getD (map f (below n)) p 0 ≡ f p
+getD-below f n p h = getD-from f 0 n p h ∙ (let e : 0 + p ≡ p = omega arith in ap f e)
+
+-- the marking after all takes and then all puts
+abbrev pub after : Row → List ℕ → List ℕ
+after row m = changed added (row .puts) (changed _-_ (row .takes) m)
+
+module _ (m : List ℕ) (row : Row) (proper : Proper (length m) row) (fit : (p : ℕ) → getD m p 0 < 65536) where
+  -- each count after that is the rule's
+  counts : (p : ℕ) → moved (weights row) m p < 65536 → getD (after row m) p 0 ≡ moved (weights row) m p
+  counts p h =
+      let less : getD (changed _-_ (row .takes) m) p 0 ≡ getD m p 0 - weightIn (row .takes) p = changed-at _-_ m p refl (proper .takes) (omega arith) in
+      let more : getD (after row m) p 0 ≡ added (getD (changed _-_ (row .takes) m) p 0) (weightIn (row .puts) p) =
+      changed-at added (changed _-_ (row .takes) m) p (length-changed _-_ (row .takes) m) (proper .puts) (omega (arith, fit p)) in
+      more ∙ ap (λ x. added x (weightIn (row .puts) p)) less ∙ mod-eq-of-lt h
+
+  -- where no count passes 65,535 the change is the rule's
+  pub after-is : any (spills (weights row) m) (below (length m)) ≡ false → after row m ≡ map (moved (weights row) m) (below (length m))
+  after-is e = ext-getD 0 (after row m) (map (moved (weights row) m) (below (length m))) (long ∙ sym (length-from (moved (weights row) m) 0 (length m))) each
+    where
+      long : length (after row m) ≡ length m
+      long = length-changed added (row .puts) (changed _-_ (row .takes) m) ∙ length-changed _-_ (row .takes) m
+
+      each : (p : ℕ) → p < length (after row m) → getD (after row m) p 0 ≡ getD (map (moved (weights row) m) (below (length m))) p 0
+      each p h =
+          let inside : p < length m = rw long at h in
+          counts p (omega (arith, ltb-false 65535 (moved (weights row) m p) (none-from (spills (weights row) m) (length m) e p inside)))
+          ∙ sym (getD-below (moved (weights row) m) (length m) p inside)
+
+  -- the rule's answers
+  pub answer-3 : any (lacking m) (row .takes) ≡ true → 3 ≡ fire (weights row) m .answer
+  unfolding fire
+  answer-3 e = simp (lacks-is m row proper ∙ e)
+
+  pub answer-4 : any (lacking m) (row .takes) ≡ false → any (hindering m) (row .hinders) ≡ true → 4 ≡ fire (weights row) m .answer
+  unfolding fire
+  answer-4 e f = simp (lacks-is m row proper ∙ e, hindered-is m row proper ∙ f)
+
+  pub answer-5 : any (lacking m) (row .takes) ≡ false → any (hindering m) (row .hinders) ≡ false → any (spilling m (row .takes)) (row .puts) ≡ true
+      → 5 ≡ fire (weights row) m .answer
+  unfolding fire
+  answer-5 e f g = simp (lacks-is m row proper ∙ e, hindered-is m row proper ∙ f, spills-is m row proper fit ∙ g)
+
+  pub answer-0 : any (lacking m) (row .takes) ≡ false → any (hindering m) (row .hinders) ≡ false → any (spilling m (row .takes)) (row .puts) ≡ false
+      → 0 ≡ fire (weights row) m .answer
+  unfolding fire
+  answer-0 e f g = simp (lacks-is m row proper ∙ e, hindered-is m row proper ∙ f, spills-is m row proper fit ∙ g)
+
+  -- the answer 0 changes the counts as the code does
+  pub fires : {r : ℕ} → r ≡ fire (weights row) m .answer → r ≡ 0 → fired r (after row m) ≡ fire (weights row) m
+  unfolding fire
+  fires {r} e z = go (any (lacks (weights row) m) (below (length m))) (any (hindered (weights row) m) (below (length m))) (any (spills (weights row) m) (below (length m))) refl e
+    where
+      go : (s t u : Bool) → any (spills (weights row) m) (below (length m)) ≡ u
+          → r ≡ (if s then fired 3 m else if t then fired 4 m else if u then fired 5 m else fired 0 (map (moved (weights row) m) (below (length m)))) .answer
+          → fired r (after row m) ≡ (if s then fired 3 m else if t then fired 4 m else if u then fired 5 m else fired 0 (map (moved (weights row) m) (below (length m))))
+      go true t u h a = absurd (omega arith)
+      go false true u h a = absurd (omega arith)
+      go false false true h a = absurd (omega arith)
+      go false false false h a = rw (z, after-is h)
+
+-- any answer but 0 leaves the counts
+pub rests : (w : Weights) (m : List ℕ) {r : ℕ} → r ≡ fire w m .answer → (r ≡ 0 → ⊥) → fired r m ≡ fire w m
+unfolding fire
+rests w m {r} e z = go (any (lacks w m) (below (length m))) (any (hindered w m) (below (length m))) (any (spills w m) (below (length m))) e
+  where
+    go : (s t u : Bool) → r ≡ (if s then fired 3 m else if t then fired 4 m else if u then fired 5 m else fired 0 (map (moved w m) (below (length m)))) .answer
+        → fired r m ≡ (if s then fired 3 m else if t then fired 4 m else if u then fired 5 m else fired 0 (map (moved w m) (below (length m))))
+    go true t u a = rw a
+    go false true u a = rw a
+    go false false true a = rw a
+    go false false false a = absurd (z a)

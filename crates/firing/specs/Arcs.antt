@@ -1,6 +1,6 @@
 -- Weights written as arcs: a row has those above 0, by kind and rising flat place.
 use Prim.Native.Nat.{_≤_, _<_}
-use Rattle.reading.specs.Basics.{ℕ, _+_, _-_, List, [], _∷_, map, getD, eqb, given, find, numbersFrom}
+use Rattle.reading.specs.Basics.{ℕ, _+_, _-_, List, [], _∷_, map, getD, ltb, eqb, given, find, keep, numbersFrom, below}
 use Rattle.firing.specs.Firing.{Weights}
 
 -- an arc of a row: a flat place, and the weight there
@@ -24,6 +24,15 @@ weightIn arcs p = given (find (λ a. eqb (a .place) p) arcs) 0 λ a. a .weight
 -- a row's weights
 abbrev pub weights : Row → Weights
 weights r = record { take = weightIn (r .takes); put = weightIn (r .puts); hinder = weightIn (r .hinders) }
+
+-- ---- the row of some weights
+-- a weight at each of so many flat places as arcs: by rising place, weight 0 not written
+abbrev pub arcsOf : ℕ → (ℕ → ℕ) → List Arc
+arcsOf places weight = keep (λ a. ltb 0 (a .weight)) (map (λ p. record { place = p; weight = weight p }) (below places))
+
+-- the row of some weights
+abbrev pub rowOf : ℕ → Weights → Row
+rowOf places w = record { takes = arcsOf places (w .take); puts = arcsOf places (w .put); hinders = arcsOf places (w .hinder) }
 
 -- ---- rows over n flat places
 -- arcs by rising place, from a place on, all below n, each of a weight above 0

@@ -1,1 +1,218 @@
-// The meanings of this crate stand in specs/.
+// Fires one row that lies in two lent lists, one of places and one of weights. The meanings of this crate stand in specs/.
+ghost use mathlib.Core.Path.{_≡_};
+ghost use Prim.Native.Nat.{ℕ, _<_, _≤_, _-_};
+ghost use mathlib.Core.List.{List};
+ghost use lib.ListN.{length, getD, set};
+ghost use Rattle.reading.specs.Basics.{any};
+ghost use Rattle.firing.specs.Firing.{fire, fired};
+ghost use Rattle.firing.specs.Arcs.{weights, Rising, Proper, weightIn, arcsIn, rowIn};
+ghost use Rattle.firing.specs.Steps.{arcAt, lacking, hindering, Sought, spilling, changedBy, changed, added};
+
+// Where a row's takes, puts and hinders end in the lent lists; each kind starts where the one before it ends.
+pub struct Ends {
+    pub takes: usize,
+    pub puts: usize,
+    pub hinders: usize,
+}
+
+// An element, or 0 past the end.
+fn entry(l: &[u16], i: usize) -> usize
+    ensures { λ r. ⌜ (r ≡ getD (now (l .entry)) i 0) × (r < 65536) ⌝ }
+{
+    if i < l.len() { l[i] as usize } else { 0 }
+}
+
+// The difference, or 0 where more is taken than is there.
+fn less(a: usize, b: usize) -> usize
+    ensures { λ r. ⌜ r ≡ a - b ⌝ }
+{
+    if b <= a { a - b } else { 0 }
+}
+
+// Whether the take number i is above its count.
+fn lacks(places: &[u16], amounts: &[u16], i: usize, m: &[u16]) -> bool
+    ensures { λ r. ⌜ r ≡ lacking (now (m .entry)) (arcAt (now (places .entry)) (now (amounts .entry)) i) ⌝ }
+{
+    entry(m, entry(places, i)) < entry(amounts, i)
+}
+
+// Whether some take is above its count.
+fn some_lacks(places: &[u16], amounts: &[u16], end: usize, m: &[u16]) -> bool
+    ensures { λ r. ⌜ r ≡ any (lacking (now (m .entry))) (arcsIn (now (places .entry)) (now (amounts .entry)) 0 end) ⌝ }
+{
+    let mut i = 0;
+    while i < end {
+        if lacks(places, amounts, i, m) {
+            return true;
+        }
+        i += 1;
+    }
+    false
+}
+
+// Whether the hinder number i has a weight above 0 and not above its count.
+fn hinders(places: &[u16], amounts: &[u16], i: usize, m: &[u16]) -> bool
+    ensures { λ r. ⌜ r ≡ hindering (now (m .entry)) (arcAt (now (places .entry)) (now (amounts .entry)) i) ⌝ }
+{
+    let weight = entry(amounts, i);
+    if weight < 1 {
+        return false;
+    }
+    weight <= entry(m, entry(places, i))
+}
+
+// Whether some hinder is not above its count.
+fn some_hinders(places: &[u16], amounts: &[u16], start: usize, end: usize, m: &[u16]) -> bool
+    ensures { λ r. ⌜ r ≡ any (hindering (now (m .entry))) (arcsIn (now (places .entry)) (now (amounts .entry)) start end) ⌝ }
+{
+    let mut i = start;
+    while i < end {
+        if hinders(places, amounts, i, m) {
+            return true;
+        }
+        i += 1;
+    }
+    false
+}
+
+// The first arc from `from` on whose place is not below p, or the end.
+fn seek(places: &[u16], from: usize, end: usize, p: usize) -> usize
+    ensures { λ r. ⌜ Sought (now (places .entry)) from end p r ⌝ }
+{
+    let mut t = from;
+    while t < end {
+        if p <= entry(places, t) {
+            return t;
+        }
+        t += 1;
+    }
+    t
+}
+
+// The weight at place p of rising arcs from t on, of which none stands below p.
+fn weight_at(places: &[u16], amounts: &[u16], t: usize, end: usize, p: usize) -> usize
+    ensures here { λ r. ⌜ ((n : ℕ) → Rising n 0 (arcsIn (now (places .entry)) (now (amounts .entry)) t end)
+        → (t < end → p ≤ getD (now (places .entry)) t 0) → r ≡ weightIn (arcsIn (now (places .entry)) (now (amounts .entry)) t end) p) ⌝ }
+{
+    if end <= t {
+        return 0;
+    }
+    if entry(places, t) == p {
+        return entry(amounts, t);
+    }
+    0
+}
+
+// Whether the put number i brings its count above 65,535, where the take at its place, if there is one, has number t.
+fn spills(places: &[u16], amounts: &[u16], t: usize, takes: usize, i: usize, m: &[u16]) -> bool
+    ensures { λ r. ⌜ ((n : ℕ) → Rising n 0 (arcsIn (now (places .entry)) (now (amounts .entry)) t takes)
+        → (t < takes → getD (now (places .entry)) i 0 ≤ getD (now (places .entry)) t 0)
+        → r ≡ spilling (now (m .entry)) (arcsIn (now (places .entry)) (now (amounts .entry)) t takes) (arcAt (now (places .entry)) (now (amounts .entry)) i)) ⌝ }
+{
+    let p = entry(places, i);
+    let left = less(entry(m, p), weight_at(places, amounts, t, takes, p));
+    65535 < left + entry(amounts, i)
+}
+
+// Whether some put brings its count above 65,535. Takes and puts stand by rising place, so each take is passed once.
+fn some_spills(places: &[u16], amounts: &[u16], takes: usize, puts: usize, m: &[u16]) -> bool
+    ensures { λ r. ⌜ ((n : ℕ) → Rising n 0 (arcsIn (now (places .entry)) (now (amounts .entry)) 0 takes)
+        → Rising n 0 (arcsIn (now (places .entry)) (now (amounts .entry)) takes puts)
+        → r ≡ any (spilling (now (m .entry)) (arcsIn (now (places .entry)) (now (amounts .entry)) 0 takes))
+        (arcsIn (now (places .entry)) (now (amounts .entry)) takes puts)) ⌝ }
+{
+    let mut t = 0;
+    let mut i = takes;
+    while i < puts {
+        t = seek(places, t, takes, entry(places, i));
+        if spills(places, amounts, t, takes, i, m) {
+            return true;
+        }
+        i += 1;
+    }
+    false
+}
+
+// Stores a count; past the end it stores nothing.
+fn store(m: &mut [u16], p: usize, count: u16)
+    ensures { λ _. ⌜ now (m .exit) ≡ set (now (m .entry)) p count ⌝ }
+{
+    if p < m.len() {
+        m[p] = count;
+    }
+}
+
+// Takes the take number i from its count.
+fn take_one(places: &[u16], amounts: &[u16], i: usize, m: &mut [u16])
+    ensures { λ _. ⌜ now (m .exit) ≡ changedBy _-_ (arcAt (now (places .entry)) (now (amounts .entry)) i) (now (m .entry)) ⌝ }
+{
+    let p = entry(places, i);
+    let count = less(entry(m, p), entry(amounts, i));
+    store(m, p, count as u16);
+}
+
+// Takes every take from its count.
+fn take_all(places: &[u16], amounts: &[u16], end: usize, m: &mut [u16])
+    ensures { λ _. ⌜ now (m .exit) ≡ changed _-_ (arcsIn (now (places .entry)) (now (amounts .entry)) 0 end) (now (m .entry)) ⌝ }
+{
+    let mut i = 0;
+    while i < end {
+        take_one(places, amounts, i, m);
+        i += 1;
+    }
+}
+
+// Adds the put number i to its count.
+fn put_one(places: &[u16], amounts: &[u16], i: usize, m: &mut [u16])
+    ensures { λ _. ⌜ now (m .exit) ≡ changedBy added (arcAt (now (places .entry)) (now (amounts .entry)) i) (now (m .entry)) ⌝ }
+{
+    let p = entry(places, i);
+    let count = entry(m, p) + entry(amounts, i);
+    store(m, p, (count % 65536) as u16);
+}
+
+// Adds every put to its count.
+fn put_all(places: &[u16], amounts: &[u16], start: usize, end: usize, m: &mut [u16])
+    ensures { λ _. ⌜ now (m .exit) ≡ changed added (arcsIn (now (places .entry)) (now (amounts .entry)) start end) (now (m .entry)) ⌝ }
+{
+    let mut i = start;
+    while i < end {
+        put_one(places, amounts, i, m);
+        i += 1;
+    }
+}
+
+// The answer of the firing rule to a row: 3, 4, 5 or 0.
+pub fn answer(places: &[u16], amounts: &[u16], ends: Ends, m: &[u16]) -> u8
+    ensures { λ r. ⌜ (Proper (length (now (m .entry))) (rowIn (now (places .entry)) (now (amounts .entry)) (ends .takes) (ends .puts) (ends .hinders))
+        → r ≡ fire (weights (rowIn (now (places .entry)) (now (amounts .entry)) (ends .takes) (ends .puts) (ends .hinders))) (now (m .entry)) .answer) ⌝ }
+{
+    let takes = ends.takes;
+    let puts = ends.puts;
+    let hinders = ends.hinders;
+    if some_lacks(places, amounts, takes, m) {
+        return 3;
+    }
+    if some_hinders(places, amounts, puts, hinders, m) {
+        return 4;
+    }
+    if some_spills(places, amounts, takes, puts, m) {
+        return 5;
+    }
+    0
+}
+
+// Fires a row: its answer, and the marking after it.
+pub fn fire_row(places: &[u16], amounts: &[u16], ends: Ends, m: &mut [u16]) -> u8
+    ensures { λ r. ⌜ (Proper (length (now (m .entry))) (rowIn (now (places .entry)) (now (amounts .entry)) (ends .takes) (ends .puts) (ends .hinders))
+        → fired r (now (m .exit)) ≡ fire (weights (rowIn (now (places .entry)) (now (amounts .entry)) (ends .takes) (ends .puts) (ends .hinders))) (now (m .entry))) ⌝ }
+{
+    let takes = ends.takes;
+    let puts = ends.puts;
+    let a = answer(places, amounts, ends, m);
+    if a == 0 {
+        take_all(places, amounts, takes, m);
+        put_all(places, amounts, takes, puts, m);
+    }
+    a
+}

@@ -1,1 +1,286 @@
-// The meanings of this crate stand in specs/.
+// Flat nets: how many places and rows a flat file has, firing images on it, and its first row that fires.
+mod reader;
+
+use firing::Ends;
+use firing::answer;
+use firing::fire_row;
+use reader::RowRead;
+use reader::Scan;
+use reader::read_arcs;
+use reader::scan_file;
+use reading::byte_at;
+use reading::long_at;
+ghost use mathlib.Core.Path.{_≡_};
+ghost use Prim.Native.Nat.{ℕ, _<_, _+_, _*_, _/_, _≤_};
+ghost use lib.ListN.{length, take, drop};
+ghost use lib.Dec.{eqb};
+ghost use Rattle.reading.specs.Basics.{below, items};
+ghost use Rattle.reading.specs.Reading.{fine};
+ghost use Rattle.firing.specs.Firing.{fire, fired, first};
+ghost use Rattle.firing.specs.Loops.{Ran, stoppedAt};
+ghost use Rattle.firing.specs.Arcs as arcs;
+ghost use Rattle.firing.specs.Arcs.{Row};
+ghost use Rattle.flat.specs.Flat.{Flat, fireRow, fireImage, fireImages, firstRow, flatSizes};
+ghost use Rattle.flat.specs.Told.{Held, arcsAt};
+ghost use Rattle.flat.specs.Replies.{fireCalled, firstReply, sizesReply};
+
+// How many flat places and rows a flat file has, or the refusal.
+pub enum SizesReply {
+    Counted { places: usize, rows: usize },
+    Refused { number: u8, place: usize },
+}
+
+pub fn flat_sizes(flat: &[u8]) -> SizesReply
+    ensures { λ r. ⌜ sizesReply r ≡ flatSizes (now (flat .entry)) ⌝ }
+{
+    let mut starts = [0usize; 65536];
+    let mut places = [0u16; 12288];
+    let mut weights = [0u16; 12288];
+    match scan_file(flat, &mut starts, &mut places, &mut weights) {
+        Scan::Refused { number, place } => SizesReply::Refused { number, place },
+        Scan::Net {
+            places: count,
+            rows,
+        } => SizesReply::Counted {
+            places: count,
+            rows,
+        },
+    }
+}
+
+// Fires the row whose arcs stand at a place of the file.
+fn fire_at(s: &[u8], start: usize, m: &mut [u16], places: &mut [u16], weights: &mut [u16]) -> u8
+    requires { ⌜ length (now m) ≤ 4096 ⌝ }
+    requires { ⌜ length (now places) ≡ 12288 ⌝ }
+    requires { ⌜ length (now weights) ≡ 12288 ⌝ }
+    ensures { λ r. ⌜ ((row : Row) (next : ℕ) → arcsAt (now (s .entry)) (length (now (m .entry))) start ≡ fine row next
+        → fired r (now (m .exit)) ≡ fire (arcs.weights row) (now (m .entry))) ⌝ }
+{
+    match read_arcs(s, m.len(), start, places, weights) {
+        RowRead::Fault { .. } => 1,
+        RowRead::Whole {
+            takes,
+            puts,
+            hinders,
+            next: _,
+        } => fire_row(
+            places,
+            weights,
+            Ends {
+                takes,
+                puts,
+                hinders,
+            },
+            m,
+        ),
+    }
+}
+
+// Fires the image number i.
+fn turn(
+    s: &[u8],
+    starts: &[usize],
+    rows: usize,
+    m: &mut [u16],
+    images: &[u8],
+    i: usize,
+    places: &mut [u16],
+    weights: &mut [u16],
+) -> u8
+    requires { ⌜ i * 5 + 5 ≤ length (now images) ⌝ }
+    requires { ⌜ rows ≤ length (now starts) ⌝ }
+    requires { ⌜ length (now m) ≤ 4096 ⌝ }
+    requires { ⌜ length (now places) ≡ 12288 ⌝ }
+    requires { ⌜ length (now weights) ≡ 12288 ⌝ }
+    ensures { λ r. ⌜ ((f : Flat) → Held (now (s .entry)) (now (starts .entry)) (length (now (m .entry))) rows f
+        → fired r (now (m .exit)) ≡ fireImage f (take 5 (drop (i * 5) (now (images .entry)))) (now (m .entry))) ⌝ }
+{
+    let at = i * 5;
+    if byte_at(images, at) != 0x61 {
+        return 1;
+    }
+    let row = long_at(images, at + 1);
+    if rows <= row {
+        return 1;
+    }
+    let start = starts[row];
+    fire_at(s, start, m, places, weights)
+}
+
+// Fires the first count images, an answer each.
+fn fire_list(
+    s: &[u8],
+    starts: &[usize],
+    rows: usize,
+    m: &mut [u16],
+    images: &[u8],
+    answers: &mut [u8],
+    places: &mut [u16],
+    weights: &mut [u16],
+)
+    requires { ⌜ length (now images) / 5 ≤ length (now answers) ⌝ }
+    requires { ⌜ rows ≤ length (now starts) ⌝ }
+    requires { ⌜ length (now m) ≤ 4096 ⌝ }
+    requires { ⌜ length (now places) ≡ 12288 ⌝ }
+    requires { ⌜ length (now weights) ≡ 12288 ⌝ }
+    ensures { λ _. ⌜ ((f : Flat) → Held (now (s .entry)) (now (starts .entry)) (length (now (m .entry))) rows f
+        → Ran (fireImage f) (items 5 (now (images .entry))) (now (m .entry)) (now (answers .entry)) (now (m .exit)) (now (answers .exit))) ⌝ }
+{
+    let count = images.len() / 5;
+    let mut i: usize = 0;
+    while i < count {
+        let a = turn(s, starts, rows, m, images, i, places, weights);
+        answers[i] = a;
+        i += 1;
+    }
+}
+
+// What firing a list gives: how many images were answered, or the refusal.
+pub enum FireReply {
+    Answered { count: usize },
+    Refused { number: u8, place: usize },
+}
+
+// Fires a list of images, 5 bytes each, on a flat file and a marking, an answer each. A refusal changes neither list.
+pub fn fire_images(flat: &[u8], marking: &mut [u16], images: &[u8], answers: &mut [u8]) -> FireReply
+    ensures { λ r. ⌜ fireCalled r (now (marking .exit)) (now (answers .exit))
+        ≡ fireImages (now (flat .entry)) (now (marking .entry)) (now (images .entry)) (now (answers .entry)) ⌝ }
+{
+    let mut starts = [0usize; 65536];
+    let mut places = [0u16; 12288];
+    let mut weights = [0u16; 12288];
+    match scan_file(flat, &mut starts, &mut places, &mut weights) {
+        Scan::Refused { number, place } => FireReply::Refused { number, place },
+        Scan::Net {
+            places: count,
+            rows,
+        } => {
+            if marking.len() != count {
+                return FireReply::Refused {
+                    number: 12,
+                    place: 0,
+                };
+            }
+            if images.len() % 5 != 0 {
+                return FireReply::Refused {
+                    number: 13,
+                    place: 0,
+                };
+            }
+            if answers.len() < images.len() / 5 {
+                return FireReply::Refused {
+                    number: 14,
+                    place: 0,
+                };
+            }
+            fire_list(
+                flat,
+                &starts,
+                rows,
+                marking,
+                images,
+                answers,
+                &mut places,
+                &mut weights,
+            );
+            FireReply::Answered {
+                count: images.len() / 5,
+            }
+        }
+    }
+}
+
+// Whether the row whose arcs stand at a place of the file would fire.
+fn fires_at(s: &[u8], start: usize, m: &[u16], places: &mut [u16], weights: &mut [u16]) -> bool
+    requires { ⌜ length (now m) ≤ 4096 ⌝ }
+    requires { ⌜ length (now places) ≡ 12288 ⌝ }
+    requires { ⌜ length (now weights) ≡ 12288 ⌝ }
+    ensures { λ r. ⌜ ((row : Row) (next : ℕ) → arcsAt (now (s .entry)) (length (now (m .entry))) start ≡ fine row next
+        → r ≡ eqb (fire (arcs.weights row) (now (m .entry)) .answer) 0) ⌝ }
+{
+    match read_arcs(s, m.len(), start, places, weights) {
+        RowRead::Fault { .. } => false,
+        RowRead::Whole {
+            takes,
+            puts,
+            hinders,
+            next: _,
+        } => {
+            answer(
+                places,
+                weights,
+                Ends {
+                    takes,
+                    puts,
+                    hinders,
+                },
+                m,
+            )
+                == 0
+        }
+    }
+}
+
+// The number of the first row that fires; the row count where none does.
+fn search_rows(
+    s: &[u8],
+    starts: &[usize],
+    rows: usize,
+    m: &[u16],
+    places: &mut [u16],
+    weights: &mut [u16],
+) -> usize
+    requires { ⌜ rows ≤ length (now starts) ⌝ }
+    requires { ⌜ length (now m) ≤ 4096 ⌝ }
+    requires { ⌜ length (now places) ≡ 12288 ⌝ }
+    requires { ⌜ length (now weights) ≡ 12288 ⌝ }
+    ensures { λ r. ⌜ ((f : Flat) → Held (now (s .entry)) (now (starts .entry)) (length (now (m .entry))) rows f
+        → first (λ i. eqb (fireRow f i (now (m .entry)) .answer) 0) (below rows) ≡ stoppedAt rows r) ⌝ }
+{
+    let mut i: usize = 0;
+    while i < rows {
+        let start = starts[i];
+        if fires_at(s, start, m, places, weights) {
+            return i;
+        }
+        i += 1;
+    }
+    i
+}
+
+// The first row that would be answered 0, or none; with how many were tried. Or the refusal.
+pub enum FirstReply {
+    Found { row: usize, tried: usize },
+    Nothing { tried: usize },
+    Refused { number: u8, place: usize },
+}
+
+pub fn first_row(flat: &[u8], marking: &[u16]) -> FirstReply
+    ensures { λ r. ⌜ firstReply r ≡ firstRow (now (flat .entry)) (now (marking .entry)) ⌝ }
+{
+    let mut starts = [0usize; 65536];
+    let mut places = [0u16; 12288];
+    let mut weights = [0u16; 12288];
+    match scan_file(flat, &mut starts, &mut places, &mut weights) {
+        Scan::Refused { number, place } => FirstReply::Refused { number, place },
+        Scan::Net {
+            places: count,
+            rows,
+        } => {
+            if marking.len() != count {
+                return FirstReply::Refused {
+                    number: 12,
+                    place: 0,
+                };
+            }
+            let row = search_rows(flat, &starts, rows, marking, &mut places, &mut weights);
+            if row < rows {
+                return FirstReply::Found {
+                    row,
+                    tried: row + 1,
+                };
+            }
+            FirstReply::Nothing { tried: rows }
+        }
+    }
+}

@@ -1,131 +1,125 @@
--- An accepted net keeps to the limits: each part of the file keeps what its checks ask. Assumes nothing.
-use mathlib.Core.Path.{_≡_}
-use mathlib.Core.Bool.{Bool, true, false}
+-- An accepted net keeps to its limits. Assumes nothing.
+use mathlib.Core.Path.{_≡_, refl, sym, ap, _∙_}
 use Prim.Native.Nat.{_≤_, _<_}
 use native.Mathlib.Omega.{arith}
-use borrow.Author.Tests.{ltb-true, leb-true}
-use Rattle.reading.specs.Basics.{ℕ, _+_, _&&_, List, [], _∷_, length, ltb, leb, eqb, every, map, sum, with, if_then_else_, byteAt}
-use Rattle.reading.specs.Reading.{fault, accepted, refused, outcome, _unless_, checked, whole, file}
-use Rattle.reading.proofs.Lists.{All, end}
-use Rattle.reading.proofs.Keeps.{both-first, both-second, all-with, all-at, length-with, Gives, gives, stops, GivesIf, anything, of-outcome, checked-gives, repeat-gives, then-gives, standing-gives, file-gives}
-use Rattle.net.specs.Net.{always, Place, single, pair, Transition, Net, net, setsOf, coloursOf, variablesOf, bindingSpace}
-use Rattle.net.specs.Reader.{setPart, variablePart, placePart, readGuardIf, arcPart, ended, transitionPart, tokensPart, content, readNet}
+use borrow.Author.Tests.{leb-true, ltb-true}
+use lib.ListN.{length-append}
+use Rattle.reading.specs.Basics.{ℕ, _+_, _-_, Bool, true, false, _&&_, List, [], _∷_, some, map, length, getD, ltb, leb, eqb, if_then_else_, with, every, sum, byteAt}
+use Rattle.reading.specs.Reading.{Answer, fine, fault, accepted, refused, outcome, _unless_, checked, whole, file}
+use Rattle.reading.proofs.Lists.{All, end, also, all-with, all-getD}
+use Rattle.reading.proofs.Keeps.{no-value, checked-went, then-went, standing-went, repeat-keeps, file-went, outcome-went}
+use Rattle.net.specs.Net.{always, Place, single, pair, Transition, Tokens, Net, net, setsOf, coloursOf, variablesOf, bindingSpace}
+use Rattle.net.specs.Reader.{setPart, variablePart, placePart, arcPart, readGuardIf, transitionPart, tokensPart, content, readNet}
 use Rattle.net.specs.Limits.{Limits}
-use Rattle.net.proofs.Shut.{commands}
 
--- what the parts keep to, over what was read before them
-record Sets (sets : List ℕ) : Type 0 where
-  few : length sets ≤ 16
-  sized : All (λ size. (1 ≤ size) × (size ≤ 64)) sets
+both-true : (a b : Bool) → a && b ≡ true → (a ≡ true) × (b ≡ true)
+both-true true b e = (refl, e)
+both-true false b e = (e, cc)
 
-record Variables (n : Net) (variables : List ℕ) : Type 0 where
-  few : length variables ≤ 32
-  known : All (λ set. set < length (n .sets)) variables
+one-more : {A : Type 0} (l : List A) (a : A) → length (with l a) ≡ length l + 1
+one-more l a = length-append l (a ∷ [])
 
-record Places (n : Net) (places : List Place) : Type 0 where
-  few : length places ≤ 32
-  known : All (λ p. every (λ set. ltb set (length (n .sets))) (setsOf p) ≡ true) places
-  colours : sum (map (coloursOf n) places) ≤ 4096
+-- ---- what each part keeps
+abbrev SetsKeep : List ℕ → Type 0
+SetsKeep sets = (length sets ≤ 16) × All (λ size. (1 ≤ size) × (size ≤ 64)) sets
 
-record Transitions (n : Net) (transitions : List Transition) : Type 0 where
-  few : length transitions ≤ 32
-  narrow : All (λ t. length (variablesOf n t) ≤ 4) transitions
-  space : bindingSpace n transitions ≤ 65536
+set-keeps : (s sets more : List ℕ) (at next : ℕ) → SetsKeep sets → setPart s sets at ≡ some (fine more next) → SetsKeep more
+unfolding setPart
+set-keeps s sets more at next k e = standing-went s at (also (λ holds from q.
+    let size = byteAt s (at + 1) in
+    let (low, high) = both-true (leb 1 size) (leb size 64) (holds .0) in
+    let is : with sets size ≡ more = cc in
+    rw (← is) (omega (arith, one-more sets size, ltb-true (length sets) 16 (holds .1 .0)), all-with (k .1) (leb-true 1 size low, leb-true size 64 high))) end) e
 
-module _ (s : List ℕ) where
-  set-keeps : (sets : List ℕ) (at : ℕ) → Sets sets → GivesIf Sets (setPart s sets at)
-  unfolding commands setPart
-  set-keeps sets at k = standing-gives s at _ (
-    (λ b le p.
-        let size = byteAt s (at + 1) in
-        let e = length-with sets size in
-        let room = ltb-true (length sets) 16 (p .1 .0) in
-        let low = leb-true 1 size (both-first (leb 1 size) (leb size 64) (p .0)) in
-        let high = leb-true size 64 (both-second (leb 1 size) (leb size 64) (p .0)) in
-        gives (record { few = omega arith; sized = all-with (k .sized) (low, high) })),
-    tt,
-  )
+abbrev VariablesKeep : List ℕ → List ℕ → Type 0
+VariablesKeep sets variables = (length variables ≤ 32) × All (λ set. set < length sets) variables
 
-  variable-keeps : (n : Net) (variables : List ℕ) (at : ℕ) → Variables n variables → GivesIf (Variables n) (variablePart s n variables at)
-  unfolding commands variablePart
-  variable-keeps n variables at k = standing-gives s at _ (
-    (λ b le p.
-        let set = byteAt s (at + 1) in
-        let e = length-with variables set in
-        let room = ltb-true (length variables) 32 (p .1 .0) in
-        gives (record { few = omega arith; known = all-with (k .known) (ltb-true set (length (n .sets)) (p .0)) })),
-    tt,
-  )
+variable-keeps : (s : List ℕ) (n : Net) (variables more : List ℕ) (at next : ℕ) → VariablesKeep (n .sets) variables → variablePart s n variables at ≡ some (fine more next)
+    → VariablesKeep (n .sets) more
+unfolding variablePart
+variable-keeps s n variables more at next k e = standing-went s at (also (λ holds from q.
+    let set = byteAt s (at + 1) in
+    let is : with variables set ≡ more = cc in
+    rw (← is) (omega (arith, one-more variables set, ltb-true (length variables) 32 (holds .1 .0)), all-with (k .1) (ltb-true set (length (n .sets)) (holds .0)))) end) e
 
-  -- one more place of either form
-  one-more : (n : Net) (places : List Place) (p : Place) → Places n places → every (λ set. ltb set (length (n .sets))) (setsOf p) ≡ true
-      → ltb (length places) 32 && leb (sum (map (coloursOf n) (with places p))) 4096 ≡ true → Places n (with places p)
-  one-more n places p k sets room =
-      let total = sum (map (coloursOf n) (with places p)) in
-      let e = length-with places p in
-      let few = ltb-true (length places) 32 (both-first (ltb (length places) 32) (leb total 4096) room) in
-      record { few = omega arith; known = all-with (k .known) sets; colours = leb-true total 4096 (both-second (ltb (length places) 32) (leb total 4096) room) }
+abbrev PlacesKeep : Net → List Place → Type 0
+PlacesKeep n places =
+    (length places ≤ 32) × All (λ p. every (λ set. ltb set (length (n .sets))) (setsOf p) ≡ true) places × (sum (map (coloursOf n) places) ≤ 4096)
 
-  place-keeps : (n : Net) (places : List Place) (at : ℕ) → Places n places → GivesIf (Places n) (placePart s n places at)
-  unfolding commands placePart
-  place-keeps n places at k = standing-gives s at _ (
-    (λ b le p. gives (one-more n places (single (byteAt s (at + 1))) k (p .0) (p .1 .0))),
-    ((λ b le p. gives (one-more n places (pair (byteAt s (at + 1)) (byteAt s (at + 2))) k (p .0) (p .1 .0))), tt),
-  )
-
-  -- where a transition ends
-  pub ended-gives : {P : List Transition → Type 0} (n : Net) (transitions : List Transition) (at : ℕ) (t : Transition) (last : ℕ)
-      → (leb (length (variablesOf n t)) 4 ≡ true → leb (bindingSpace n (with transitions t)) 65536 ≡ true → P (with transitions t))
-      → Gives P (ended s n transitions at t last)
-  ended-gives {P} n transitions at t last h = go (eqb (byteAt s last) 0x15)
-    where
-      go : (stray : Bool) → Gives P (if stray then fault 3 last
-          else checked at ((10 unless leb (length (variablesOf n t)) 4) ∷ (11 unless leb (bindingSpace n (with transitions t)) 65536) ∷ []) (with transitions t) last)
-      go true = stops
-      go false = checked-gives at _ (with transitions t) last (λ p. h (p .0) (p .1 .0))
-
-  transition-keeps : (n : Net) (transitions : List Transition) (at : ℕ) → Transitions n transitions → GivesIf (Transitions n) (transitionPart s n transitions at)
-  unfolding commands transitionPart
-  transition-keeps n transitions at k = standing-gives s at _ (
-    (λ b le c.
-        then-gives (anything (readGuardIf s n (at + 1))) (λ guard more u.
-        then-gives (anything (whole s (arcPart s n) [] more)) (λ arcs last v.
-        ended-gives n transitions at (record { guard = guard; arcs = arcs }) last (λ p q.
-        let e = length-with transitions (record { guard = guard; arcs = arcs }) in
-        let room = ltb-true (length transitions) 32 (c .0) in
-        record { few = omega arith; narrow = all-with (k .narrow) (leb-true _ 4 p); space = leb-true _ 65536 q })))),
-    tt,
-  )
-
-  content-keeps : (start : ℕ) → Gives Limits (content s start)
-  unfolding variablesOf
-  content-keeps start =
-      then-gives (repeat-gives (setPart s) set-keeps _ [] start (record { few = omega arith; sized = end })) (λ sets at a.
-      then-gives (repeat-gives _ (variable-keeps (net sets [] [] [] [])) _ [] at (record { few = omega arith; known = end })) (λ variables at b.
-      then-gives (repeat-gives _ (place-keeps (net sets variables [] [] [])) _ [] at (record { few = omega arith; known = end; colours = omega arith })) (λ places at c.
-      then-gives (repeat-gives _ (transition-keeps (net sets variables places [] [])) _ [] at (record { few = omega arith; narrow = end; space = omega arith })) (λ transitions at d.
-      then-gives (anything (whole s (tokensPart s (net sets variables places transitions [])) [] at)) (λ tokens at e. gives (record {
-        sets = a .few;
-        sizes = λ i. all-at i 0 (a .sized);
-        variables = b .few;
-        variable-sets = λ v. all-at v 0 (b .known);
-        places = c .few;
-        place-sets = λ p. all-at p (single 0) (c .known);
-        flat-places = c .colours;
-        transitions = d .few;
-        few-variables = λ t. all-at t (record { guard = always; arcs = [] }) (d .narrow);
-        space = d .space;
-      }))))))
-
--- what is true of the content of a file is true of the net that its reader accepts
-pub of-accepted : {P : Net → Type 0} (s : List ℕ) {n : Net} → Gives P (content s 2) → readNet s ≡ accepted n → P n
-unfolding readNet
-of-accepted {P} s {n} g e = go (ltb 16384 (length s)) e
+place-keeps : (s : List ℕ) (n : Net) (places more : List Place) (at next : ℕ) → PlacesKeep n places → placePart s n places at ≡ some (fine more next) → PlacesKeep n more
+unfolding placePart
+place-keeps s n places more at next k e = standing-went s at (also (kept (single (byteAt s (at + 1)))) (also (kept (pair (byteAt s (at + 1)) (byteAt s (at + 2)))) end)) e
   where
-    go : (long : Bool) → (if long then refused 1 16384 else outcome (file 0x01 (content s) 0x1F s)) ≡ accepted n → P n
-    go true q = let z : _≡_ {A = ℕ} 0 1 = cc in absurd (omega arith)
-    go false q = of-outcome (file-gives s 0x01 (content s) 0x1F g) q
+    kept : (p : Place)
+        → (every (λ set. ltb set (length (n .sets))) (setsOf p) ≡ true) × (((ltb (length places) 32 && leb (sum (map (coloursOf n) (with places p))) 4096) ≡ true) × Unit {0})
+        → (from : ℕ) → fine (with places p) from ≡ fine more next → PlacesKeep n more
+    kept p holds from q =
+        let (fewer, fit) = both-true (ltb (length places) 32) (leb (sum (map (coloursOf n) (with places p))) 4096) (holds .1 .0) in
+        let is : with places p ≡ more = cc in
+        rw (← is) (omega (arith, one-more places p, ltb-true (length places) 32 fewer), all-with (k .1) (holds .0), leb-true (sum (map (coloursOf n) (with places p))) 4096 fit)
 
--- what a net file's reader accepts keeps to the limits
+abbrev TransitionsKeep : Net → List Transition → Type 0
+TransitionsKeep n transitions = (length transitions ≤ 32) × All (λ t. length (variablesOf n t) ≤ 4) transitions × (bindingSpace n transitions ≤ 65536)
+
+transition-keeps : (s : List ℕ) (n : Net) (transitions more : List Transition) (at next : ℕ) → TransitionsKeep n transitions
+    → transitionPart s n transitions at ≡ some (fine more next) → TransitionsKeep n more
+unfolding transitionPart
+transition-keeps s n transitions more at next k e = standing-went s at (also (λ holds from q.
+    then-went (readGuardIf s n from) _ q λ guard arcs-at f g.
+    then-went (whole s (arcPart s n) [] arcs-at) _ g λ arcs last h i.
+    finished (record { guard = guard; arcs = arcs }) last (holds .0) (eqb (byteAt s last) 0x15) i) end) e
+  where
+    finished : (t : Transition) (last : ℕ) → ltb (length transitions) 32 ≡ true → (stray : Bool)
+        → (if stray then fault 3 last
+        else checked at ((10 unless leb (length (variablesOf n t)) 4) ∷ (11 unless leb (bindingSpace n (with transitions t)) 65536) ∷ []) (with transitions t) last) ≡ fine more next
+        → TransitionsKeep n more
+    finished t last room true q = no-value q
+    finished t last room false q =
+        let (holds, is) = checked-went at ((10 unless leb (length (variablesOf n t)) 4) ∷ (11 unless leb (bindingSpace n (with transitions t)) 65536) ∷ []) (with transitions t) last q in
+        rw (← is) (
+          omega (arith, one-more transitions t, ltb-true (length transitions) 32 room),
+          all-with (k .1) (leb-true (length (variablesOf n t)) 4 (holds .0)),
+          leb-true (bindingSpace n (with transitions t)) 65536 (holds .1 .0),
+        )
+
+-- ---- the whole net
+kept : (sets variables : List ℕ) (places : List Place) (transitions : List Transition) (tokens : List Tokens)
+    → SetsKeep sets → VariablesKeep sets variables → PlacesKeep (net sets variables [] [] []) places → TransitionsKeep (net sets variables places [] []) transitions
+    → Limits (net sets variables places transitions tokens)
+unfolding variablesOf
+kept sets variables places transitions tokens a b c d =
+    record {
+      sets = a .0;
+      sizes = λ i lt. all-getD i 0 (a .1) lt;
+      variables = b .0;
+      variable-sets = λ v lt. all-getD v 0 (b .1) lt;
+      places = c .0;
+      place-sets = λ p lt. all-getD p (single 0) (c .1) lt;
+      flat-places = c .2;
+      transitions = d .0;
+      few-variables = λ t lt. all-getD t (record { guard = always; arcs = [] }) (d .1) lt;
+      space = d .2;
+    }
+
+content-keeps : (s : List ℕ) (start : ℕ) {n : Net} {last : ℕ} → content s start ≡ fine n last → Limits n
+content-keeps s start {n} {last} e =
+    then-went (whole s (setPart s) [] start) _ e λ sets at₁ f e.
+    then-went (whole s (variablePart s (net sets [] [] [] [])) [] at₁) _ e λ variables at₂ g e.
+    then-went (whole s (placePart s (net sets variables [] [] [])) [] at₂) _ e λ places at₃ h e.
+    then-went (whole s (transitionPart s (net sets variables places [] [])) [] at₃) _ e λ transitions at₄ i e.
+    then-went (whole s (tokensPart s (net sets variables places transitions [])) [] at₄) _ e λ tokens at₅ j e.
+    let is : net sets variables places transitions tokens ≡ n = cc in
+    rw (← is) (kept sets variables places transitions tokens
+    (repeat-keeps (setPart s) SetsKeep (set-keeps s) (length s - start) start (omega arith, end) f)
+    (repeat-keeps (variablePart s (net sets [] [] [] [])) (VariablesKeep sets) (variable-keeps s (net sets [] [] [] [])) (length s - at₁) at₁ (omega arith, end) g)
+    (repeat-keeps (placePart s (net sets variables [] [] [])) (PlacesKeep (net sets variables [] [] [])) (place-keeps s (net sets variables [] [] [])) (length s - at₂) at₂ (omega arith, end, omega arith) h)
+    (repeat-keeps (transitionPart s (net sets variables places [] [])) (TransitionsKeep (net sets variables places [] [])) (transition-keeps s (net sets variables places [] [])) (length s - at₃) at₃
+    (omega arith, end, omega arith) i))
+
 pub limits : (s : List ℕ) (n : Net) → readNet s ≡ accepted n → Limits n
-limits s n e = of-accepted s (content-keeps s 2) e
+unfolding readNet
+limits s n e = go (ltb 16384 (length s)) e
+  where
+    go : (t : Bool) → (if t then refused 1 16384 else outcome (file 0x01 (content s) 0x1F s)) ≡ accepted n → Limits n
+    go true q = let z : _≡_ {A = ℕ} 0 1 = cc in absurd (omega arith)
+    go false q = outcome-went (file 0x01 (content s) 0x1F s) q λ last f. file-went 0x01 (content s) 0x1F s f λ start next g. content-keeps s start g

@@ -60,3 +60,8 @@ module _ (w : ℕ) (some : 0 < w) where
 -- orders of 6 bytes
 pub of-six : (s : List ℕ) → length s % 6 ≡ 0 → All (λ x. length x ≡ 6) (items 6 s) × (flatMap (λ x. x) (items 6 s) ≡ s)
 of-six s e = items-whole 6 (omega arith) (length s / 6) s (omega arith)
+
+pub joined-sixes : {A : Type 0} (f : A → List ℕ) {l : List A} → All (λ a. length (f a) ≡ 6) l → length (flatMap f l) % 6 ≡ 0
+unfolding flatMap
+joined-sixes f end = refl
+joined-sixes f (also {a = a} {l = l} e p) = let h = joined-sixes f p in rw (length-append (f a) (flatMap f l), e) (omega arith)

@@ -8,7 +8,7 @@ use native.Mathlib.Numerals.{add-one}
 use native.Mathlib.Nat.{eq-or-lt-of-le}
 use borrow.Author.Tests.{eq-eqb, eqb-true}
 use lib.ListN.{length-append, length-map}
-use Rattle.reading.specs.Basics.{ℕ, zero, suc, _+_, Bool, true, false, _&&_, _||_, List, [], _∷_, _++_, map, flatMap, filterMap, Option, none, some, Option·elim, length, getD, getElem?, eqb, if_then_else_, given, numbersFrom, below, any, every, position, sum, same}
+use Rattle.reading.specs.Basics.{ℕ, zero, suc, _+_, Bool, true, false, _&&_, _||_, List, [], _∷_, _++_, map, flatMap, filterMap, Option, none, some, Option·elim, length, getD, getElem?, eqb, if_then_else_, given, with, numbersFrom, below, any, every, position, sum, same}
 
 -- ---- membership
 abbrev pub In : {A : Type 0} → A → List A → Type 0
@@ -38,6 +38,15 @@ module _ {A : Type 0} where
   in-all [] h = end
   in-all (b ∷ l) h = also (h b here) (in-all l (λ a m. h a (there m)))
 
+  pub all-with : {P : A → Type 0} {l : List A} {a : A} → All P l → P a → All P (with l a)
+  all-with end p = also p end
+  all-with (also q r) p = also q (all-with r p)
+
+  pub all-getD : {P : A → Type 0} {l : List A} (i : ℕ) (d : A) → All P l → i < length l → P (getD l i d)
+  all-getD i d end lt = absurd (omega arith)
+  all-getD zero d (also p q) lt = p
+  all-getD (suc i) d (also p q) lt = all-getD i d q (omega arith)
+
   -- what stands at a place is an element, and an element stands at a place
   pub at-in : (l : List A) (i : ℕ) {a : A} → getElem? l i ≡ some a → In a l
   at-in [] i e = let z : _≡_ {A = ℕ} 0 1 = cc in absurd (omega arith)
@@ -64,6 +73,10 @@ module _ {A : Type 0} where
   getD-at (b ∷ l) (suc i) d e = getD-at l i d e
 
 module _ {A B : Type 0} where
+  pub all-map : {P : B → Type 0} (f : A → B) {l : List A} → All (λ a. P (f a)) l → All P (map f l)
+  all-map f end = end
+  all-map f (also p q) = also p (all-map f q)
+
   pub at-map : (f : A → B) (l : List A) (i : ℕ) {a : A} → getElem? l i ≡ some a → getElem? (map f l) i ≡ some (f a)
   at-map f [] i e = let z : _≡_ {A = ℕ} 0 1 = cc in absurd (omega arith)
   at-map f (b ∷ l) zero e = cc
@@ -237,6 +250,11 @@ module _ {A : Type 0} where
   pub map-same : {B : Type 0} (f g : A → B) (l : List A) → ((a : A) → In a l → f a ≡ g a) → map f l ≡ map g l
   map-same f g [] h = refl
   map-same f g (a ∷ l) h = ap₂ _∷_ (h a here) (map-same f g l (λ b m. h b (there m)))
+
+  pub flatMap-same : {B : Type 0} (f g : A → List B) (l : List A) → ((a : A) → In a l → f a ≡ g a) → flatMap f l ≡ flatMap g l
+  unfolding flatMap
+  flatMap-same f g [] h = refl
+  flatMap-same f g (a ∷ l) h = ap₂ _++_ (h a here) (flatMap-same f g l (λ b m. h b (there m)))
 
   pub map-map : {B C : Type 0} (f : A → B) (g : B → C) (l : List A) → map g (map f l) ≡ map (λ a. g (f a)) l
   map-map f g [] = refl

@@ -1,8 +1,8 @@
 -- Unfolding a net, the images of orders, and the way back.
-use Rattle.reading.specs.Basics.{ℕ, zero, suc, _+_, _*_, _/_, _%_, List, [], _∷_, _++_, map, flatMap, filterMap, Option, Option·map, length, getElem?, ltb, leb, eqb, if_then_else_, given, below, keep, position, same, long, items, over}
+use Rattle.reading.specs.Basics.{ℕ, zero, suc, _+_, _*_, _/_, _%_, List, [], _∷_, _++_, map, flatMap, filterMap, Option, Option·map, length, getElem?, ltb, leb, eqb, if_then_else_, given, position, same, long, items, over}
 use Rattle.reading.specs.Reading.{Outcome, accepted, refused, on, Check, _unless_, permitted}
 use Rattle.firing.specs.Firing.{Weights}
-use Rattle.firing.specs.Arcs.{Arc, Row}
+use Rattle.firing.specs.Arcs.{rowOf}
 use Rattle.flat.specs.Flat.{Flat, writeFlat}
 use Rattle.net.specs.Net.{Net, flatPlaceCount, tokensOn}
 use Rattle.net.specs.Reader.{readNet}
@@ -18,14 +18,6 @@ pub record Rowed : Type 0 where
 -- the rows: one for each binding that has an effect, in the order of bindings
 unfoldable pub rows : Net → List Rowed
 rows n = filterMap (λ b. Option·map (λ w. record { order = orderOf b; weights = w }) (effect n b)) (bindings n)
-
--- a weight at each of so many flat places as arcs: by rising place, weight 0 not written
-abbrev pub arcsOf : ℕ → (ℕ → ℕ) → List Arc
-arcsOf places weight = keep (λ a. ltb 0 (a .weight)) (map (λ p. record { place = p; weight = weight p }) (below places))
-
--- the row of some weights
-abbrev pub rowOf : ℕ → Weights → Row
-rowOf places w = record { takes = arcsOf places (w .take); puts = arcsOf places (w .put); hinders = arcsOf places (w .hinder) }
 
 -- the tokens that a flat place starts with, 0 where none are named
 abbrev pub initialAt : Net → FlatPlace → ℕ

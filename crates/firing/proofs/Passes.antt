@@ -1,0 +1,132 @@
+-- Passes over the arcs that stand in two lent lists, one arc a turn. Assumes nothing.
+use mathlib.Core.Path.{_≡_, refl, sym, _∙_}
+use native.Mathlib.Omega.{arith}
+use Prim.Native.Nat.{_≤_}
+use native.Mathlib.Decide.{decLt}
+use borrow.Author.Needs.{zero≤}
+use borrow.Author.Tests.{lt-ltb, le-ltb}
+use Rattle.reading.specs.Basics.{ℕ, zero, suc, _+_, _<_, Bool, true, false, _&&_, List, _∷_, getD, ltb, leb, find, any}
+use Rattle.firing.specs.Arcs.{Arc, Rising, none, more, weightIn, arcsIn}
+use Rattle.firing.specs.Steps.{arcAt, spilling, changedBy, changed, Sought}
+use Rattle.firing.proofs.Rows.{arcs-more, arcs-none, weight-hit, weight-skip, weight-below}
+
+-- the first of rising arcs, and the rest
+rise-first : {n from : ℕ} {a : Arc} {l : List Arc} → Rising n from (a ∷ l) → (from ≤ a .place) × Rising n (a .place + 1) l
+rise-first (more f k w r) = (f, r)
+
+-- the arc number i, of those that end at b
+module _ (places weights : List ℕ) (b i : ℕ) where
+  -- ---- a test of every arc
+  pub any-hit : (t : Arc → Bool) → i < b → t (arcAt places weights i) ≡ true → any t (arcsIn places weights i b) ≡ true
+  unfolding any
+  any-hit t h e = rw (arcs-more places weights b i h, e)
+
+  pub any-miss : (t : Arc → Bool) → i < b → t (arcAt places weights i) ≡ false → any t (arcsIn places weights i b) ≡ any t (arcsIn places weights (i + 1) b)
+  unfolding any
+  any-miss t h e = rw (arcs-more places weights b i h, e)
+
+  pub any-past : (t : Arc → Bool) → b ≤ i → any t (arcsIn places weights i b) ≡ false
+  unfolding any
+  any-past t h = rw (arcs-none places weights b i h)
+
+  -- ---- a change by every arc
+  pub change-on : (f : ℕ → ℕ → ℕ) (m : List ℕ) → i < b
+      → changed f (arcsIn places weights i b) m ≡ changed f (arcsIn places weights (i + 1) b) (changedBy f (arcAt places weights i) m)
+  unfolding changed
+  change-on f m h = rw (arcs-more places weights b i h)
+
+  pub change-past : (f : ℕ → ℕ → ℕ) (m : List ℕ) → b ≤ i → changed f (arcsIn places weights i b) m ≡ m
+  unfolding changed
+  change-past f m h = rw (arcs-none places weights b i h)
+
+  -- ---- the weight at a place, of rising arcs
+  pub weight-here : {p : ℕ} → i < b → getD places i 0 ≡ p → weightIn (arcsIn places weights i b) p ≡ getD weights i 0
+  weight-here {p} h e = rw (arcs-more places weights b i h) (weight-hit (arcAt places weights i) (arcsIn places weights (i + 1) b) p e)
+
+  pub weight-on : {p : ℕ} → i < b → (getD places i 0 ≡ p → ⊥) → weightIn (arcsIn places weights i b) p ≡ weightIn (arcsIn places weights (i + 1) b) p
+  weight-on {p} h e = rw (arcs-more places weights b i h) (weight-skip (arcAt places weights i) (arcsIn places weights (i + 1) b) p e)
+
+  pub weight-past : (p : ℕ) → b ≤ i → weightIn (arcsIn places weights i b) p ≡ 0
+  unfolding weightIn find
+  weight-past p h = rw (arcs-none places weights b i h)
+
+  -- the same, in lent lists
+  pub rise : {n from : ℕ} → i < b → Rising n from (arcsIn places weights i b) → (from ≤ getD places i 0) × Rising n (getD places i 0 + 1) (arcsIn places weights (i + 1) b)
+  rise h r = rise-first (rw (arcs-more places weights b i h) at r)
+
+  -- rising arcs have no weight below the first
+  pub weight-above : {n from p : ℕ} → i < b → Rising n from (arcsIn places weights i b) → p < getD places i 0 → weightIn (arcsIn places weights i b) p ≡ 0
+  weight-above {p = p} h r l = weight-on h (λ e. omega arith) ∙ weight-below p (rise h r .1) (omega arith)
+
+-- ---- looking for an arc
+module _ (places : List ℕ) (from end p : ℕ) where
+  -- none of the arcs passed, those before t, has a weight at p or a later place
+  pub record Seeking (t : ℕ) : Type 0 where
+    pub passed : (weights : List ℕ) (q : ℕ) → p ≤ q → weightIn (arcsIn places weights from end) q ≡ weightIn (arcsIn places weights t end) q
+
+  pub seek-begins : Seeking from
+  seek-begins = record { passed = λ weights q h. refl }
+
+  pub seek-goes : {t : ℕ} → Seeking t → t < end → getD places t 0 < p → Seeking (t + 1)
+  seek-goes {t} s h l = record { passed = λ weights q k. s .passed weights q k ∙ weight-on places weights end t h (λ e. omega arith) }
+
+  pub seek-ends : {t : ℕ} → Seeking t → (t < end → p ≤ getD places t 0) → Sought places from end p t
+  seek-ends s f = record { passed = s .passed; stopped = f }
+
+-- ---- hindering, by the weight
+pub hinders-none : (w count : ℕ) → w < 1 → false ≡ (ltb 0 w && leb w count)
+hinders-none w count h = rw (le-ltb 0 w (omega arith))
+
+pub hinders-some : (w count : ℕ) → 1 ≤ w → leb w count ≡ (ltb 0 w && leb w count)
+hinders-some w count h = rw (lt-ltb 0 w (omega arith))
+
+-- ---- rising arcs, from any number on
+from-0 : {n from : ℕ} {l : List Arc} → Rising n from l → Rising n 0 l
+from-0 none = none
+from-0 (more f k w r) = more zero≤ k w r
+
+module _ (places weights : List ℕ) (b : ℕ) {n : ℕ} (r : Rising n 0 (arcsIn places weights 0 b)) where
+  pub rising-at : (t : ℕ) → Rising n 0 (arcsIn places weights t b)
+  rising-at zero = r
+  rising-at (suc t) = let e : suc t ≡ t + 1 = omega arith in rw e (elim (decLt t b) [ yes h ↦ from-0 (rise places weights b t h (rising-at t) .1) | no h ↦ rw (arcs-none places weights b (t + 1) (omega arith)) none ])
+
+-- ---- the puts, and the takes at their places
+module _ (places weights : List ℕ) (takes puts : ℕ) (m : List ℕ) (n : ℕ) where
+  -- the puts from number i on, each with a take from number t on, tell whether some put spills
+  pub record Spilling (t i : ℕ) : Type 0 where
+    pub from : ℕ
+    pub rest : Rising n from (arcsIn places weights i puts)
+    pub later : (q : ℕ) → from ≤ q → weightIn (arcsIn places weights 0 takes) q ≡ weightIn (arcsIn places weights t takes) q
+    pub same : any (spilling m (arcsIn places weights 0 takes)) (arcsIn places weights takes puts)
+        ≡ any (spilling m (arcsIn places weights 0 takes)) (arcsIn places weights i puts)
+
+  pub spill-begins : Rising n 0 (arcsIn places weights takes puts) → Spilling 0 takes
+  spill-begins r = record { from = 0; rest = r; later = λ q h. refl; same = refl }
+
+  pub spill-ends : {t i : ℕ} → Spilling t i → puts ≤ i → false ≡ any (spilling m (arcsIn places weights 0 takes)) (arcsIn places weights takes puts)
+  spill-ends {t} {i} s h = sym (s .same ∙ any-past places weights puts i (spilling m (arcsIn places weights 0 takes)) h)
+
+  -- the put number i, tested with the take that is found from number t on
+  module _ (rising : Rising n 0 (arcsIn places weights 0 takes)) {t i p t′ : ℕ} {r : Bool} (s : Spilling t i) (h : i < puts)
+      (e : p ≡ getD places i 0) (f : Sought places t takes p t′)
+      (g : (n : ℕ) → Rising n 0 (arcsIn places weights t′ takes) → (t′ < takes → getD places i 0 ≤ getD places t′ 0)
+      → r ≡ spilling m (arcsIn places weights t′ takes) (arcAt places weights i)) where
+    tested : r ≡ spilling m (arcsIn places weights 0 takes) (arcAt places weights i)
+    tested =
+        let first = rise places weights puts i h (s .rest) .0 in
+        let found : weightIn (arcsIn places weights 0 takes) (getD places i 0) ≡ weightIn (arcsIn places weights t′ takes) (getD places i 0) =
+        s .later (getD places i 0) first ∙ f .passed weights (getD places i 0) (omega arith) in
+        rw found (g n (rising-at places weights takes rising t′) (λ l. let k = f .stopped l in omega arith))
+
+    pub spill-hit : r ≡ true → true ≡ any (spilling m (arcsIn places weights 0 takes)) (arcsIn places weights takes puts)
+    spill-hit k = sym (s .same ∙ any-hit places weights puts i (spilling m (arcsIn places weights 0 takes)) h (sym tested ∙ k))
+
+    pub spill-goes : r ≡ false → Spilling t′ (i + 1)
+    spill-goes k =
+        let first = rise places weights puts i h (s .rest) in
+        record {
+          from = getD places i 0 + 1;
+          rest = first .1;
+          later = λ q k. s .later q (let l = first .0 in omega arith) ∙ f .passed weights q (omega arith);
+          same = s .same ∙ any-miss places weights puts i (spilling m (arcsIn places weights 0 takes)) h (sym tested ∙ k);
+        }

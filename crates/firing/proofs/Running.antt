@@ -1,0 +1,298 @@
+-- Lists of orders fired by a loop, calls, and the search for the first that fires, for any engine. Assumes nothing.
+use mathlib.Core.Path.{_≡_, refl, sym, ap, _∙_}
+use Prim.Native.Nat.{_≤_, _<_}
+use native.Mathlib.Omega.{arith}
+use native.Mathlib.Numerals.{add-one}
+use native.Mathlib.Nat.{add-zero, zero-add}
+use borrow.Author.Tests.{le-leb, lt-leb, eq-eqb, ne-eqb}
+use lib.ListN.{set, length-append, length-set, length-map}
+use lib.Seq.{drop-cons, take-all, length-take-le, set-at, append-snoc, getD-take, getD-drop}
+use Rattle.reading.specs.Basics.{ℕ, zero, suc, _+_, _*_, _/_, _%_, Bool, true, false, List, [], _∷_, _++_, map, some, none, length, take, drop, getElem?, if_then_else_, with, numbersFrom, below, eqb, byteAt, wordAt, longAt, items, over}
+use Rattle.reading.specs.Reading.{Outcome, accepted, refused, failing}
+use Rattle.firing.specs.Firing.{Fired, fired, run, ending, First, found, nothing, oneMore, first}
+use Rattle.firing.specs.Calls.{FireCall, fireCall, firstCall}
+use Rattle.firing.specs.Loops.{Ran}
+
+-- ---- lists
+-- the first i and the one after them
+pub take-with : {A : Type 0} (l : List A) (i : ℕ) (a : A) → getElem? l i ≡ some a → take (i + 1) l ≡ with (take i l) a
+take-with {A} l i a e = rw add-one (go l i e)
+  where
+    go : (l : List A) (i : ℕ) → getElem? l i ≡ some a → take (suc i) l ≡ with (take i l) a
+    go [] i e = let z : _≡_ {A = ℕ} 0 1 = cc in absurd (omega arith)
+    go (x ∷ l) zero e = let z : x ≡ a = cc in rw z
+    go (x ∷ l) (suc i) e = ap (λ (t : List A). x ∷ t) (go l i e)
+
+-- where one stands
+pub inside : {A : Type 0} (l : List A) (i : ℕ) (a : A) → getElem? l i ≡ some a → i < length l
+inside [] i a e = let z : _≡_ {A = ℕ} 0 1 = cc in absurd (omega arith)
+inside (x ∷ l) zero a e = omega arith
+inside (x ∷ l) (suc i) a e = omega (arith, inside l i a e)
+
+-- the list round it
+pub split-here : {A : Type 0} (l : List A) (i : ℕ) (a : A) → getElem? l i ≡ some a → l ≡ take i l ++ (a ∷ drop (i + 1) l)
+split-here {A} l i a e = rw add-one (go l i e)
+  where
+    go : (l : List A) (i : ℕ) → getElem? l i ≡ some a → l ≡ take i l ++ (a ∷ drop (suc i) l)
+    go [] i e = let z : _≡_ {A = ℕ} 0 1 = cc in absurd (omega arith)
+    go (x ∷ l) zero e = let z : x ≡ a = cc in rw z
+    go (x ∷ l) (suc i) e = ap (λ (t : List A). x ∷ t) (go l i e)
+
+map-with : {A B : Type 0} (f : A → B) (l : List A) (a : A) → map f (with l a) ≡ with (map f l) (f a)
+map-with f [] a = refl
+map-with f (x ∷ l) a = ap (λ (t : List _). f x ∷ t) (map-with f l a)
+
+getElem-map : {A B : Type 0} (f : A → B) (l : List A) (i : ℕ) (a : A) → getElem? l i ≡ some a → getElem? (map f l) i ≡ some (f a)
+getElem-map f [] i a e = let z : _≡_ {A = ℕ} 0 1 = cc in absurd (omega arith)
+getElem-map f (x ∷ l) zero a e = let z : x ≡ a = cc in rw z
+getElem-map f (x ∷ l) (suc i) a e = getElem-map f l i a e
+
+-- the numbers from a on, and those below n
+numbers-length : (a n : ℕ) → length (numbersFrom a n) ≡ n
+unfolding numbersFrom
+numbers-length a zero = refl
+numbers-length a (suc n) = ap suc (numbers-length (a + 1) n)
+
+numbers-at : (a n i : ℕ) → i < n → getElem? (numbersFrom a n) i ≡ some (a + i)
+unfolding numbersFrom
+numbers-at a zero i h = absurd (omega arith)
+numbers-at a (suc n) zero h = rw add-zero
+numbers-at a (suc n) (suc i) h = numbers-at (a + 1) n i (omega arith) ∙ ap some (let e : a + 1 + i ≡ a + suc i = omega arith in e)
+
+pub length-below : (n : ℕ) → length (below n) ≡ n
+length-below n = numbers-length 0 n
+
+pub below-at : (n i : ℕ) → i < n → getElem? (below n) i ≡ some i
+below-at n i h = rw zero-add at (numbers-at 0 n i h)
+
+-- ---- the items of a list, so many bytes each
+module _ (width : ℕ) (bytes : List ℕ) where
+  abbrev pub item : ℕ → List ℕ
+  item i = take width (drop (i * width) bytes)
+
+  pub length-items : length (items width bytes) ≡ length bytes / width
+  length-items = length-map (below (length bytes / width)) item ∙ length-below (length bytes / width)
+
+  pub item-at : (i : ℕ) → i < length bytes / width → getElem? (items width bytes) i ≡ some (item i)
+  item-at i h = getElem-map item (below (length bytes / width)) i i (below-at (length bytes / width) i h)
+
+  -- the numbers in an item stand in the whole list
+  pub item-byte : (i k : ℕ) → k < width → byteAt (item i) k ≡ byteAt bytes (i * width + k)
+  item-byte i k h = getD-take width (drop (i * width) bytes) k 0 h ∙ getD-drop (i * width) bytes k 0
+
+  pub item-word : (i k : ℕ) → k + 1 < width → wordAt (item i) k ≡ wordAt bytes (i * width + k)
+  item-word i k h =
+      let e : i * width + (k + 1) ≡ i * width + k + 1 = omega arith in
+      rw (item-byte i k (omega arith), item-byte i (k + 1) h, e)
+
+  pub item-long : (i k : ℕ) → k + 3 < width → longAt (item i) k ≡ longAt bytes (i * width + k)
+  item-long i k h =
+      let e : i * width + (k + 2) ≡ i * width + k + 2 = omega arith in
+      let low = item-word i k (omega arith) in
+      let high : wordAt (item i) (k + 2) ≡ wordAt bytes (i * width + k + 2) = item-word i (k + 2) (omega arith) ∙ ap (wordAt bytes) e in
+      omega arith
+
+-- ---- one turn after another
+module _ {Order : Type 0} (turn : Order → List ℕ → Fired) where
+  pub length-run : (m : List ℕ) (l : List Order) → length (run turn m l) ≡ length l
+  unfolding run
+  length-run m [] = refl
+  length-run m (o ∷ l) = ap suc (length-run (turn o m .marking) l)
+
+  -- one order more meets what the others left
+  pub run-with : (m : List ℕ) (l : List Order) (o : Order) → run turn m (with l o) ≡ with (run turn m l) (turn o (ending m (run turn m l)))
+  unfolding run ending
+  run-with m [] o = refl
+  run-with m (x ∷ l) o = ap (λ (t : List Fired). turn x m ∷ t) (run-with (turn x m .marking) l o)
+
+pub ending-with : (m : List ℕ) (l : List Fired) (f : Fired) → ending m (with l f) ≡ f .marking
+unfolding ending
+ending-with m [] f = refl
+ending-with m (x ∷ l) f = ending-with (x .marking) l f
+
+-- one more stored behind what is written
+pub over-set : (written lent : List ℕ) (i a : ℕ) → length written ≡ i → i < length lent → set (over written lent) i a ≡ over (with written a) lent
+over-set written lent i a n h =
+    let e : length (with written a) ≡ suc i = rw (← n) (length-append written (a ∷ []) ∙ add-one (length written)) in
+    rw (e, n, drop-cons lent i 0 h, set-at written _ _ a i n, append-snoc)
+
+-- ---- the loop that fires a list in turn, on the marking in place, and stores the answers
+-- `first` is the marking handed in, `old` the lent answers as they were; i orders are fired
+pub record Running {Order : Type 0} (turn : Order → List ℕ → Fired) (orders : List Order) (first old m answers : List ℕ) (i : ℕ) : Type 0 where
+  pub counts : m ≡ ending first (run turn first (take i orders))
+  pub told : answers ≡ over (map (λ f. f .answer) (run turn first (take i orders))) old
+  pub same-m : length m ≡ length first
+  pub same-a : length answers ≡ length old
+  pub most : i ≤ length orders
+
+module _ {Order : Type 0} (turn : Order → List ℕ → Fired) (orders : List Order) (first old : List ℕ) where
+  pub run-begin : Running turn orders first old first old 0
+  unfolding run ending
+  run-begin = record { counts = refl; told = refl; same-m = refl; same-a = refl; most = omega arith }
+
+  module _ {m answers : List ℕ} {i : ℕ} (here : Running turn orders first old m answers i) where
+    pub run-turn : {order : Order} (a : ℕ) (m′ : List ℕ) → getElem? orders i ≡ some order → length orders ≤ length old
+        → fired a m′ ≡ turn order m → length m′ ≡ length m → Running turn orders first old m′ (set answers i a) (i + 1)
+    run-turn {order} a m′ is room e len =
+        let lt = inside orders i order is in
+        let so : List Fired = run turn first (take i orders) in
+        let before : List ℕ = map (λ f. f .answer) so in
+        let f : Fired = turn order (ending first so) in
+        let more : run turn first (take (i + 1) orders) ≡ with so f = rw (take-with orders i order is, run-with turn first (take i orders) order) in
+        let this : fired a m′ ≡ f = e ∙ ap (turn order) (here .counts) in
+        let many : length before ≡ i = length-map so (λ f. f .answer) ∙ length-run turn first (take i orders) ∙ length-take-le i orders (omega arith) in
+        let stored : set answers i a ≡ over (with before a) old = rw (here .told) (over-set before old i a many (omega arith)) in
+        record {
+          counts = rw (more, ending-with first so f) (ap (λ (x : Fired). x .marking) this);
+          told = stored ∙ rw (more, map-with (λ f. f .answer) so f) (ap (λ (x : Fired). over (with before (x .answer)) old) this);
+          same-m = len ∙ here .same-m;
+          same-a = length-set answers i a ∙ here .same-a;
+          most = omega arith;
+        }
+
+    pub run-end : length orders ≤ i → Ran turn orders first old m answers
+    run-end le =
+        let all : take i orders ≡ orders = take-all i orders le in
+        record { counts = rw all at (here .counts); told = rw all at (here .told); same-m = here .same-m; same-a = here .same-a }
+
+-- the same for orders of so many bytes each, which stand in one list
+module _ (turn : List ℕ → List ℕ → Fired) (width : ℕ) (bytes first old : List ℕ) {m answers : List ℕ} {i : ℕ} (here : Running turn (items width bytes) first old m answers i) where
+  pub run-item : (a : ℕ) (m′ : List ℕ) → i < length bytes / width → length bytes / width ≤ length old
+      → fired a m′ ≡ turn (item width bytes i) m → length m′ ≡ length m → Running turn (items width bytes) first old m′ (set answers i a) (i + 1)
+  run-item a m′ lt room e len =
+      let n = length-items width bytes in
+      run-turn turn (items width bytes) first old here a m′ (item-at width bytes i lt) (omega arith) e len
+
+  pub run-items-end : length bytes / width ≤ i → Ran turn (items width bytes) first old m answers
+  run-items-end le = let n = length-items width bytes in run-end turn (items width bytes) first old here (omega arith)
+
+-- ---- the call that fires a list
+abbrev pub called : Outcome ℕ → List ℕ → List ℕ → FireCall
+called result m answers = record { result = result; marking = m; answers = answers }
+
+module _ {Net : Type 0} (places : Net → ℕ) (width : ℕ) (turn : Net → List ℕ → List ℕ → Fired) (read : Outcome Net) (m orders answers : List ℕ) where
+  -- the file is refused
+  pub call-refused : {k p : ℕ} → read ≡ refused k p → called (refused k p) m answers ≡ fireCall places width turn read m orders answers
+  unfolding fireCall
+  call-refused e = rw e
+
+  module _ {net : Net} (is : read ≡ accepted net) where
+    -- the marking has another length
+    pub call-12 : (length m ≡ places net → ⊥) → called (refused 12 0) m answers ≡ fireCall places width turn read m orders answers
+    unfolding fireCall failing
+    call-12 h = rw (is, ne-eqb (length m) (places net) h)
+
+    module _ (fits : length m ≡ places net) where
+      -- the orders are not whole
+      pub call-13 : (length orders % width ≡ 0 → ⊥) → called (refused 13 0) m answers ≡ fireCall places width turn read m orders answers
+      unfolding fireCall failing
+      call-13 h = rw (is, eq-eqb (length m) (places net) fits, ne-eqb (length orders % width) 0 h)
+
+      module _ (whole : length orders % width ≡ 0) where
+        -- there is no room for the answers
+        pub call-14 : length answers < length orders / width → called (refused 14 0) m answers ≡ fireCall places width turn read m orders answers
+        unfolding fireCall failing
+        call-14 h = rw (is, eq-eqb (length m) (places net) fits, eq-eqb (length orders % width) 0 whole, lt-leb (length orders / width) (length answers) h)
+
+        -- all orders are fired
+        pub call-done : (m′ answers′ : List ℕ) → length orders / width ≤ length answers → Ran (turn net) (items width orders) m answers m′ answers′
+            → called (accepted (length orders / width)) m′ answers′ ≡ fireCall places width turn read m orders answers
+        unfolding fireCall failing
+        call-done m′ answers′ room ran =
+            rw (
+              is,
+              eq-eqb (length m) (places net) fits,
+              eq-eqb (length orders % width) 0 whole,
+              le-leb (length orders / width) (length answers) room,
+              length-run (turn net) m (items width orders),
+              length-items width orders,
+              ran .counts,
+              ran .told,
+            )
+
+-- ---- the search for the first that passes a test
+-- what a search tells, after so many that fail
+abbrev pub after : {A : Type 0} → ℕ → First A → First A
+after n (found a tried) = found a (n + tried)
+after n (nothing tried) = nothing (n + tried)
+
+after-none : {A : Type 0} (x : First A) → x ≡ after 0 x
+after-none (found a tried) = ap (found a) (sym (zero-add tried))
+after-none (nothing tried) = ap nothing (sym (zero-add tried))
+
+after-more : {A : Type 0} (n : ℕ) (x : First A) → oneMore (after n x) ≡ after (n + 1) x
+after-more n (found a tried) = let e : n + tried + 1 ≡ n + 1 + tried = omega arith in ap (found a) e
+after-more n (nothing tried) = let e : n + tried + 1 ≡ n + 1 + tried = omega arith in ap nothing e
+
+-- behind some that all fail stands the rest
+pub first-past : {A : Type 0} (test : A → Bool) (seen rest : List A) (n : ℕ) → first test seen ≡ nothing n → first test (seen ++ rest) ≡ after n (first test rest)
+unfolding first
+first-past test [] rest n e = let z : n ≡ 0 = cc in rw z (after-none (first test rest))
+first-past {A} test (x ∷ seen) rest n e = go (test x) (first test seen) refl e (first-past test seen rest)
+  where
+    go : (t : Bool) (f : First A) → first test seen ≡ f → (if t then found x 1 else oneMore f) ≡ nothing n
+        → ((k : ℕ) → first test seen ≡ nothing k → first test (seen ++ rest) ≡ after k (first test rest))
+        → (if t then found x 1 else oneMore (first test (seen ++ rest))) ≡ after n (first test rest)
+    go true f q e ih = let z : _≡_ {A = ℕ} 0 1 = cc in absurd (omega arith)
+    go false (found a k) q e ih = let z : _≡_ {A = ℕ} 0 1 = cc in absurd (omega arith)
+    go false (nothing k) q e ih = let z : n ≡ k + 1 = cc in rw (z, ih k q) (after-more k (first test rest))
+
+-- none of the first i passes
+pub record Searching {A : Type 0} (test : A → Bool) (l : List A) (i : ℕ) : Type 0 where
+  pub none : first test (take i l) ≡ nothing i
+  pub most : i ≤ length l
+
+module _ {A : Type 0} (test : A → Bool) (l : List A) where
+  pub search-begin : Searching test l 0
+  unfolding first
+  search-begin = record { none = refl; most = omega arith }
+
+  module _ {i : ℕ} (here : Searching test l i) where
+    -- number i fails too, passes, or there is none
+    pub search-step : (a : A) → getElem? l i ≡ some a → test a ≡ false → Searching test l (i + 1)
+    unfolding first
+    search-step a is e =
+        let lt = inside l i a is in
+        record { none = rw (take-with l i a is, first-past test (take i l) (a ∷ []) i (here .none), e); most = omega arith }
+
+    pub search-found : (a : A) → getElem? l i ≡ some a → test a ≡ true → first test l ≡ found a (i + 1)
+    unfolding first
+    search-found a is e = ap (first test) (split-here l i a is) ∙ rw (first-past test (take i l) (a ∷ drop (i + 1) l) i (here .none), e)
+
+    pub search-none : length l ≤ i → first test l ≡ nothing (length l)
+    search-none le = let n : i ≡ length l = omega (arith, here .most) in rw (← n) (rw (take-all i l le) at (here .none))
+
+-- the same for the numbers below n
+module _ (test : ℕ → Bool) (n : ℕ) {i : ℕ} (here : Searching test (below n) i) where
+  pub below-step : i < n → test i ≡ false → Searching test (below n) (i + 1)
+  below-step lt e = search-step test (below n) here i (below-at n i lt) e
+
+  pub below-found : i < n → test i ≡ true → first test (below n) ≡ found i (i + 1)
+  below-found lt e = search-found test (below n) here i (below-at n i lt) e
+
+  pub below-none : n ≤ i → first test (below n) ≡ nothing n
+  below-none le = let k = length-below n in search-none test (below n) here (omega arith) ∙ ap nothing k
+
+-- ---- the call for the first that fires
+module _ {Net A : Type 0} (places : Net → ℕ) (candidates : Net → List A) (turn : Net → A → List ℕ → Fired) (read : Outcome Net) (m : List ℕ) where
+  pub first-refused : {k p : ℕ} → read ≡ refused k p → refused k p ≡ firstCall places candidates turn read m
+  unfolding firstCall
+  first-refused e = rw e
+
+  module _ {net : Net} (is : read ≡ accepted net) where
+    pub first-12 : (length m ≡ places net → ⊥) → refused 12 0 ≡ firstCall places candidates turn read m
+    unfolding firstCall failing
+    first-12 h = rw (is, ne-eqb (length m) (places net) h)
+
+    -- the one that passes, or none
+    module _ (fits : length m ≡ places net) where
+      pub first-is : {x : First A} → first (λ a. eqb (turn net a m .answer) 0) (candidates net) ≡ x → accepted x ≡ firstCall places candidates turn read m
+      unfolding firstCall failing
+      first-is e = rw (is, eq-eqb (length m) (places net) fits, e)
+
+      module _ {i : ℕ} (here : Searching (λ a. eqb (turn net a m .answer) 0) (candidates net) i) where
+        pub first-found : (a : A) → getElem? (candidates net) i ≡ some a → turn net a m .answer ≡ 0 → accepted (found a (i + 1)) ≡ firstCall places candidates turn read m
+        first-found a at e = first-is (search-found (λ a. eqb (turn net a m .answer) 0) (candidates net) here a at (eq-eqb (turn net a m .answer) 0 e))
+
+        pub first-none : length (candidates net) ≤ i → accepted (nothing (length (candidates net))) ≡ firstCall places candidates turn read m
+        first-none le = first-is (search-none (λ a. eqb (turn net a m .answer) 0) (candidates net) here le)

@@ -1,0 +1,12 @@
+use borrow.Author.Needs.{needs}
+use Rattle.firing.proofs.lacks.Statement.{statement}
+use Rattle.firing.proofs.lacks.Tie as tie
+
+pub lacks-spec : {M : Type 1} → statement M
+lacks-spec =
+    tie.close
+    (tie.spec
+    (λ c κs. search needs)
+    (λ c κs. search needs)
+    (λ c κs. search needs)
+    (λ c. cc))

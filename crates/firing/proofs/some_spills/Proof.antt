@@ -1,0 +1,30 @@
+use borrow.Author.Needs.{needs}
+use native.Mathlib.Omega.{arith}
+use Prim.Native.Nat.{ℕ, _-_}
+use Rattle.firing.specs.Arcs.{Rising, arcsIn}
+use Rattle.firing.proofs.Passes.{Spilling, spill-begins, spill-hit, spill-goes, spill-ends}
+use Rattle.firing.proofs.some_spills.Statement.{statement}
+use Rattle.firing.proofs.some_spills.Tie as tie
+
+abbrev Inv-loop : tie.InvT-loop
+Inv-loop places amounts takes puts m t₀ i₀ t i =
+    (n : ℕ) → Rising n 0 (arcsIn places amounts 0 takes) → Rising n 0 (arcsIn places amounts takes puts) → Spilling places amounts takes puts m n t i
+
+abbrev μ-loop : tie.MeasureT-loop
+μ-loop places amounts takes puts m t₀ i₀ t i = puts - i
+
+pub some-spills-spec : {M : Type 1} → statement M
+some-spills-spec =
+    tie.close
+    (tie.spec
+    Inv-loop
+    μ-loop
+    (λ c n r s. spill-begins _ _ _ _ _ _ s)
+    (λ c κs. search needs)
+    (λ c κs. search needs)
+    (λ c κs. search needs)
+    (λ c n r s. spill-hit _ _ _ _ _ _ r (c .before .before .before .before .before .loop .inv n r s) (c .before .before .before .before .loop-test .taken) (c .before .before .before .entry .ensures .0) (c .before .before .seek .ensures) (c .before .spills .ensures) (c .if1 .taken))
+    (λ c. omega arith)
+    (λ c. omega arith)
+    (λ c n r s. spill-goes _ _ _ _ _ _ r (c .before .before .before .before .before .loop .inv n r s) (c .before .before .before .before .loop-test .taken) (c .before .before .before .entry .ensures .0) (c .before .before .seek .ensures) (c .before .spills .ensures) (c .if1 .left))
+    (λ c n r s. spill-ends _ _ _ _ _ _ (c .before .loop .inv n r s) (c .loop-test .left)))

@@ -1,0 +1,17 @@
+use borrow.Author.Needs.{needs}
+use native.Mathlib.Omega.{arith}
+use Rattle.firing.proofs.take_one.Statement.{statement}
+use Rattle.firing.proofs.take_one.Tie as tie
+
+pub take-one-spec : {M : Type 1} → statement M
+take-one-spec =
+    tie.close
+    (tie.spec
+    (λ c κs. search needs)
+    (λ c κs. search needs)
+    (λ c κs. search needs)
+    (λ c κs. search needs)
+    (λ c. omega arith)
+    (λ c κs. search needs)
+    (λ c. search needs)
+    (λ c. cc))

@@ -1,0 +1,90 @@
+-- The calls on a flat file that is read whole, or refused. Assumes nothing.
+use mathlib.Core.Path.{_≡_, refl, sym, ap, _∙_, subst}
+use Prim.Native.Nat.{_≤_, _<_}
+use native.Mathlib.Omega.{arith}
+use borrow.Author.Tests.{lt-ltb, le-ltb}
+use Rattle.reading.specs.Basics.{ℕ, _+_, _/_, _%_, List, length, eqb, below, items}
+use Rattle.reading.specs.Reading.{accepted, refused}
+use Rattle.firing.specs.Firing.{First, found, nothing, first}
+use Rattle.firing.specs.Loops.{Ran, stoppedAt}
+use Rattle.firing.proofs.Running as running
+use Rattle.firing.proofs.Running.{called}
+use Rattle.flat.specs.Flat.{Flat, readFlat, fireRow, fireImage, flatSizes, fireImages, firstRow}
+use Rattle.flat.specs.Told.{Held, Scanned}
+use Rattle.flat.specs.declared.reader.Scan.{Scan}
+use Rattle.flat.specs.declared.reader.Scan.the-variants.{Net, Refused}
+
+-- what was read
+pub the-net : (s starts : List ℕ) {r : Scan} {places rows : ℕ} → r ≡ Net places rows → Scanned s starts r → (f : Flat) × Held s starts places rows f
+the-net s starts e h = subst (Scanned s starts) e h
+
+pub the-refusal : (s starts : List ℕ) {r : Scan} {number place : ℕ} → r ≡ Refused number place → Scanned s starts r → readFlat s ≡ refused number place
+the-refusal s starts e h = subst (Scanned s starts) e h
+
+-- where a search stopped
+pub stopped-in : (n i : ℕ) → i < n → stoppedAt n i ≡ found i (i + 1)
+stopped-in n i lt = rw (lt-ltb i n lt)
+
+pub stopped-out : (n i : ℕ) → n ≤ i → stoppedAt n i ≡ nothing n
+stopped-out n i le = rw (le-ltb i n le)
+
+-- ---- refused files
+module _ (s : List ℕ) {number place : ℕ} (is : readFlat s ≡ refused number place) where
+  pub no-sizes : refused number place ≡ flatSizes s
+  unfolding flatSizes
+  no-sizes = rw is
+
+  pub no-first : (m : List ℕ) → refused number place ≡ firstRow s m
+  unfolding firstRow
+  no-first m = running.first-refused _ _ _ _ m is
+
+  pub no-fire : (m images answers : List ℕ) → called (refused number place) m answers ≡ fireImages s m images answers
+  unfolding fireImages
+  no-fire m images answers = running.call-refused _ _ _ _ m images answers is
+
+-- ---- files that are read
+module _ {s starts : List ℕ} {places rows : ℕ} {f : Flat} (held : Held s starts places rows f) where
+  pub the-sizes : accepted (record { places = places; rows = rows }) ≡ flatSizes s
+  unfolding flatSizes
+  the-sizes = rw (held .is, held .places-are, held .rows-are)
+
+  -- a marking of another length
+  wrong : (m : List ℕ) → (length m ≡ places → ⊥) → length m ≡ length (f .initial) → ⊥
+  wrong m h e = h (e ∙ held .places-are)
+
+  pub first-12 : (m : List ℕ) → (length m ≡ places → ⊥) → refused 12 0 ≡ firstRow s m
+  unfolding firstRow
+  first-12 m h = running.first-12 _ _ _ _ m (held .is) (wrong m h)
+
+  pub fire-12 : (m images answers : List ℕ) → (length m ≡ places → ⊥) → called (refused 12 0) m answers ≡ fireImages s m images answers
+  unfolding fireImages
+  fire-12 m images answers h = running.call-12 _ _ _ _ m images answers (held .is) (wrong m h)
+
+  module _ (m : List ℕ) (fits : length m ≡ places) where
+    fitting : length m ≡ length (f .initial)
+    fitting = fits ∙ sym (held .places-are)
+
+    -- the first row that fires, as a search tells it
+    searched : (i : ℕ) {x : First ℕ} → first (λ i. eqb (fireRow f i m .answer) 0) (below rows) ≡ stoppedAt rows i → stoppedAt rows i ≡ x → accepted x ≡ firstRow s m
+    unfolding firstRow
+    searched i e g = running.first-is _ _ _ _ m (held .is) fitting (ap (λ n. first (λ i. eqb (fireRow f i m .answer) 0) (below n)) (held .rows-are) ∙ e ∙ g)
+
+    pub first-found : (i : ℕ) → first (λ i. eqb (fireRow f i m .answer) 0) (below rows) ≡ stoppedAt rows i → i < rows → accepted (found i (i + 1)) ≡ firstRow s m
+    first-found i e lt = searched i e (stopped-in rows i lt)
+
+    pub first-none : (i : ℕ) → first (λ i. eqb (fireRow f i m .answer) 0) (below rows) ≡ stoppedAt rows i → rows ≤ i → accepted (nothing rows) ≡ firstRow s m
+    first-none i e le = searched i e (stopped-out rows i le)
+
+    module _ (images answers : List ℕ) where
+      pub fire-13 : (length images % 5 ≡ 0 → ⊥) → called (refused 13 0) m answers ≡ fireImages s m images answers
+      unfolding fireImages
+      fire-13 h = running.call-13 _ _ _ _ m images answers (held .is) fitting h
+
+      pub fire-14 : length images % 5 ≡ 0 → length answers < length images / 5 → called (refused 14 0) m answers ≡ fireImages s m images answers
+      unfolding fireImages
+      fire-14 e h = running.call-14 _ _ _ _ m images answers (held .is) fitting e h
+
+      pub fire-done : {m′ answers′ : List ℕ} → length images % 5 ≡ 0 → length images / 5 ≤ length answers → Ran (fireImage f) (items 5 images) m answers m′ answers′
+          → called (accepted (length images / 5)) m′ answers′ ≡ fireImages s m images answers
+      unfolding fireImages
+      fire-done {m′} {answers′} e h ran = running.call-done _ _ _ _ m images answers (held .is) fitting e m′ answers′ h ran

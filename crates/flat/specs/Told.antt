@@ -1,0 +1,151 @@
+-- What the code's enums say, in the terms of the meanings.
+use mathlib.Core.Path.{_≡_}
+use Prim.Native.Nat.{_<_, _≤_}
+use Rattle.reading.specs.Basics.{ℕ, zero, suc, _+_, _*_, Bool, _&&_, List, [], _∷_, Option, none, some, length, getD, leb, eqb, if_then_else_, with, byteAt}
+use Rattle.reading.specs.Reading.{Answer, fine, fault, _andThen_, accepted, refused, _unless_, checked, command, needed, whole}
+use Rattle.firing.specs.Arcs.{Arc, Row, row, rowIn, Proper}
+use Rattle.flat.specs.Flat.{Flat, rise, placePart, arcPart, rowPart, readFlat}
+use Rattle.flat.specs.declared.reader.ArcStep.{ArcStep}
+use Rattle.flat.specs.declared.reader.ArcStep.the-variants as arc-step
+use Rattle.flat.specs.declared.reader.RowRead.{RowRead}
+use Rattle.flat.specs.declared.reader.RowRead.the-variants as row-read
+use Rattle.flat.specs.declared.reader.Step.{Step}
+use Rattle.flat.specs.declared.reader.Step.the-variants as step
+use Rattle.flat.specs.declared.reader.Counted.{Counted}
+use Rattle.flat.specs.declared.reader.Counted.the-variants as counted
+use Rattle.flat.specs.declared.reader.Pass.{Pass}
+use Rattle.flat.specs.declared.reader.Pass.the-variants as pass
+use Rattle.flat.specs.declared.reader.Scan.{Scan}
+use Rattle.flat.specs.declared.reader.Scan.the-variants as scan
+
+-- ---- one arc
+-- an arc of a kind (0 takes, 1 puts, 2 hinders) at a place keeps a row's order
+abbrev pub inOrder : ℕ → Row → ℕ → Bool
+inOrder zero r p = rise (r .takes) p && eqb (length (r .puts)) 0 && eqb (length (r .hinders)) 0
+inOrder (suc zero) r p = rise (r .puts) p && eqb (length (r .hinders)) 0
+inOrder (suc (suc kind)) r p = rise (r .hinders) p
+
+-- a row with one more arc of a kind
+abbrev pub added : ℕ → Row → Arc → Row
+added zero r a = row (with (r .takes) a) (r .puts) (r .hinders)
+added (suc zero) r a = row (r .takes) (with (r .puts) a) (r .hinders)
+added (suc (suc kind)) r a = row (r .takes) (r .puts) (with (r .hinders) a)
+
+-- an arc's key: kinds in turn, and places in each
+abbrev pub key : ℕ → ℕ → ℕ
+key kind p = kind * 65536 + p
+
+-- the least key with which an arc keeps a row's order
+abbrev pub Least : Row → ℕ → Type 0
+Least r least = (kind p : ℕ) → kind ≤ 2 → p < 65536 → inOrder kind r p ≡ leb least (key kind p)
+
+abbrev pub arc : ℕ → ℕ → Arc
+arc place weight = record { place = place; weight = weight }
+
+-- a step from a row, with the place after the arc
+abbrev pub arcStep : ℕ → Row → ArcStep → Option (Answer Row)
+arcStep next r arc-step.Done = none
+arcStep next r (arc-step.Arc kind place weight) = some (fine (added kind r (arc place weight)) next)
+arcStep next r (arc-step.Stop number place) = some (fault number place)
+
+-- what the checks of a step have shown
+abbrev pub ArcRoom : ℕ → ℕ → ℕ → ℕ → ArcStep → Type 0
+ArcRoom len count at least arc-step.Done = Unit {0}
+ArcRoom len count at least (arc-step.Arc kind place weight) = (kind ≤ 2) × (place < count) × (0 < weight) × (least ≤ key kind place) × (at + 5 ≤ len)
+ArcRoom len count at least (arc-step.Stop number place) = at < len
+
+-- ---- a row's arcs
+-- the end of a kind after one more arc of some kind
+abbrev pub laterEnd : ℕ → ℕ → ℕ → ℕ → ℕ
+laterEnd kind of more was = if leb kind of then more else was
+
+abbrev pub rowRead : List ℕ → List ℕ → RowRead → Answer Row
+rowRead places weights (row-read.Whole takes puts hinders next) = fine (rowIn places weights takes puts hinders) next
+rowRead places weights (row-read.Fault number place) = fault number place
+
+-- the row is proper, and its kinds end in turn within the lists
+abbrev pub RowProper : ℕ → List ℕ → List ℕ → RowRead → Type 0
+RowProper n places weights (row-read.Whole takes puts hinders next) =
+    Proper n (rowIn places weights takes puts hinders) × (takes ≤ puts) × (puts ≤ hinders) × (hinders ≤ 12288)
+RowProper n places weights (row-read.Fault number place) = Unit {0}
+
+-- the place after the arcs lies not before the first of them, and within the file where that does
+abbrev pub RowWithin : ℕ → ℕ → RowRead → Type 0
+RowWithin len at (row-read.Whole takes puts hinders next) = (at ≤ next) × (at ≤ len → next ≤ len)
+RowWithin len at (row-read.Fault number place) = Unit {0}
+
+-- ---- the places and the rows
+-- a step that goes on with an answer
+abbrev pub stepTold : {A : Type 0} → Answer A → Step → Option (Answer A)
+stepTold answer step.Done = none
+stepTold answer step.More = some answer
+stepTold answer (step.Stop number place) = some (fault number place)
+
+-- a step that goes on has room among so many, and for so many bytes in the file
+abbrev pub StepRoom : ℕ → ℕ → ℕ → ℕ → ℕ → Step → Type 0
+StepRoom limit width len count at step.Done = Unit {0}
+StepRoom limit width len count at step.More = (count < limit) × (at + width ≤ len)
+StepRoom limit width len count at (step.Stop number place) = at < len
+
+-- so many flat places stand from a place to another
+pub record PlacesHeld (s : List ℕ) (start count next : ℕ) : Type 0 where
+  pub initial : List ℕ
+  pub sized : length initial ≡ count
+  pub few : count ≤ 4096
+  pub within : next ≤ length s
+  pub is : fine initial next ≡ whole s (placePart s) [] start
+
+abbrev pub PlacesRead : List ℕ → ℕ → Counted → Type 0
+PlacesRead s start (counted.Whole count next) = PlacesHeld s start count next
+PlacesRead s start (counted.Fault number place) = fault number place ≡ whole s (placePart s) [] start
+
+-- where a row's arcs start, the row can be read again
+abbrev pub Stands : List ℕ → ℕ → List ℕ → List Row → Type 0
+Stands s places starts rows =
+    (i : ℕ) → i < length rows → (next : ℕ) × (whole s (arcPart s places) (row [] [] []) (getD starts i 0) ≡ fine (getD rows i (row [] [] [])) next)
+
+-- so many rows stand from a place to another, over so many flat places
+pub record RowsHeld (s : List ℕ) (places start : ℕ) (starts : List ℕ) (count next : ℕ) : Type 0 where
+  pub rows : List Row
+  pub sized : length rows ≡ count
+  pub few : count ≤ 65536
+  pub is : fine rows next ≡ whole s (rowPart s places) [] start
+  pub stands : Stands s places starts rows
+
+abbrev pub RowsRead : List ℕ → ℕ → ℕ → List ℕ → Counted → Type 0
+RowsRead s places start starts (counted.Whole count next) = RowsHeld s places start starts count next
+RowsRead s places start starts (counted.Fault number place) = fault number place ≡ whole s (rowPart s places) [] start
+
+-- ---- the whole file
+-- its opening command, and its end with nothing after it
+abbrev pub opening : List ℕ → (ℕ → Answer Flat) → Answer Flat
+opening s content = needed s (command 0x02 1 ((5 unless eqb (byteAt s 1) 1) ∷ []) content ∷ []) 0
+
+abbrev pub closing : List ℕ → Flat → ℕ → Answer Flat
+closing s f at = needed s (command 0x5F 0 [] (fine f) ∷ []) at andThen λ f end. checked end ((15 unless eqb end (length s)) ∷ []) f end
+
+-- what follows a check
+abbrev pub passed : {A : Type 0} → Answer A → Pass → Answer A
+passed answer pass.Fine = answer
+passed answer (pass.Stop number place) = fault number place
+
+abbrev pub Opened : ℕ → Pass → Type 0
+Opened len pass.Fine = 2 ≤ len
+Opened len (pass.Stop number place) = Unit {0}
+
+-- the arcs that stand from a place on, over so many flat places
+abbrev pub arcsAt : List ℕ → ℕ → ℕ → Answer Row
+arcsAt s places at = whole s (arcPart s places) (row [] [] []) at
+
+-- a flat file's net of so many flat places and rows, with the start of each row's arcs
+pub record Held (s starts : List ℕ) (places rows : ℕ) (f : Flat) : Type 0 where
+  pub is : readFlat s ≡ accepted f
+  pub places-are : length (f .initial) ≡ places
+  pub rows-are : length (f .rows) ≡ rows
+  pub few-places : places ≤ 4096
+  pub few-rows : rows ≤ 65536
+  pub stands : (i : ℕ) → i < rows → (next : ℕ) × (arcsAt s places (getD starts i 0) ≡ fine (getD (f .rows) i (row [] [] [])) next)
+
+abbrev pub Scanned : List ℕ → List ℕ → Scan → Type 0
+Scanned s starts (scan.Net places rows) = (f : Flat) × Held s starts places rows f
+Scanned s starts (scan.Refused number place) = readFlat s ≡ refused number place

@@ -1,0 +1,95 @@
+-- Each order is answered as its image is, and so is each list of orders. Assumes nothing.
+use mathlib.Core.Path.{_≡_, refl, sym, ap, ap₂, _∙_}
+use Prim.Native.Nat.{_≤_, _<_}
+use native.Mathlib.Omega.{arith}
+use borrow.Author.Tests.{lt-ltb, le-ltb}
+use lib.ListN.{length-map}
+use Rattle.reading.specs.Basics.{ℕ, _+_, Bool, true, false, List, [], _∷_, _++_, map, flatMap, Option, none, some, length, getD, getElem?, ltb, eqb, if_then_else_, given, below, any, items, longAt}
+use Rattle.reading.proofs.Lists.{All, end, also, in-all, at-map, below-at, getD-at}
+use Rattle.reading.proofs.Items.{items-joined, of-six}
+use Rattle.firing.specs.Firing.{Weights, Fired, fired, lacks, hindered, moved, spills, fire, run}
+use Rattle.firing.specs.Arcs.{Row, row, weights}
+use Rattle.firing.proofs.Agree.{fire-same, fire-length}
+use Rattle.flat.specs.Flat.{Flat, fireRow, fireImage}
+use Rattle.net.specs.Net.{Net, flatPlaceCount}
+use Rattle.net.specs.Limits.{Limits}
+use Rattle.coloured.specs.Effect.{Binding, effect}
+use Rattle.coloured.specs.Orders.{named, fireOrder}
+use Rattle.firing.specs.Arcs.{rowOf}
+use Rattle.unfolding.specs.Unfolding.{Rowed, rows, unfolded, rowNumber, image, images}
+use Rattle.unfolding.specs.Demand3.{Marking, asRow, ListsAgree}
+use Rattle.firing.proofs.Weighted.{row-agrees}
+use Rattle.unfolding.proofs.Rows.{Stands, without, within, noRow, rows-few, stands}
+
+-- an image carries its number
+pub image-back : (i : ℕ) → longAt (image i) 1 ≡ i
+image-back i = omega arith
+
+-- the firing rule never answers 2
+fire-as-row : (w : Weights) (m : List ℕ) → asRow (fire w m) ≡ fire w m
+unfolding fire
+fire-as-row w m = go (any (lacks w m) (below (length m))) (any (hindered w m) (below (length m))) (any (spills w m) (below (length m)))
+  where
+    go : (a b c : Bool)
+        → asRow (if a then fired 3 m else if b then fired 4 m else if c then fired 5 m else fired 0 (map (moved w m) (below (length m))))
+        ≡ (if a then fired 3 m else if b then fired 4 m else if c then fired 5 m else fired 0 (map (moved w m) (below (length m))))
+    go true b c = refl
+    go false true c = refl
+    go false false true = refl
+    go false false false = refl
+
+-- firing an order keeps the number of counts
+pub order-keeps : (n : Net) (order m : List ℕ) → length (fireOrder n order m .marking) ≡ length m
+unfolding fireOrder
+order-keeps n order m = by-name (named n order)
+  where
+    by-effect : (o : Option Weights) → length ((given o (fired 2 m) λ w. fire w m) .marking) ≡ length m
+    by-effect none = refl
+    by-effect (some w) = fire-length w m
+
+    by-name : (o : Option Binding) → length ((given o (fired 1 m) λ b. given (effect n b) (fired 2 m) λ w. fire w m) .marking) ≡ length m
+    by-name none = refl
+    by-name (some b) = by-effect (effect n b)
+
+-- a row fires by its binding's weights, and where there is no row the answer is 1
+module _ (n : Net) where
+  pub row-fires : (i : ℕ) {r : Rowed} (m : List ℕ) → Marking n m → getElem? (rows n) i ≡ some r → fireImage (unfolded n) (image i) m ≡ fire (r .weights) m
+  unfolding fireImage fireRow unfolded
+  row-fires i {r} m sized e =
+      let lt : i < length (map (λ x. rowOf (flatPlaceCount n) (x .weights)) (rows n)) = rw length-map (below-at (rows n) i e) in
+      rw (
+        image-back i,
+        lt-ltb i (length (map (λ x. rowOf (flatPlaceCount n) (x .weights)) (rows n))) lt,
+        getD-at (map (λ x. rowOf (flatPlaceCount n) (x .weights)) (rows n)) i (row [] [] []) (at-map (λ x. rowOf (flatPlaceCount n) (x .weights)) (rows n) i e),
+      )
+      (fire-same (weights (rowOf (flatPlaceCount n) (r .weights))) (r .weights) m (rw sized (row-agrees (flatPlaceCount n) (r .weights))))
+
+  pub no-row-fires : (i : ℕ) (m : List ℕ) → length (rows n) ≤ i → fireImage (unfolded n) (image i) m ≡ fired 1 m
+  unfolding fireImage fireRow unfolded
+  no-row-fires i m le =
+      rw (image-back i, le-ltb i (length (map (λ x. rowOf (flatPlaceCount n) (x .weights)) (rows n))) (rw length-map le))
+
+  module _ (limits : Limits n) where
+    -- one order
+    pub order-answered : (order m : List ℕ) → length order ≡ 6 → Marking n m → fireImage (unfolded n) (image (rowNumber n order)) m ≡ asRow (fireOrder n order m)
+    order-answered order m six sized = go (stands n limits order six)
+      where
+        go : Stands n order → fireImage (unfolded n) (image (rowNumber n order)) m ≡ asRow (fireOrder n order m)
+        go (without e g f) = rw (e, f m) (no-row-fires noRow m (let h = rows-few n limits in omega arith))
+        go (within i w e at g f) = rw (e, f m, fire-as-row w m) (row-fires i m sized at)
+
+    -- orders in turn
+    in-turn : (m : List ℕ) {orders : List (List ℕ)} → Marking n m → All (λ order. length order ≡ 6) orders
+        → run (fireImage (unfolded n)) m (map (λ order. image (rowNumber n order)) orders) ≡ map asRow (run (fireOrder n) m orders)
+    unfolding run
+    in-turn m sized end = refl
+    in-turn m sized (also {a = order} {l = orders} six rest) =
+        rw (order-answered order m six sized)
+        (ap (λ l. asRow (fireOrder n order m) ∷ l) (in-turn (fireOrder n order m .marking) (order-keeps n order m ∙ sized) rest))
+
+    -- all lists
+    pub lists-agree : ListsAgree n (unfolded n)
+    unfolding images
+    lists-agree m orders sized sixes =
+        ap (run (fireImage (unfolded n)) m) (items-joined 5 (omega arith) (λ order. image (rowNumber n order)) (in-all (items 6 orders) (λ order i. refl)))
+        ∙ in-turn m sized (of-six orders sixes .0)

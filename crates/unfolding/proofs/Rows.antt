@@ -1,0 +1,116 @@
+-- The rows of a net and the orders that have them. Assumes nothing.
+use mathlib.Core.Path.{_≡_, refl, sym, ap, _∙_}
+use Prim.Native.Nat.{_≤_, _<_}
+use native.Mathlib.Omega.{arith}
+use lib.ListN.{length-append}
+use lib.Seq.{length-take-le}
+use Rattle.reading.specs.Basics.{ℕ, Bool, true, false, List, [], _∷_, _++_, filterMap, Option, none, some, Option·map, length, getElem?, given, position, same}
+use Rattle.reading.proofs.Lists.{In, Apart, length-filterMap}
+use Rattle.firing.specs.Firing.{Weights, Fired, fired, fire}
+use Rattle.net.specs.Net.{Net}
+use Rattle.net.specs.Limits.{Limits}
+use Rattle.coloured.specs.Effect.{Binding, bindings, effect}
+use Rattle.coloured.specs.Orders.{orderOf, named, fireOrder}
+use Rattle.coloured.proofs.Bindings.{bindings-length}
+use Rattle.coloured.proofs.Named.{order-names, named-order, orders-apart}
+use Rattle.unfolding.specs.Unfolding.{Rowed, rows, rowNumber, orderOfRow}
+use Rattle.unfolding.specs.Demand3.{guardHolds, asRow}
+use Rattle.unfolding.proofs.Numbering.{at-number, row-at, number-of, numbered}
+
+-- what a binding's row is made of, and the row of a binding that has an effect
+abbrev pub rowed : List ℕ → Weights → Rowed
+rowed order w = record { order = order; weights = w }
+
+abbrev rowedIf : Net → Binding → Option Rowed
+rowedIf n b = Option·map (rowed (orderOf b)) (effect n b)
+
+-- a row carries its binding's order, and its weights are the effect
+rowed-is : (n : Net) (b : Binding) (r : Rowed) → rowedIf n b ≡ some r → (effect n b ≡ some (r .weights)) × (r .order ≡ orderOf b)
+rowed-is n b r e = go (effect n b) e
+  where
+    go : (o : Option Weights) → Option·map (rowed (orderOf b)) o ≡ some r → (o ≡ some (r .weights)) × (r .order ≡ orderOf b)
+    go none q = let z : _≡_ {A = ℕ} 0 1 = cc in absurd (omega arith)
+    go (some w) q = let p : rowed (orderOf b) w ≡ r = cc in (ap (λ x. some (x .weights)) p, sym (ap (λ x. x .order) p))
+
+-- the number of no row
+abbrev pub noRow : ℕ
+noRow = 4294967295
+
+-- how an order stands to the rows: it has none, for it names no binding or the guard is false; or it has one, with its effect
+pub data Stands (n : Net) (order : List ℕ) : Type 0 where
+  without : rowNumber n order ≡ noRow → guardHolds n order ≡ false → ((m : List ℕ) → asRow (fireOrder n order m) ≡ fired 1 m) → Stands n order
+  within : (i : ℕ) (w : Weights) → rowNumber n order ≡ i → getElem? (rows n) i ≡ some (rowed order w) → guardHolds n order ≡ true
+      → ((m : List ℕ) → fireOrder n order m ≡ fire w m) → Stands n order
+
+module _ (n : Net) (limits : Limits n) where
+  apart : Apart orderOf (bindings n)
+  apart = orders-apart n (limits .few-variables)
+
+  pub rows-few : length (rows n) ≤ 65536
+  unfolding rows
+  rows-few = let h = length-filterMap (rowedIf n) (bindings n) in omega (arith, bindings-length n, limits .space)
+
+  -- no order has a number without a row of its binding
+  absent-row : (order : List ℕ) → ((b : Binding) (w : Weights) → named n order ≡ some b → effect n b ≡ some w → ⊥) → rowNumber n order ≡ noRow
+  unfolding rows rowNumber
+  absent-row order h = go (position (λ r. same (r .order) order) (rows n)) refl
+    where
+      go : (o : Option ℕ) → position (λ r. same (r .order) order) (rows n) ≡ o → given o noRow (λ i. i) ≡ noRow
+      go none e = refl
+      go (some i) e =
+          let (b, r, m, p, q, f) = numbered orderOf (rowedIf n) (λ x. x .order) (λ x y z. rowed-is n x y z .1) (bindings n) apart order e in
+          absurd (h b (r .weights) (ap (named n) (sym q) ∙ order-names n (limits .few-variables) m) (rowed-is n b r p .0))
+
+  present-row : (order : List ℕ) {b : Binding} {w : Weights} → In b (bindings n) → orderOf b ≡ order → effect n b ≡ some w
+      → (i : ℕ) × (rowNumber n order ≡ i) × (getElem? (rows n) i ≡ some (rowed order w))
+  unfolding rows rowNumber
+  present-row order {b} {w} m q e =
+      let (i, f, p) = number-of orderOf (rowedIf n) (λ x. x .order) (λ x y z. rowed-is n x y z .1) (bindings n) apart m (ap (Option·map (rowed (orderOf b))) e) in
+      (i, rw (← q, p), rw (← q) f)
+
+  pub stands : (order : List ℕ) → length order ≡ 6 → Stands n order
+  unfolding fireOrder
+  stands order six = by-name (named n order) refl
+    where
+      by-effect : (b : Binding) → named n order ≡ some b → (o : Option Weights) → effect n b ≡ o → Stands n order
+      by-effect b e none f =
+          without (absent-row order (λ c w g h. let z : _≡_ {A = ℕ} 0 1 = cc in absurd (omega arith))) (rw (e, f)) (λ m. rw (e, f))
+      by-effect b e (some w) f =
+          let (m, q) = named-order n (limits .few-variables) order six e in
+          let (i, r, g) = present-row order m q f in
+          within i w r g (rw (e, f)) (λ m. rw (e, f))
+
+      by-name : (o : Option Binding) → named n order ≡ o → Stands n order
+      by-name none e = without (absent-row order (λ b w g h. let z : _≡_ {A = ℕ} 0 1 = cc in absurd (omega arith))) (rw e) (λ m. rw e)
+      by-name (some b) e = by-effect b e (effect n b) refl
+
+  -- ---- the way back
+  -- a row's order is of 6 bytes and has the row's number
+  six-bytes : (b : Binding) → length (orderOf b) ≡ 6
+  six-bytes b =
+      let e = length-take-le 4 (b .colours ++ (0 ∷ 0 ∷ 0 ∷ 0 ∷ [])) (rw length-append (omega arith)) in
+      omega arith
+
+  pub row-order : (i : ℕ) {r : Rowed} → getElem? (rows n) i ≡ some r → (length (r .order) ≡ 6) × (rowNumber n (r .order) ≡ i)
+  unfolding rows rowNumber
+  row-order i {r} e =
+      let (b, m, p) = row-at orderOf (rowedIf n) (λ x. x .order) (λ x y z. rowed-is n x y z .1) (bindings n) apart i e in
+      (ap length (rowed-is n b r p .1) ∙ six-bytes b, rw (at-number orderOf (rowedIf n) (λ x. x .order) (λ x y z. rowed-is n x y z .1) (bindings n) apart i e))
+
+  pub number-of-order : (i : ℕ) {order : List ℕ} → orderOfRow n i ≡ some order → (rowNumber n order ≡ i) × (length order ≡ 6)
+  unfolding orderOfRow
+  number-of-order i {order} e = go (getElem? (rows n) i) refl e
+    where
+      go : (o : Option Rowed) → getElem? (rows n) i ≡ o → Option·map (λ r. r .order) o ≡ some order → (rowNumber n order ≡ i) × (length order ≡ 6)
+      go none f q = let z : _≡_ {A = ℕ} 0 1 = cc in absurd (omega arith)
+      go (some r) f q = let (six, g) = row-order i f in let h : r .order ≡ order = cc in (rw (← h) g, rw (← h) six)
+
+  pub order-of-number : (i : ℕ) (order : List ℕ) → rowNumber n order ≡ i → i < length (rows n) → orderOfRow n i ≡ some order
+  unfolding rows rowNumber orderOfRow
+  order-of-number i order e lt = go (position (λ r. same (r .order) order) (rows n)) refl e
+    where
+      go : (o : Option ℕ) → position (λ r. same (r .order) order) (rows n) ≡ o → given o noRow (λ j. j) ≡ i → orderOfRow n i ≡ some order
+      go none f q = let h = rows-few in absurd (omega arith)
+      go (some j) f q =
+          let (b, r, m, p, c, g) = numbered orderOf (rowedIf n) (λ x. x .order) (λ x y z. rowed-is n x y z .1) (bindings n) apart order f in
+          rw (← q, g) (ap some (rowed-is n b r p .1 ∙ c))
