@@ -37,11 +37,13 @@ pub record Low (w : Weights) : Type 0 where
   pub put : (p : ℕ) → w .put p ≤ 65535
   pub hinder : (p : ℕ) → w .hinder p ≤ 65535
 
+-- what may be absent is low where what is there is
 given-low : {A : Type 0} (o : Option A) (f : A → ℕ) → ((a : A) → o ≡ some a → f a ≤ 65535) → given o 0 f ≤ 65535
 given-low none f h = omega arith
 given-low (some a) f h = h a refl
 
 module _ (n : Net) (w : Words n) {t : ℕ} (there : t < length (n .transitions)) (env : ℕ → ℕ) where
+  -- of an arc at a rank, and of all arcs at a flat place
   pub arc-word : (kind : ℕ) (f : FlatPlace) → arcWeight n (transitionAt n t) env kind f ≤ 65535
   arc-word kind f =
       let (u, e) = at-below (n .transitions) t there in

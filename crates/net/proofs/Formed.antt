@@ -4,16 +4,14 @@ use mathlib.Core.List.{List·Memᴰ·not-nil}
 use Prim.Native.Nat.{_≤_, _<_}
 use native.Mathlib.Omega.{arith}
 use borrow.Author.Tests.{ltb-true, leb-true, eq-eqb, not-true}
-use Rattle.reading.specs.Basics.{ℕ, _+_, Bool, true, false, not, _&&_, _||_, List, [], _∷_, some, length, ltb, leb, any, every, find, absent, with, if_then_else_, byteAt, wordAt}
-use Rattle.reading.specs.Reading.{under, accepted, whole}
-use Rattle.reading.proofs.Lists.{In, in-cases, here, there, All, end, in-all, all-in, in-every, every-in}
+use Rattle.reading.specs.Basics.{ℕ, _+_, Bool, true, false, not, _&&_, _||_, List, [], _∷_, some, length, ltb, leb, eqb, any, every, find, absent, with, if_then_else_, byteAt, wordAt}
+use Rattle.reading.specs.Reading.{fault, under, accepted, refused, outcome, _unless_, checked, whole, file}
+use Rattle.reading.proofs.Lists.{In, in-cases, here, there, All, end, also, all-with, in-all, all-in, in-every, every-in}
 use Rattle.reading.proofs.Commands.{both-hold}
-use Rattle.reading.proofs.Keeps.{both-first, both-second, all-with, Gives, gives, GivesIf, anything, repeat-gives, then-gives, under-gives, standing-gives, given-gives}
-use Rattle.net.specs.Net.{Colour, variable, constant, successor, predecessor, Guard, always, opposite, both, either, equal, less, Expression, one, two, all, plus, minus, times, Place, Arc, Transition, Tokens, Net, net, setsOf, coloursOf, placeAt, arcOn, tokensOn, setOf, ceiling}
-use Rattle.net.specs.Reader.{readExpression, setPart, variablePart, placePart, readGuardIf, arcPart, transitionPart, tokensPart, content, readNet}
+use Rattle.reading.proofs.Gives.{both-first, both-second, Gives, gives, stops, GivesIf, anything, of-outcome, checked-gives, repeat-gives, then-gives, under-gives, standing-gives, given-gives, file-gives}
+use Rattle.net.specs.Net.{Colour, variable, constant, successor, predecessor, Guard, always, opposite, both, either, equal, less, Expression, one, two, all, plus, minus, times, Place, Arc, Transition, Tokens, Net, net, setsOf, coloursOf, placeAt, arcOn, tokensOn, setOf, ceiling, variablesOf, bindingSpace}
+use Rattle.net.specs.Reader.{readExpression, setPart, variablePart, placePart, readGuardIf, arcPart, ended, transitionPart, tokensPart, content, readNet}
 use Rattle.net.specs.Formed.{colourFormed, comparable, guardFormed, ofSets, expressionFormed, once, arcFormed, sameArc, transitionFormed, tokensFormed, sameTokens, Formed, Words}
-use Rattle.net.proofs.Shut.{commands}
-use Rattle.net.proofs.Limits.{ended-gives, of-accepted}
 use Rattle.net.proofs.Trees.{Bytes, word-fits, guard-formed, expression-sound}
 
 -- ---- lists
@@ -118,39 +116,42 @@ module _ (s : List ℕ) (n : Net) where
   })
 
   arc-keeps : (arcs : List Arc) (at : ℕ) → Arcs s n arcs → GivesIf (Arcs s n) (arcPart s n arcs at)
-  unfolding commands arcPart
-  arc-keeps arcs at k = standing-gives s at _ (
-    (λ b le p. one-more arcs 0x16 (byteAt s (at + 1)) (at + 2) k (p .0) (p .1 .0)),
-    ((λ b le p. one-more arcs 0x17 (byteAt s (at + 1)) (at + 2) k (p .0) (p .1 .0)), ((λ b le p. one-more arcs 0x18 (byteAt s (at + 1)) (at + 2) k (p .0) (p .1 .0)), tt)),
-  )
+  unfolding arcPart
+  arc-keeps arcs at k = standing-gives s at
+      (also (λ p next. one-more arcs 0x16 (byteAt s (at + 1)) next k (p .0) (p .1 .0))
+      (also (λ p next. one-more arcs 0x17 (byteAt s (at + 1)) next k (p .0) (p .1 .0))
+      (also (λ p next. one-more arcs 0x18 (byteAt s (at + 1)) next k (p .0) (p .1 .0)) end)))
 
   guard-if-formed : (at : ℕ) → Gives (λ g. guardFormed n g ≡ true) (readGuardIf s n at)
-  unfolding commands readGuardIf guardFormed
-  guard-if-formed at = given-gives s at _ ((λ b le p. guard-formed s n 16 (at + 1)), tt) (gives refl)
+  unfolding readGuardIf guardFormed
+  guard-if-formed at = given-gives s at (also (λ p next. guard-formed s n 16 next) end) (gives refl)
+
+  -- where a transition ends
+  ended-gives : (transitions : List Transition) (at : ℕ) (t : Transition) (last : ℕ) → Transitions s n (with transitions t) → Gives (Transitions s n) (ended s n transitions at t last)
+  ended-gives transitions at t last h = go (eqb (byteAt s last) 0x15)
+    where
+      go : (stray : Bool) → Gives (Transitions s n) (if stray then fault 3 last
+          else checked at ((10 unless leb (length (variablesOf n t)) 4) ∷ (11 unless leb (bindingSpace n (with transitions t)) 65536) ∷ []) (with transitions t) last)
+      go true = stops
+      go false = checked-gives at _ (with transitions t) last (λ p. h)
 
   transition-keeps : (transitions : List Transition) (at : ℕ) → Transitions s n transitions → GivesIf (Transitions s n) (transitionPart s n transitions at)
-  unfolding commands transitionPart once
-  transition-keeps transitions at k = standing-gives s at _ (
-    (λ b le p.
-        then-gives (guard-if-formed (at + 1)) (λ guard more u.
-        then-gives (repeat-gives (arcPart s n) arc-keeps _ [] more (record { formed = end; single = refl; words = λ bytes. end })) (λ arcs last v.
-        ended-gives s n transitions at (record { guard = guard; arcs = arcs }) last (λ q r. record {
-          formed = all-with (k .formed) (both-hold _ _ (both-hold _ _ u (in-every (arcFormed n) (v .formed))) (v .single));
-          words = λ bytes. all-with (k .words bytes) (in-every low (v .words bytes));
-        })))),
-    tt,
-  )
+  unfolding transitionPart once
+  transition-keeps transitions at k = standing-gives s at (also (λ p next.
+      then-gives (guard-if-formed next) (λ guard more u.
+      then-gives (repeat-gives (arcPart s n) arc-keeps _ [] more (record { formed = end; single = refl; words = λ bytes. end })) (λ arcs last v.
+      ended-gives transitions at (record { guard = guard; arcs = arcs }) last (record {
+        formed = all-with (k .formed) (both-hold _ _ (both-hold _ _ u (in-every (arcFormed n) (v .formed))) (v .single));
+        words = λ bytes. all-with (k .words bytes) (in-every low (v .words bytes));
+      })))) end)
 
   tokens-keep : (tokens : List Tokens) (at : ℕ) → Marked s n tokens → GivesIf (Marked s n) (tokensPart s n tokens at)
-  unfolding commands tokensPart
-  tokens-keep tokens at k = standing-gives s at _ (
-    (λ b le p. gives (record {
-      formed = all-with (k .formed) (p .0);
-      single = once-with sameTokens tokens (record { place = byteAt s (at + 1); rank = wordAt s (at + 2); count = wordAt s (at + 4) }) (k .single) (p .1 .0);
-      words = λ bytes. all-with (k .words bytes) (word-fits s (at + 4) bytes);
-    })),
-    tt,
-  )
+  unfolding tokensPart
+  tokens-keep tokens at k = standing-gives s at (also (λ p next. gives (record {
+    formed = all-with (k .formed) (p .0);
+    single = once-with sameTokens tokens (record { place = byteAt s (at + 1); rank = wordAt s (at + 2); count = wordAt s (at + 4) }) (k .single) (p .1 .0);
+    words = λ bytes. all-with (k .words bytes) (word-fits s (at + 4) bytes);
+  })) end)
 
 -- a net that is read: formed, and of bytes with ceilings and counts that are u16
 record Good (s : List ℕ) (n : Net) : Type 0 where
@@ -176,11 +177,19 @@ content-keeps s start =
     }))))))
 
 -- what a net file's reader accepts is formed; where the file is made of bytes, its ceilings and counts are u16
+good : (s : List ℕ) (n : Net) → readNet s ≡ accepted n → Good s n
+unfolding readNet
+good s n e = go (ltb 16384 (length s)) e
+  where
+    go : (long : Bool) → (if long then refused 1 16384 else outcome (file 0x01 (content s) 0x1F s)) ≡ accepted n → Good s n
+    go true q = let z : _≡_ {A = ℕ} 0 1 = cc in absurd (omega arith)
+    go false q = of-outcome (file-gives 0x01 (content s) 0x1F s (content-keeps s)) q
+
 pub formed : (s : List ℕ) (n : Net) → readNet s ≡ accepted n → Formed n
-formed s n e = of-accepted s (content-keeps s 2) e .formed
+formed s n e = good s n e .formed
 
 pub words : (s : List ℕ) (n : Net) → Bytes s → readNet s ≡ accepted n → Words n
-words s n bytes e = of-accepted s (content-keeps s 2) e .words bytes
+words s n bytes e = good s n e .words bytes
 
 -- ---- what follows for each transition, arc and token
 pub found-in : {A : Type 0} (test : A → Bool) (l : List A) {a : A} → find test l ≡ some a → In a l

@@ -7,7 +7,7 @@ use native.Mathlib.Nat.{mul-le-mul-left, mul-le-mul-right, mul-one, suc-mul, eq-
 use borrow.Author.Tests.{ltb-true, leb-true, eqb-true, eqb-false}
 use Rattle.reading.specs.Basics.{ℕ, _+_, _-_, _*_, Bool, true, false, _&&_, length, getD, ltb, leb, eqb, every, if_then_else_}
 use Rattle.reading.proofs.Lists.{In, all-in, every-in}
-use Rattle.reading.proofs.Keeps.{both-first, both-second}
+use Rattle.reading.proofs.Gives.{both-first, both-second}
 use Rattle.net.specs.Net.{Colour, variable, constant, successor, predecessor, Expression, one, two, all, plus, minus, times, Place, single, pair, Arc, Transition, Net, sizeOf, coloursOf, setOf, ceiling}
 use Rattle.net.specs.Values.{colour, pairRank, weight}
 use Rattle.net.specs.Limits.{Limits}
@@ -40,9 +40,11 @@ before-fits size c lt = go (eqb c 0)
     go true = omega arith
     go false = omega arith
 
+-- a colour of each of two sets, as the rank of a pair
 pub pair-below : (a b size other : ℕ) → a < size → b < other → a * other + b < size * other
 pair-below a b size other lt less = omega (arith, suc-mul a other, mul-le-mul-right other lt)
 
+-- nothing is both false and true
 no : {A : Type 0} → false ≡ true → A
 no e = let z : _≡_ {A = ℕ} 0 1 = cc in absurd (omega arith)
 
