@@ -12,9 +12,9 @@ use Rattle.reading.proofs.Commands.{passes, done, fails, passing, failed, other
 use Rattle.reading.proofs.Parts.{Reading, begins, goes-on, ends, stops}
 use Rattle.firing.specs.Arcs.{Row, row}
 use Rattle.flat.specs.Flat.{Flat, placePart, arcPart, rowPart, readFlat}
-use Rattle.flat.specs.Told.{stepTold, StepRoom, PlacesHeld, Stands, RowsHeld, opening, closing, passed, Held}
-use Rattle.flat.specs.declared.reader.Pass.{Pass}
-use Rattle.flat.specs.declared.reader.Pass.the-variants as pass
+use Rattle.flat.specs.Told.{stepTold, StepRoom, PlacesHeld, Stands, RowsHeld, opening, closing, partTold, Counts, scanOf, Held, Scanned}
+use Rattle.flat.specs.declared.reader.Part.{Part}
+use Rattle.flat.specs.declared.reader.Part.the-variants as part
 use Rattle.flat.specs.declared.reader.Step.{Step}
 use Rattle.flat.specs.declared.reader.Step.the-variants.{Done, More, Stop}
 
@@ -150,9 +150,9 @@ module _ (s : List ℕ) (f : Flat) (at : ℕ) where
     unfolding find
     end-tail lt = rw (needs-goes s at 0x5F (command 0x5F 0 [] (fine f) ∷ []) e refl (omega arith) done, failed (fails {k = 15} {checks = []} (ne-eqb (at + 1) (length s) (λ e. omega arith))))
 
-    pub end-fine : at + 1 ≡ length s → closing s f at ≡ fine f (length s)
+    pub end-fine : at + 1 ≡ length s → closing s f at ≡ fine f (at + 1)
     unfolding find
-    end-fine last = rw (needs-goes s at 0x5F (command 0x5F 0 [] (fine f) ∷ []) e refl (omega arith) done, passing (passes {k = 15} (eq-eqb (at + 1) (length s) last) done), last)
+    end-fine last = rw (needs-goes s at 0x5F (command 0x5F 0 [] (fine f) ∷ []) e refl (omega arith) done, passing (passes {k = 15} (eq-eqb (at + 1) (length s) last) done))
 
 -- ---- the whole file, part after part
 abbrev content : List ℕ → ℕ → Answer Flat
@@ -161,34 +161,35 @@ content s start =
     whole s (rowPart s (length initial)) [] at andThen λ rows end.
     fine (record { initial = initial; rows = rows }) end
 
-module _ (s : List ℕ) {first : Pass} (opened : (content : ℕ → Answer Flat) → opening s content ≡ passed (content 2) first) where
-  pub not-opened : {k p : ℕ} → first ≡ pass.Stop k p → readFlat s ≡ refused k p
+module _ (s : List ℕ) {first : Part} (opened : (content : ℕ → Answer Flat) → opening s content ≡ partTold content first) where
+  pub not-opened : {k p : ℕ} → first ≡ part.Fault k p → readFlat s ≡ refused k p
   unfolding readFlat file
   not-opened e = rw (opened (content s), e)
 
-  module _ (e : first ≡ pass.Fine) where
-    read-on : readFlat s ≡ outcome (content s 2 andThen λ f at. closing s f at)
+  module _ {a b start : ℕ} (e : first ≡ part.Whole a b start) where
+    read-on : readFlat s ≡ outcome (content s start andThen λ f at. closing s f at)
     unfolding readFlat file
     read-on = rw (opened (content s), e)
 
-    pub places-refused : {k p : ℕ} → fault k p ≡ whole s (placePart s) [] 2 → readFlat s ≡ refused k p
+    pub places-refused : {k p : ℕ} → fault k p ≡ whole s (placePart s) [] start → readFlat s ≡ refused k p
     places-refused f = read-on ∙ rw (← f)
 
-    module _ {count next : ℕ} (places : PlacesHeld s 2 count next) where
+    module _ {count next : ℕ} (places : PlacesHeld s start count next) where
       pub rows-refused : {k p : ℕ} → fault k p ≡ whole s (rowPart s count) [] next → readFlat s ≡ refused k p
       rows-refused f = read-on ∙ rw (← places .is, places .sized, ← f)
 
-      module _ {starts : List ℕ} {rows end : ℕ} (held : RowsHeld s count next starts rows end) {last : Pass} (closed : (f : Flat) → closing s f end ≡ passed (fine f (length s)) last) where
-        pub end-refused : {k p : ℕ} → last ≡ pass.Stop k p → readFlat s ≡ refused k p
-        end-refused f = read-on ∙ rw (← places .is, places .sized, ← held .is, closed (record { initial = places .initial; rows = held .rows }), f)
-
-        pub all-read : last ≡ pass.Fine → (f : Flat) × Held s starts count rows f
-        all-read f =
-            (record { initial = places .initial; rows = held .rows }, record {
-              is = read-on ∙ rw (← places .is, places .sized, ← held .is, closed (record { initial = places .initial; rows = held .rows }), f);
-              places-are = places .sized;
-              rows-are = held .sized;
-              few-places = places .few;
-              few-rows = held .few;
-              stands = λ i lt. held .stands i (omega (arith, held .sized));
-            })
+      -- what stands at the end decides
+      module _ {starts : List ℕ} {rows end : ℕ} (held : RowsHeld s count next starts rows end) where
+        pub all-read : (last : Part) → ((f : Flat) → closing s f end ≡ partTold (fine f) last) → Counts count rows last → Scanned s starts (scanOf last)
+        all-read (part.Fault k p) closed counts = read-on ∙ rw (← places .is, places .sized, ← held .is, closed (record { initial = places .initial; rows = held .rows }))
+        all-read (part.Whole n m after) closed counts = (
+          record { initial = places .initial; rows = held .rows },
+          rw (counts .0, counts .1) (record {
+            is = read-on ∙ rw (← places .is, places .sized, ← held .is, closed (record { initial = places .initial; rows = held .rows }));
+            places-are = places .sized;
+            rows-are = held .sized;
+            few-places = places .few;
+            few-rows = held .few;
+            stands = λ i lt. held .stands i (omega (arith, held .sized));
+          }),
+        )
