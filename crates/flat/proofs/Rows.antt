@@ -3,13 +3,12 @@ use mathlib.Core.Path.{_≡_, refl, sym, ap, ap₂, _∙_}
 use mathlib.Core.Bool.{and-assoc, and-true}
 use Prim.Native.Nat.{_≤_, _<_}
 use native.Mathlib.Omega.{arith}
-use native.Mathlib.Numerals.{add-one}
 use native.Mathlib.Decide.{decLe}
 use borrow.Author.Tests.{lt-ltb, le-ltb, le-leb, lt-leb, ne-eqb, ltb-true, eqb-true}
-use lib.ListN.{set, length-set, length-append, length-map}
+use lib.ListN.{set, length-append, length-map}
 use lib.Seq.{getD-set-same, getD-set-other}
 use Rattle.reading.specs.Basics.{ℕ, zero, suc, _+_, _-_, _*_, Bool, _&&_, true, false, List, [], _∷_, _++_, map, length, getD, ltb, leb, eqb, if_then_else_, with, numbersFrom, every}
-use Rattle.reading.proofs.Commands.{both-hold, first-fails, second-fails}
+use Rattle.reading.proofs.Commands.{first-fails, second-fails}
 use Rattle.firing.specs.Arcs.{Arc, Row, row, Rising, none, more, Proper, arcsIn, rowIn}
 use Rattle.flat.specs.Flat.{rise}
 use Rattle.flat.specs.Told.{inOrder, added, key, Least, arc, laterEnd}
@@ -22,10 +21,7 @@ left-holds false b e = e
 
 pub right-holds : (a b : Bool) → a && b ≡ true → b ≡ true
 right-holds true b e = e
-right-holds false b e = let z : false ≡ true = e in absurd (absent z)
-  where
-    absent : false ≡ true → ⊥
-    absent z = let n : _≡_ {A = ℕ} 0 1 = cc in omega arith
+right-holds false b e = let z : _≡_ {A = ℕ} 0 1 = cc in absurd (omega arith)
 
 -- a test of every element, with one more at the end
 every-with : {A : Type 0} (test : A → Bool) (l : List A) (a : A) → every test (with l a) ≡ every test l && test a
