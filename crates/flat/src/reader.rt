@@ -1,11 +1,10 @@
 // Reads flat files: the places, the rows, and a row's arcs.
-use reading::byte_at;
 use reading::word_at;
 ghost use mathlib.Core.Path.{_≡_};
 ghost use mathlib.Core.List.{List, []};
 ghost use Prim.Native.Nat.{ℕ, _≤_, _+_};
 ghost use lib.ListN.{length};
-ghost use Rattle.reading.specs.Basics.{with, wordAt};
+ghost use Rattle.reading.specs.Basics.{with, byteAt, wordAt};
 ghost use Rattle.reading.specs.Reading.{Answer, fine, under, whole};
 ghost use Rattle.firing.specs.Arcs.{Row, row};
 ghost use Rattle.flat.specs.Flat.{Flat, placePart, arcPart, rowPart};
@@ -18,8 +17,43 @@ pub enum ArcStep {
     Stop { number: u8, place: usize },
 }
 
-// The arc at a place of the file, over so many flat places. An arc's key is its kind * 65536 + its flat place;
-// the least key allowed here is given.
+// An arc of a kind that stands whole at a place, over so many flat places. Its key is its kind * 65536 + its flat place;
+// the least key allowed is given.
+fn arc_of(s: &[u8], count: usize, at: usize, least: usize, kind: u8) -> ArcStep
+    requires { ⌜ kind ≤ 2 ⌝ }
+    requires { ⌜ byteAt (now s) at ≡ 0x52 + kind ⌝ }
+    requires { ⌜ at + 5 ≤ length (now s) ⌝ }
+    ensures is { λ r. ⌜ ((before : Row) → Least before least → arcPart (now (s .entry)) count before at ≡ arcStep (at + 5) before r) ⌝ }
+    ensures room { λ r. ⌜ ArcRoom (length (now (s .entry))) count at least r ⌝ }
+{
+    let place = word_at(s, at + 1);
+    if count <= place {
+        return ArcStep::Stop {
+            number: 5,
+            place: at,
+        };
+    }
+    let weight = word_at(s, at + 3);
+    if weight < 1 {
+        return ArcStep::Stop {
+            number: 5,
+            place: at,
+        };
+    }
+    if kind as usize * 65536 + place < least {
+        return ArcStep::Stop {
+            number: 9,
+            place: at,
+        };
+    }
+    ArcStep::Arc {
+        kind,
+        place: place as u16,
+        weight: weight as u16,
+    }
+}
+
+// The arc at a place of the file, or the end of the row.
 fn arc_at(s: &[u8], count: usize, at: usize, least: usize) -> ArcStep
     ensures is { λ r. ⌜ ((before : Row) → Least before least → arcPart (now (s .entry)) count before at ≡ arcStep (at + 5) before r) ⌝ }
     ensures room { λ r. ⌜ ArcRoom (length (now (s .entry))) count at least r ⌝ }
@@ -40,32 +74,7 @@ fn arc_at(s: &[u8], count: usize, at: usize, least: usize) -> ArcStep
             place: s.len(),
         };
     }
-    let place = word_at(s, at + 1);
-    if count <= place {
-        return ArcStep::Stop {
-            number: 5,
-            place: at,
-        };
-    }
-    let weight = word_at(s, at + 3);
-    if weight < 1 {
-        return ArcStep::Stop {
-            number: 5,
-            place: at,
-        };
-    }
-    let kind = b - 0x52;
-    if kind as usize * 65536 + place < least {
-        return ArcStep::Stop {
-            number: 9,
-            place: at,
-        };
-    }
-    ArcStep::Arc {
-        kind,
-        place: place as u16,
-        weight: weight as u16,
-    }
+    arc_of(s, count, at, least, b - 0x52)
 }
 
 // Where the arcs of a kind end, after one more arc: it stands before the ends of its own and of later kinds.
