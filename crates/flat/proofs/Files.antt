@@ -26,9 +26,11 @@ pub record PlacesSoFar (s : List ℕ) (start count at : ℕ) : Type 0 where
   pub within : at ≤ length s
   pub reading : Reading s (placePart s) initial at (whole s (placePart s) [] start)
 
+-- before the first place
 pub places-begin : (s : List ℕ) (start : ℕ) → start ≤ length s → PlacesSoFar s start 0 start
 places-begin s start le = record { initial = []; sized = refl; few = omega arith; within = le; reading = begins s (placePart s) [] start }
 
+-- by the next step they end, have a fault, or go on
 module _ {s : List ℕ} {start count at : ℕ} (here : PlacesSoFar s start count at) {step : Step}
     (is : (initial : List ℕ) → length initial ≡ count → placePart s initial at ≡ stepTold (fine (with initial (wordAt s (at + 1))) (at + 3)) step)
     (room : StepRoom 4096 3 (length s) count at step) where
@@ -70,6 +72,7 @@ pub record RowsSoFar (s : List ℕ) (n start : ℕ) (starts : List ℕ) (count a
   pub reading : Reading s (rowPart s n) rows at (whole s (rowPart s n) [] start)
   pub stands : Stands s n starts rows
 
+-- before the first row
 pub rows-begin : (s : List ℕ) (n start : ℕ) (starts : List ℕ) → length starts ≡ 65536 → start ≤ length s → RowsSoFar s n start starts 0 start
 rows-begin s n start starts e le =
     record {
@@ -82,6 +85,7 @@ rows-begin s n start starts e le =
       stands = λ i lt. absurd (omega arith);
     }
 
+-- by the next step they end, have a fault, or go on with a row's arcs
 module _ {s : List ℕ} {n start : ℕ} {starts : List ℕ} {count at : ℕ} (here : RowsSoFar s n start starts count at) {step : Step}
     (is : (places : ℕ) (before : List Row) → length before ≡ count → rowPart s places before at ≡ stepTold (under (with before) (whole s (arcPart s places) (row [] [] []) (at + 1))) step)
     (room : StepRoom 65536 1 (length s) count at step) where
@@ -114,6 +118,7 @@ module _ {s : List ℕ} {n start : ℕ} {starts : List ℕ} {count at : ℕ} (he
       pub row-inside : (at < next) × (next ≤ length s)
       row-inside = (omega (arith, inside .0), inside .1 (row-room .1))
 
+      -- every row so far, and this one, can be read again from its start
       all-stand : Stands s n (set starts count (at + 1)) (with (here .rows) x)
       all-stand i lt = elim (decLt i count) [ yes old ↦ earlier old | no new ↦ last (omega (arith, length-append (here .rows) (x ∷ []), here .sized)) ]
         where
@@ -135,7 +140,7 @@ module _ {s : List ℕ} {n start : ℕ} {starts : List ℕ} {count at : ℕ} (he
             stands = all-stand;
           }
 
--- ---- the end of the file
+-- ---- the end of the file: cut off, a stray byte, a tail, or nothing more
 module _ (s : List ℕ) (f : Flat) (at : ℕ) where
   pub end-cut : length s ≤ at → closing s f at ≡ fault 2 (length s)
   unfolding find
