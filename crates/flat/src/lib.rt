@@ -1,2 +1,2 @@
 // The flat side: its reader. It knows nothing of colours.
-pub mod reader;
+mod reader;
