@@ -1,24 +1,6 @@
 use borrow.Author.Needs.{needs}
 use Rattle.flat.proofs.reader.scan_of.Statement.{statement}
 use Rattle.flat.proofs.reader.scan_of.Tie as tie
-use Rattle.flat.proofs.reader.scan_of.Reads as reads
-use Rattle.flat.proofs.reader.scan_of.Lts as lts
-
--- src/reader.rt:379:23
-enum-known-a : tie.Need-enum-known-a
-enum-known-a c = search needs
-
--- src/reader.rt:381:13
-enum-known-a-2 : tie.Need-enum-known-a-2
-enum-known-a-2 c = search needs
-
--- src/reader.rt:375:1
-returns : tie.Need-returns
-returns c = rw (c .before .a .given .1)
-
--- src/reader.rt:375:1
-returns-2 : tie.Need-returns-2
-returns-2 c = rw (c .before .a2 .given .1)
 
 pub scan-of-spec : {M : Type 1} → statement M
-scan-of-spec = tie.close (tie.spec enum-known-a enum-known-a-2 returns returns-2)
+scan-of-spec = tie.close (tie.spec (λ c. search needs) (λ c. search needs) (λ c. rw (c .before .a .given .1)) (λ c. rw (c .before .a2 .given .1)))
