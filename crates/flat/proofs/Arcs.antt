@@ -1,12 +1,12 @@
 -- The arc at a place of the file, by its kind; and the arcs of a row read so far. Assumes nothing.
-use mathlib.Core.Path.{_≡_, refl, sym, ap, ap₂, _∙_}
+use mathlib.Core.Path.{_≡_, refl, sym, ap, _∙_}
 use Prim.Native.Nat.{_≤_, _<_}
 use native.Mathlib.Omega.{arith}
 use borrow.Author.Tests.{lt-ltb, le-ltb, le-leb, lt-leb, ne-eqb}
 use mathlib.Core.Logic.{_⊎_, inl, inr}
 use lib.ListN.{set, length-set}
-use Rattle.reading.specs.Basics.{ℕ, zero, suc, _+_, _*_, Bool, _&&_, true, false, List, [], _∷_, some, none, length, ltb, leb, eqb, every, numbersFrom, find, byteAt, wordAt}
-use Rattle.reading.specs.Reading.{Answer, fine, fault, _unless_, obey, whole}
+use Rattle.reading.specs.Basics.{ℕ, zero, suc, _+_, _&&_, true, false, List, [], _∷_, some, none, length, ltb, eqb, every, numbersFrom, find, byteAt, wordAt}
+use Rattle.reading.specs.Reading.{fine, fault, _unless_, obey, whole}
 use Rattle.reading.proofs.Commands.{Fails, fails, later, passes, done, other, end, both-hold, first-fails, second-fails, standing-at, standing-none, obey-cut, obey-fails, obey-goes}
 use Rattle.reading.proofs.Parts.{Reading, begins, goes-on, ends, stops}
 use Rattle.firing.specs.Arcs.{Arc, Row, row, Rising, Proper, arcsIn, rowIn}
@@ -18,6 +18,7 @@ use Rattle.flat.proofs.Rows.{in-order, least-added, proper-added, row-a
 
 -- ---- one arc
 module _ (s : List ℕ) (n at : ℕ) (r : Row) where
+  -- the arc whose operands stand there
   abbrev there : Arc
   there = arc (wordAt s (at + 1)) (wordAt s (at + 3))
 
@@ -87,6 +88,7 @@ least-none zero p h lt = sym (le-leb 0 (key 0 p) (omega arith))
 least-none (suc zero) p h lt = sym (le-leb 0 (key 1 p) (omega arith))
 least-none (suc (suc k)) p h lt = sym (le-leb 0 (key (suc (suc k)) p) (omega arith))
 
+-- before the first arc
 pub arcs-begin : (s : List ℕ) (n start : ℕ) (places weights : List ℕ) → length places ≡ 12288 → length weights ≡ 12288 → ArcsRead s n start places weights 0 0 0 0 start
 unfolding arcsIn numbersFrom
 arcs-begin s n start places weights e f =
@@ -114,6 +116,7 @@ module _ {s : List ℕ} {n start : ℕ} {places weights : List ℕ} {takes puts 
   abbrev R : Row
   R = rowIn places weights takes puts end
 
+  -- as many as the lists' front
   row-count : arcCount R ≡ end
   unfolding arcCount
   row-count = omega (arith, arcs-count places weights 0 takes, arcs-count places weights takes puts, arcs-count places weights puts end, here .first, here .second)
@@ -122,7 +125,7 @@ module _ {s : List ℕ} {n start : ℕ} {places weights : List ℕ} {takes puts 
   pub arcs-fit : n ≤ 4096 → end ≤ 12288
   arcs-fit small = omega (arith, few-arcs n R (here .proper), row-count)
 
-  -- the next step
+  -- by the next step the row ends, has a fault, or grows
   module _ {step : ArcStep} (is : (before : Row) → Least before least → arcPart s n before at ≡ arcStep (at + 5) before step) (room : ArcRoom (length s) n at least step) where
     pub arcs-end : step ≡ arc-step.Done → fine R at ≡ whole s (arcPart s n) (row [] [] []) start
     arcs-end e = ends s (arcPart s n) (here .reading) (is R (here .from) ∙ ap (arcStep (at + 5) R) e)

@@ -12,9 +12,9 @@ use Rattle.reading.proofs.Commands.{passes, done, fails, passing, failed, other
 use Rattle.reading.proofs.Parts.{Reading, begins, goes-on, ends, stops}
 use Rattle.firing.specs.Arcs.{Row, row}
 use Rattle.flat.specs.Flat.{Flat, placePart, arcPart, rowPart, readFlat}
-use Rattle.flat.specs.Told.{stepTold, StepRoom, PlacesHeld, Stands, RowsHeld, opening, closing, passed, Held}
-use Rattle.flat.specs.declared.reader.Pass.{Pass}
-use Rattle.flat.specs.declared.reader.Pass.the-variants as pass
+use Rattle.flat.specs.Told.{stepTold, StepRoom, PlacesHeld, Stands, RowsHeld, opening, closing, partTold, Counts, scanOf, Held, Scanned}
+use Rattle.flat.specs.declared.reader.Part.{Part}
+use Rattle.flat.specs.declared.reader.Part.the-variants as part
 use Rattle.flat.specs.declared.reader.Step.{Step}
 use Rattle.flat.specs.declared.reader.Step.the-variants.{Done, More, Stop}
 
@@ -26,9 +26,11 @@ pub record PlacesSoFar (s : List ℕ) (start count at : ℕ) : Type 0 where
   pub within : at ≤ length s
   pub reading : Reading s (placePart s) initial at (whole s (placePart s) [] start)
 
+-- before the first place
 pub places-begin : (s : List ℕ) (start : ℕ) → start ≤ length s → PlacesSoFar s start 0 start
 places-begin s start le = record { initial = []; sized = refl; few = omega arith; within = le; reading = begins s (placePart s) [] start }
 
+-- by the next step they end, have a fault, or go on
 module _ {s : List ℕ} {start count at : ℕ} (here : PlacesSoFar s start count at) {step : Step}
     (is : (initial : List ℕ) → length initial ≡ count → placePart s initial at ≡ stepTold (fine (with initial (wordAt s (at + 1))) (at + 3)) step)
     (room : StepRoom 4096 3 (length s) count at step) where
@@ -70,6 +72,7 @@ pub record RowsSoFar (s : List ℕ) (n start : ℕ) (starts : List ℕ) (count a
   pub reading : Reading s (rowPart s n) rows at (whole s (rowPart s n) [] start)
   pub stands : Stands s n starts rows
 
+-- before the first row
 pub rows-begin : (s : List ℕ) (n start : ℕ) (starts : List ℕ) → length starts ≡ 65536 → start ≤ length s → RowsSoFar s n start starts 0 start
 rows-begin s n start starts e le =
     record {
@@ -82,6 +85,7 @@ rows-begin s n start starts e le =
       stands = λ i lt. absurd (omega arith);
     }
 
+-- by the next step they end, have a fault, or go on with a row's arcs
 module _ {s : List ℕ} {n start : ℕ} {starts : List ℕ} {count at : ℕ} (here : RowsSoFar s n start starts count at) {step : Step}
     (is : (places : ℕ) (before : List Row) → length before ≡ count → rowPart s places before at ≡ stepTold (under (with before) (whole s (arcPart s places) (row [] [] []) (at + 1))) step)
     (room : StepRoom 65536 1 (length s) count at step) where
@@ -114,6 +118,7 @@ module _ {s : List ℕ} {n start : ℕ} {starts : List ℕ} {count at : ℕ} (he
       pub row-inside : (at < next) × (next ≤ length s)
       row-inside = (omega (arith, inside .0), inside .1 (row-room .1))
 
+      -- every row so far, and this one, can be read again from its start
       all-stand : Stands s n (set starts count (at + 1)) (with (here .rows) x)
       all-stand i lt = elim (decLt i count) [ yes old ↦ earlier old | no new ↦ last (omega (arith, length-append (here .rows) (x ∷ []), here .sized)) ]
         where
@@ -135,7 +140,7 @@ module _ {s : List ℕ} {n start : ℕ} {starts : List ℕ} {count at : ℕ} (he
             stands = all-stand;
           }
 
--- ---- the end of the file
+-- ---- the end of the file: cut off, a stray byte, a tail, or nothing more
 module _ (s : List ℕ) (f : Flat) (at : ℕ) where
   pub end-cut : length s ≤ at → closing s f at ≡ fault 2 (length s)
   unfolding find
@@ -150,9 +155,9 @@ module _ (s : List ℕ) (f : Flat) (at : ℕ) where
     unfolding find
     end-tail lt = rw (needs-goes s at 0x5F (command 0x5F 0 [] (fine f) ∷ []) e refl (omega arith) done, failed (fails {k = 15} {checks = []} (ne-eqb (at + 1) (length s) (λ e. omega arith))))
 
-    pub end-fine : at + 1 ≡ length s → closing s f at ≡ fine f (length s)
+    pub end-fine : at + 1 ≡ length s → closing s f at ≡ fine f (at + 1)
     unfolding find
-    end-fine last = rw (needs-goes s at 0x5F (command 0x5F 0 [] (fine f) ∷ []) e refl (omega arith) done, passing (passes {k = 15} (eq-eqb (at + 1) (length s) last) done), last)
+    end-fine last = rw (needs-goes s at 0x5F (command 0x5F 0 [] (fine f) ∷ []) e refl (omega arith) done, passing (passes {k = 15} (eq-eqb (at + 1) (length s) last) done))
 
 -- ---- the whole file, part after part
 abbrev content : List ℕ → ℕ → Answer Flat
@@ -161,36 +166,35 @@ content s start =
     whole s (rowPart s (length initial)) [] at andThen λ rows end.
     fine (record { initial = initial; rows = rows }) end
 
-module _ (s : List ℕ) {first : Pass} (opened : (content : ℕ → Answer Flat) → opening s content ≡ passed (content 2) first) where
-  pub not-opened : {k p : ℕ} → first ≡ pass.Stop k p → readFlat s ≡ refused k p
+module _ (s : List ℕ) {first : Part} (opened : (content : ℕ → Answer Flat) → opening s content ≡ partTold content first) where
+  pub not-opened : {k p : ℕ} → first ≡ part.Fault k p → readFlat s ≡ refused k p
   unfolding readFlat file
   not-opened e = rw (opened (content s), e)
 
-  module _ (e : first ≡ pass.Fine) where
-    read-on : readFlat s ≡ outcome (content s 2 andThen λ f at. closing s f at)
+  module _ {a b start : ℕ} (e : first ≡ part.Whole a b start) where
+    read-on : readFlat s ≡ outcome (content s start andThen λ f at. closing s f at)
     unfolding readFlat file
     read-on = rw (opened (content s), e)
 
-    pub places-refused : {k p : ℕ} → fault k p ≡ whole s (placePart s) [] 2 → readFlat s ≡ refused k p
+    pub places-refused : {k p : ℕ} → fault k p ≡ whole s (placePart s) [] start → readFlat s ≡ refused k p
     places-refused f = read-on ∙ rw (← f)
 
-    module _ {count next : ℕ} (places : PlacesHeld s 2 count next) where
+    module _ {count next : ℕ} (places : PlacesHeld s start count next) where
       pub rows-refused : {k p : ℕ} → fault k p ≡ whole s (rowPart s count) [] next → readFlat s ≡ refused k p
       rows-refused f = read-on ∙ rw (← places .is, places .sized, ← f)
 
-      module _ {starts : List ℕ} {rows end : ℕ} (held : RowsHeld s count next starts rows end) {last : Pass} (closed : (f : Flat) → closing s f end ≡ passed (fine f (length s)) last) where
-        pub end-refused : {k p : ℕ} → last ≡ pass.Stop k p → readFlat s ≡ refused k p
-        end-refused f = read-on ∙ rw (← places .is, places .sized, ← held .is, closed (record { initial = places .initial; rows = held .rows }), f)
-
-        pub all-read : last ≡ pass.Fine → (f : Flat) × Held s starts count rows f
-        all-read f = (
+      -- what stands at the end decides
+      module _ {starts : List ℕ} {rows end : ℕ} (held : RowsHeld s count next starts rows end) where
+        pub all-read : (last : Part) → ((f : Flat) → closing s f end ≡ partTold (fine f) last) → Counts count rows last → Scanned s starts (scanOf last)
+        all-read (part.Fault k p) closed counts = read-on ∙ rw (← places .is, places .sized, ← held .is, closed (record { initial = places .initial; rows = held .rows }))
+        all-read (part.Whole n m after) closed counts = (
           record { initial = places .initial; rows = held .rows },
-          record {
-            is = read-on ∙ rw (← places .is, places .sized, ← held .is, closed (record { initial = places .initial; rows = held .rows }), f);
+          rw (counts .0, counts .1) (record {
+            is = read-on ∙ rw (← places .is, places .sized, ← held .is, closed (record { initial = places .initial; rows = held .rows }));
             places-are = places .sized;
             rows-are = held .sized;
             few-places = places .few;
             few-rows = held .few;
             stands = λ i lt. held .stands i (omega (arith, held .sized));
-          },
+          }),
         )

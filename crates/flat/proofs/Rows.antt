@@ -3,13 +3,12 @@ use mathlib.Core.Path.{_≡_, refl, sym, ap, ap₂, _∙_}
 use mathlib.Core.Bool.{and-assoc, and-true}
 use Prim.Native.Nat.{_≤_, _<_}
 use native.Mathlib.Omega.{arith}
-use native.Mathlib.Numerals.{add-one}
 use native.Mathlib.Decide.{decLe}
 use borrow.Author.Tests.{lt-ltb, le-ltb, le-leb, lt-leb, ne-eqb, ltb-true, eqb-true}
-use lib.ListN.{set, length-set, length-append, length-map}
+use lib.ListN.{set, length-append, length-map}
 use lib.Seq.{getD-set-same, getD-set-other}
 use Rattle.reading.specs.Basics.{ℕ, zero, suc, _+_, _-_, _*_, Bool, _&&_, true, false, List, [], _∷_, _++_, map, length, getD, ltb, leb, eqb, if_then_else_, with, numbersFrom, every}
-use Rattle.reading.proofs.Commands.{both-hold, first-fails, second-fails}
+use Rattle.reading.proofs.Commands.{first-fails, second-fails}
 use Rattle.firing.specs.Arcs.{Arc, Row, row, Rising, none, more, Proper, arcsIn, rowIn}
 use Rattle.flat.specs.Flat.{rise}
 use Rattle.flat.specs.Told.{inOrder, added, key, Least, arc, laterEnd}
@@ -22,10 +21,7 @@ left-holds false b e = e
 
 pub right-holds : (a b : Bool) → a && b ≡ true → b ≡ true
 right-holds true b e = e
-right-holds false b e = let z : false ≡ true = e in absurd (absent z)
-  where
-    absent : false ≡ true → ⊥
-    absent z = let n : _≡_ {A = ℕ} 0 1 = cc in omega arith
+right-holds false b e = let z : _≡_ {A = ℕ} 0 1 = cc in absurd (omega arith)
 
 -- a test of every element, with one more at the end
 every-with : {A : Type 0} (test : A → Bool) (l : List A) (a : A) → every test (with l a) ≡ every test l && test a
@@ -48,6 +44,7 @@ rising-few : {n from : ℕ} {l : List Arc} → Rising n from l → length l ≤ 
 rising-few none = omega arith
 rising-few (more p q v r) = omega (arith, rising-few r)
 
+-- a proper row stays proper with an arc in order
 module _ (n : ℕ) (r : Row) (a : Arc) (proper : Proper n r) (lt : a .place < n) (w : 0 < a .weight) where
   pub proper-added : (kind : ℕ) → inOrder kind r (a .place) ≡ true → Proper n (added kind r a)
   proper-added zero e =
@@ -63,12 +60,14 @@ module _ (n : ℕ) (r : Row) (a : Arc) (proper : Proper n r) (lt : a .place < n)
 unfoldable pub arcCount : Row → ℕ
 arcCount r = length (r .takes) + (length (r .puts) + length (r .hinders))
 
+-- one more with an arc more
 pub one-more : (kind : ℕ) (r : Row) (a : Arc) → arcCount (added kind r a) ≡ arcCount r + 1
 unfolding arcCount
 one-more zero r a = simp length-append (omega arith)
 one-more (suc zero) r a = simp length-append (omega arith)
 one-more (suc (suc kind)) r a = simp length-append (omega arith)
 
+-- a proper row has few
 pub few-arcs : (n : ℕ) (r : Row) → Proper n r → arcCount r ≤ 3 * n
 unfolding arcCount
 few-arcs n r p = omega (arith, rising-few (p .takes), rising-few (p .puts), rising-few (p .hinders))
@@ -119,6 +118,7 @@ module _ (r : Row) (a : Arc) (least : ℕ) (is : Least r least) (lt : a .place <
       (λ up. rises-on (r .hinders) a q (omega arith) ∙ (in-order r least is 2 q (omega arith) lt′ (omega arith))) (λ down. rises-not (r .hinders) a q (omega arith))
 
 -- ---- in two lent lists
+-- so many arcs from a to b
 numbers-count : (a n : ℕ) → length (numbersFrom a n) ≡ n
 unfolding numbersFrom
 numbers-count a zero = refl
@@ -128,21 +128,25 @@ pub arcs-count : (places weights : List ℕ) (a b : ℕ) → length (arcsIn plac
 unfolding arcsIn
 arcs-count places weights a b = length-map (numbersFrom a (b - a)) _ ∙ numbers-count a (b - a)
 
+-- none from a to a
 none-there : (places weights : List ℕ) (a : ℕ) → arcsIn places weights a a ≡ []
 unfolding arcsIn numbersFrom
 none-there places weights a = let e : a - a ≡ 0 = omega arith in rw e
 
+-- the arc number i
 abbrev arcAt : List ℕ → List ℕ → ℕ → Arc
 arcAt places weights i = arc (getD places i 0) (getD weights i 0)
 
--- one more arc stored at the end
+-- one more arc is stored at the end
 module _ (places weights : List ℕ) (end p w : ℕ) (room : end < length places) (space : end < length weights) where
+  -- there it stands, and nothing else has moved
   stored : (i : ℕ) → i ≡ end → arcAt (set places end p) (set weights end w) i ≡ arc p w
   stored i e = rw (e, getD-set-same places end p 0, getD-set-same weights end w 0)
 
   kept : (i : ℕ) → i < end → arcAt (set places end p) (set weights end w) i ≡ arcAt places weights i
   kept i lt = rw (getD-set-other places end i p 0 (λ e. omega arith), getD-set-other weights end i w 0 (λ e. omega arith))
 
+  -- the arcs before it are kept, and it stands after them
   all-kept : (a n : ℕ) → a + n ≤ end → map (arcAt (set places end p) (set weights end w)) (numbersFrom a n) ≡ map (arcAt places weights) (numbersFrom a n)
   unfolding numbersFrom
   all-kept a zero le = refl
@@ -167,6 +171,7 @@ module _ (places weights : List ℕ) (takes puts end p w least : ℕ) (room : en
   abbrev R : Row
   R = rowIn places weights takes puts end
 
+  -- no arcs, so both ends are one
   empty : (a b : ℕ) → a ≤ b → eqb (length (arcsIn places weights a b)) 0 ≡ true → a ≡ b
   empty a b le e = omega (arith, arcs-count places weights a b, eqb-true (length (arcsIn places weights a b)) 0 e)
 
@@ -177,6 +182,7 @@ module _ (places weights : List ℕ) (takes puts end p w least : ℕ) (room : en
   no-hinders : (t : Bool) → t && eqb (length (R .hinders)) 0 ≡ true → puts ≡ end
   no-hinders t e = empty puts end second (right-holds t _ e)
 
+  -- the row with it is the row in the lists after both stores
   pub row-added : (kind : ℕ) → kind ≤ 2 → least ≤ key kind p
       → added kind (rowIn places weights takes puts end) (arc p w)
       ≡ rowIn (set places end p) (set weights end w) (laterEnd kind 0 (end + 1) takes) (laterEnd kind 1 (end + 1) puts) (end + 1)

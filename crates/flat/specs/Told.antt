@@ -11,10 +11,8 @@ use Rattle.flat.specs.declared.reader.RowRead.{RowRead}
 use Rattle.flat.specs.declared.reader.RowRead.the-variants as row-read
 use Rattle.flat.specs.declared.reader.Step.{Step}
 use Rattle.flat.specs.declared.reader.Step.the-variants as step
-use Rattle.flat.specs.declared.reader.Counted.{Counted}
-use Rattle.flat.specs.declared.reader.Counted.the-variants as counted
-use Rattle.flat.specs.declared.reader.Pass.{Pass}
-use Rattle.flat.specs.declared.reader.Pass.the-variants as pass
+use Rattle.flat.specs.declared.reader.Part.{Part}
+use Rattle.flat.specs.declared.reader.Part.the-variants as part
 use Rattle.flat.specs.declared.reader.Scan.{Scan}
 use Rattle.flat.specs.declared.reader.Scan.the-variants as scan
 
@@ -95,9 +93,9 @@ pub record PlacesHeld (s : List ℕ) (start count next : ℕ) : Type 0 where
   pub within : next ≤ length s
   pub is : fine initial next ≡ whole s (placePart s) [] start
 
-abbrev pub PlacesRead : List ℕ → ℕ → Counted → Type 0
-PlacesRead s start (counted.Whole count next) = PlacesHeld s start count next
-PlacesRead s start (counted.Fault number place) = fault number place ≡ whole s (placePart s) [] start
+abbrev pub PlacesRead : List ℕ → ℕ → Part → Type 0
+PlacesRead s start (part.Whole places rows next) = PlacesHeld s start places next
+PlacesRead s start (part.Fault number place) = fault number place ≡ whole s (placePart s) [] start
 
 -- where a row's arcs start, the row can be read again
 abbrev pub Stands : List ℕ → ℕ → List ℕ → List Row → Type 0
@@ -112,9 +110,14 @@ pub record RowsHeld (s : List ℕ) (places start : ℕ) (starts : List ℕ) (cou
   pub is : fine rows next ≡ whole s (rowPart s places) [] start
   pub stands : Stands s places starts rows
 
-abbrev pub RowsRead : List ℕ → ℕ → ℕ → List ℕ → Counted → Type 0
-RowsRead s places start starts (counted.Whole count next) = RowsHeld s places start starts count next
-RowsRead s places start starts (counted.Fault number place) = fault number place ≡ whole s (rowPart s places) [] start
+abbrev pub RowsRead : List ℕ → ℕ → ℕ → List ℕ → Part → Type 0
+RowsRead s n start starts (part.Whole places rows next) = RowsHeld s n start starts rows next
+RowsRead s n start starts (part.Fault number place) = fault number place ≡ whole s (rowPart s n) [] start
+
+-- the place after a row's arcs, or their fault
+abbrev pub rowEnd : ℕ → ℕ → RowRead → Part
+rowEnd places rows (row-read.Whole takes puts hinders next) = part.Whole places rows next
+rowEnd places rows (row-read.Fault number place) = part.Fault number place
 
 -- ---- the whole file
 -- its opening command, and its end with nothing after it
@@ -124,14 +127,23 @@ opening s content = needed s (command 0x02 1 ((5 unless eqb (byteAt s 1) 1) ∷ 
 abbrev pub closing : List ℕ → Flat → ℕ → Answer Flat
 closing s f at = needed s (command 0x5F 0 [] (fine f) ∷ []) at andThen λ f end. checked end ((15 unless eqb end (length s)) ∷ []) f end
 
--- what follows a check
-abbrev pub passed : {A : Type 0} → Answer A → Pass → Answer A
-passed answer pass.Fine = answer
-passed answer (pass.Stop number place) = fault number place
+-- what follows at the place up to which a file was read
+abbrev pub partTold : {A : Type 0} → (ℕ → Answer A) → Part → Answer A
+partTold go (part.Whole places rows next) = go next
+partTold go (part.Fault number place) = fault number place
 
-abbrev pub Opened : ℕ → Pass → Type 0
-Opened len pass.Fine = 2 ≤ len
-Opened len (pass.Stop number place) = Unit {0}
+abbrev pub PartWithin : ℕ → Part → Type 0
+PartWithin len (part.Whole places rows next) = next ≤ len
+PartWithin len (part.Fault number place) = Unit {0}
+
+-- so many flat places and rows were read
+abbrev pub Counts : ℕ → ℕ → Part → Type 0
+Counts n m (part.Whole places rows next) = (places ≡ n) × (rows ≡ m)
+Counts n m (part.Fault number place) = Unit {0}
+
+abbrev pub scanOf : Part → Scan
+scanOf (part.Whole places rows next) = scan.Net places rows
+scanOf (part.Fault number place) = scan.Refused number place
 
 -- the arcs that stand from a place on, over so many flat places
 abbrev pub arcsAt : List ℕ → ℕ → ℕ → Answer Row

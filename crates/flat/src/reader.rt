@@ -1,15 +1,14 @@
 // Reads flat files: the places, the rows, and a row's arcs.
-use reading::byte_at;
 use reading::word_at;
 ghost use mathlib.Core.Path.{_≡_};
 ghost use mathlib.Core.List.{List, []};
 ghost use Prim.Native.Nat.{ℕ, _≤_, _+_};
 ghost use lib.ListN.{length};
-ghost use Rattle.reading.specs.Basics.{with, wordAt};
+ghost use Rattle.reading.specs.Basics.{with, byteAt, wordAt};
 ghost use Rattle.reading.specs.Reading.{Answer, fine, under, whole};
 ghost use Rattle.firing.specs.Arcs.{Row, row};
 ghost use Rattle.flat.specs.Flat.{Flat, placePart, arcPart, rowPart};
-ghost use Rattle.flat.specs.Told.{Least, arcStep, ArcRoom, laterEnd, rowRead, RowProper, RowWithin, stepTold, StepRoom, PlacesRead, RowsRead, opening, closing, passed, Opened, Scanned};
+ghost use Rattle.flat.specs.Told.{Least, arcStep, ArcRoom, laterEnd, rowRead, RowProper, RowWithin, stepTold, StepRoom, PlacesRead, rowEnd, RowsRead, opening, closing, partTold, PartWithin, Counts, scanOf, Scanned};
 
 // One step of a row's arcs: the kind is 0 for a take, 1 for a put, 2 for a hinder.
 pub enum ArcStep {
@@ -18,8 +17,43 @@ pub enum ArcStep {
     Stop { number: u8, place: usize },
 }
 
-// The arc at a place of the file, over so many flat places. An arc's key is its kind * 65536 + its flat place;
-// the least key allowed here is given.
+// An arc of a kind that stands whole at a place, over so many flat places. Its key is its kind * 65536 + its flat place;
+// the least key allowed is given.
+fn arc_of(s: &[u8], count: usize, at: usize, least: usize, kind: u8) -> ArcStep
+    requires { ⌜ kind ≤ 2 ⌝ }
+    requires { ⌜ byteAt (now s) at ≡ 0x52 + kind ⌝ }
+    requires { ⌜ at + 5 ≤ length (now s) ⌝ }
+    ensures is { λ r. ⌜ ((before : Row) → Least before least → arcPart (now (s .entry)) count before at ≡ arcStep (at + 5) before r) ⌝ }
+    ensures room { λ r. ⌜ ArcRoom (length (now (s .entry))) count at least r ⌝ }
+{
+    let place = word_at(s, at + 1);
+    if count <= place {
+        return ArcStep::Stop {
+            number: 5,
+            place: at,
+        };
+    }
+    let weight = word_at(s, at + 3);
+    if weight < 1 {
+        return ArcStep::Stop {
+            number: 5,
+            place: at,
+        };
+    }
+    if kind as usize * 65536 + place < least {
+        return ArcStep::Stop {
+            number: 9,
+            place: at,
+        };
+    }
+    ArcStep::Arc {
+        kind,
+        place: place as u16,
+        weight: weight as u16,
+    }
+}
+
+// The arc at a place of the file, or the end of the row.
 fn arc_at(s: &[u8], count: usize, at: usize, least: usize) -> ArcStep
     ensures is { λ r. ⌜ ((before : Row) → Least before least → arcPart (now (s .entry)) count before at ≡ arcStep (at + 5) before r) ⌝ }
     ensures room { λ r. ⌜ ArcRoom (length (now (s .entry))) count at least r ⌝ }
@@ -40,32 +74,7 @@ fn arc_at(s: &[u8], count: usize, at: usize, least: usize) -> ArcStep
             place: s.len(),
         };
     }
-    let place = word_at(s, at + 1);
-    if count <= place {
-        return ArcStep::Stop {
-            number: 5,
-            place: at,
-        };
-    }
-    let weight = word_at(s, at + 3);
-    if weight < 1 {
-        return ArcStep::Stop {
-            number: 5,
-            place: at,
-        };
-    }
-    let kind = b - 0x52;
-    if kind as usize * 65536 + place < least {
-        return ArcStep::Stop {
-            number: 9,
-            place: at,
-        };
-    }
-    ArcStep::Arc {
-        kind,
-        place: place as u16,
-        weight: weight as u16,
-    }
+    arc_of(s, count, at, least, b - 0x52)
 }
 
 // Where the arcs of a kind end, after one more arc: it stands before the ends of its own and of later kinds.
@@ -174,14 +183,21 @@ fn place_at(s: &[u8], count: usize, at: usize) -> Step
     Step::Done
 }
 
-// How many were read, and the place after them; or the first fault.
-pub enum Counted {
-    Whole { count: usize, next: usize },
-    Fault { number: u8, place: usize },
+// What has been read of a file: so many flat places and rows, up to a place; or the first fault.
+pub enum Part {
+    Whole {
+        places: usize,
+        rows: usize,
+        next: usize,
+    },
+    Fault {
+        number: u8,
+        place: usize,
+    },
 }
 
 // The flat places. Their initial counts are not kept.
-fn read_places(s: &[u8], start: usize) -> Counted
+fn read_places(s: &[u8], start: usize) -> Part
     requires { ⌜ start ≤ length (now s) ⌝ }
     ensures { λ r. ⌜ PlacesRead (now (s .entry)) start r ⌝ }
 {
@@ -190,10 +206,14 @@ fn read_places(s: &[u8], start: usize) -> Counted
     loop {
         match place_at(s, count, at) {
             Step::Done => {
-                return Counted::Whole { count, next: at };
+                return Part::Whole {
+                    places: count,
+                    rows: 0,
+                    next: at,
+                };
             }
             Step::Stop { number, place } => {
-                return Counted::Fault { number, place };
+                return Part::Fault { number, place };
             }
             Step::More => {
                 count += 1;
@@ -224,6 +244,21 @@ fn row_at(s: &[u8], rows: usize, at: usize) -> Step
     Step::Done
 }
 
+// Where a row's arcs end, or their fault, after so many flat places and rows.
+fn row_end(places: usize, rows: usize, a: RowRead) -> Part
+    ensures { λ r. ⌜ r ≡ rowEnd places rows a ⌝ }
+{
+    match a {
+        RowRead::Fault { number, place } => Part::Fault { number, place },
+        RowRead::Whole {
+            takes: _,
+            puts: _,
+            hinders: _,
+            next,
+        } => Part::Whole { places, rows, next },
+    }
+}
+
 // The rows, over so many flat places: where each row's arcs start goes into the front of starts.
 fn read_rows(
     s: &[u8],
@@ -232,7 +267,7 @@ fn read_rows(
     starts: &mut [usize],
     places: &mut [u16],
     weights: &mut [u16],
-) -> Counted
+) -> Part
     requires { ⌜ count ≤ 4096 ⌝ }
     requires { ⌜ start ≤ length (now s) ⌝ }
     requires { ⌜ length (now starts) ≡ 65536 ⌝ }
@@ -245,100 +280,118 @@ fn read_rows(
     loop {
         match row_at(s, rows, at) {
             Step::Done => {
-                return Counted::Whole {
-                    count: rows,
+                return Part::Whole {
+                    places: count,
+                    rows,
                     next: at,
                 };
             }
             Step::Stop { number, place } => {
-                return Counted::Fault { number, place };
+                return Part::Fault { number, place };
             }
-            Step::More => match read_arcs(s, count, at + 1, places, weights) {
-                RowRead::Fault { number, place } => {
-                    return Counted::Fault { number, place };
-                }
-                RowRead::Whole {
+            Step::More => {
+                let a = read_arcs(s, count, at + 1, places, weights);
+                let RowRead::Whole {
                     takes: _,
                     puts: _,
                     hinders: _,
                     next,
-                } => {
-                    starts[rows] = at + 1;
-                    rows += 1;
-                    at = next;
-                }
-            },
+                } = a
+                else {
+                    return row_end(count, rows, a);
+                };
+                starts[rows] = at + 1;
+                rows += 1;
+                at = next;
+            }
         }
     }
 }
 
-// A check that all must pass.
-pub enum Pass {
-    Fine,
-    Stop { number: u8, place: usize },
-}
-
 // The file opens with 0x02 and edition 1.
-fn opens(s: &[u8]) -> Pass
-    ensures is { λ r. ⌜ ((content : ℕ → Answer Flat) → opening (now (s .entry)) content ≡ passed (content 2) r) ⌝ }
-    ensures room { λ r. ⌜ Opened (length (now (s .entry))) r ⌝ }
+fn opens(s: &[u8]) -> Part
+    ensures is { λ r. ⌜ ((content : ℕ → Answer Flat) → opening (now (s .entry)) content ≡ partTold content r) ⌝ }
+    ensures room { λ r. ⌜ PartWithin (length (now (s .entry))) r ⌝ }
 {
     if s.len() < 1 {
-        return Pass::Stop {
+        return Part::Fault {
             number: 2,
             place: s.len(),
         };
     }
     if s[0] != 2 {
-        return Pass::Stop {
+        return Part::Fault {
             number: 3,
             place: 0,
         };
     }
     if s.len() < 2 {
-        return Pass::Stop {
+        return Part::Fault {
             number: 2,
             place: s.len(),
         };
     }
     if s[1] != 1 {
-        return Pass::Stop {
+        return Part::Fault {
             number: 5,
             place: 0,
         };
     }
-    Pass::Fine
+    Part::Whole {
+        places: 0,
+        rows: 0,
+        next: 2,
+    }
 }
 
 // The file closes at a place with 0x5F, and nothing after it.
-fn closes(s: &[u8], at: usize) -> Pass
-    ensures { λ r. ⌜ ((f : Flat) → closing (now (s .entry)) f at ≡ passed (fine f (length (now (s .entry)))) r) ⌝ }
+fn closes(s: &[u8], places: usize, rows: usize, at: usize) -> Part
+    ensures is { λ r. ⌜ ((f : Flat) → closing (now (s .entry)) f at ≡ partTold (fine f) r) ⌝ }
+    ensures counts { λ r. ⌜ Counts places rows r ⌝ }
 {
     if s.len() <= at {
-        return Pass::Stop {
+        return Part::Fault {
             number: 2,
             place: s.len(),
         };
     }
     if s[at] != 0x5F {
-        return Pass::Stop {
+        return Part::Fault {
             number: 3,
             place: at,
         };
     }
     if at + 1 < s.len() {
-        return Pass::Stop {
+        return Part::Fault {
             number: 15,
             place: at + 1,
         };
     }
-    Pass::Fine
+    Part::Whole {
+        places,
+        rows,
+        next: at + 1,
+    }
 }
 
 // What reading a whole flat file gives: how many flat places and rows it has, or a refusal.
 pub enum Scan {
     Net { places: usize, rows: usize },
     Refused { number: u8, place: usize },
+}
+
+// All that was read is the net; a fault is the refusal.
+fn scan_of(a: Part) -> Scan
+    ensures { λ r. ⌜ r ≡ scanOf a ⌝ }
+{
+    match a {
+        Part::Fault { number, place } => Scan::Refused { number, place },
+        Part::Whole {
+            places,
+            rows,
+            next: _,
+        } => Scan::Net { places, rows },
+    }
 }
 
 // Reads a whole flat file: where each row's arcs start goes into the front of starts.
@@ -348,25 +401,32 @@ pub fn scan_file(s: &[u8], starts: &mut [usize], places: &mut [u16], weights: &m
     requires { ⌜ length (now weights) ≡ 12288 ⌝ }
     ensures { λ r. ⌜ Scanned (now (s .entry)) (now (starts .exit)) r ⌝ }
 {
-    match opens(s) {
-        Pass::Stop { number, place } => Scan::Refused { number, place },
-        Pass::Fine => match read_places(s, 2) {
-            Counted::Fault { number, place } => Scan::Refused { number, place },
-            Counted::Whole { count, next } => {
-                match read_rows(s, count, next, starts, places, weights) {
-                    Counted::Fault { number, place } => Scan::Refused { number, place },
-                    Counted::Whole {
-                        count: rows,
-                        next: end,
-                    } => match closes(s, end) {
-                        Pass::Stop { number, place } => Scan::Refused { number, place },
-                        Pass::Fine => Scan::Net {
-                            places: count,
-                            rows,
-                        },
-                    },
-                }
-            }
-        },
-    }
+    let a = opens(s);
+    let Part::Whole {
+        places: _,
+        rows: _,
+        next: start,
+    } = a
+    else {
+        return scan_of(a);
+    };
+    let b = read_places(s, start);
+    let Part::Whole {
+        places: count,
+        rows: _,
+        next: at,
+    } = b
+    else {
+        return scan_of(b);
+    };
+    let c = read_rows(s, count, at, starts, places, weights);
+    let Part::Whole {
+        places: _,
+        rows,
+        next: end,
+    } = c
+    else {
+        return scan_of(c);
+    };
+    scan_of(closes(s, count, rows, end))
 }
