@@ -2,6 +2,7 @@
 
     cd tests && python3 -m unittest
 """
+import pathlib
 import random
 import struct
 import unittest
@@ -267,6 +268,8 @@ class NetRefusals(unittest.TestCase):
         one = "10 02 11 00 12 00 14"
         self.passes(net(one, "15 24", "32" * 14, "30 00 30 00"))
         self.refused(net(one, "15 24", "32" * 15, "30 00 30 00"), 7, 26)
+        self.passes(net(one, "15 24 30 00", "33" * 14, "30 00"))
+        self.refused(net(one, "15 24 30 00", "33" * 15, "30 00"), 7, 28)
         self.refused(net(one, "15 24", "32" * 15, "30 01 30 00"), 5, 26)
         self.passes(net(one, "16 00", "44 0100" * 14, "40 0100 30 00"))
         self.passes(net(one, "16 00", "44 0100" * 15, "41 0100"))
@@ -480,6 +483,23 @@ class Generator(unittest.TestCase):
         self.assertEqual(numbers["flat"], {2, 3, 4, 5, 9, 12, 13, 14, 15})
         self.assertEqual(numbers["net"] | {1, 11}, set(range(1, 16)))
         self.assertEqual((answers["flat"], answers["net"]), ({0, 1, 3, 4, 5}, {0, 1, 2, 3, 4, 5}))
+
+
+class Stored(unittest.TestCase):
+    """The stored stream of the program `cases`: its text is the reference's, and it reaches all that the flat side can say."""
+
+    def test_stored(self):
+        crate = pathlib.Path(__file__).parent.parent / "crates" / "cases"
+        stored = (crate / "stdin").read_bytes()
+        self.assertEqual(stream.expected(stored), (crate / "stdout").read_text())
+        numbers, answers = set(), set()
+        for number, buffers in stream.read_cases(stored):
+            result, lent = stream.run_case(number, buffers)
+            if result[0] == "refused":
+                numbers.add(result[1])
+            elif number == 3:
+                answers.update(lent["answers"][:result[1]])
+        self.assertEqual((numbers, answers), ({2, 3, 4, 5, 9, 12, 13, 14, 15}, {0, 1, 3, 4, 5}))
 
 
 if __name__ == "__main__":
