@@ -2,7 +2,7 @@
 
     python3 generate.py --seed 7 --count 300 [--calls flat|net|all] [--edges] > STREAM
 
-The same seed gives the same stream. --edges puts the fixed cases of the flat side's limits in front.
+The same seed gives the same stream. --edges puts fixed cases in front: the two-gauge net's and those at the limits.
 A file is made as a list of commands, each a bytes value, so that damage can move whole commands as well as single bytes.
 """
 import argparse
@@ -15,6 +15,16 @@ import stream
 
 HEADS = [*reference.NET_OPERANDS, *reference.FLAT_OPERANDS, 0x00, 0x1A, 0x26, 0x34, 0x45, 0x55, 0x60, 0x61, 0xFF]
 EDGE_BYTES = (0, 1, 2, 15, 16, 31, 32, 63, 64, 65, 127, 128, 255)
+
+
+TWO_GAUGE = bytes.fromhex(
+    "01 01 10 02 11 00 12 00 12 00 14 16 00 40 01 00 30 00 17 01 40 01 00 32 30 00 18 01 40 02 00 30 00 19 00 00 00 03 00 1F")
+TWO_GAUGE_FLAT = bytes.fromhex(
+    "02 01 50 03 00 50 00 00 50 00 00 50 00 00 51 52 00 00 01 00 53 03 00 01 00 54 02 00 02 00 "
+    "51 52 01 00 01 00 53 02 00 01 00 54 03 00 02 00 5F")
+# Counts of the two-gauge net and the orders fired on them: the document's cases.
+TWO_GAUGE_FIRED = [
+    ((3, 0, 0, 0), (0, 0, 0, 0)), ((0, 1, 0, 2), (1,)), ((0, 1, 0, 1), (1,)), ((1, 0, 0, 65535), (0,)), ((3, 0, 0, 0), (2,))]
 
 
 def word(n):
@@ -408,16 +418,61 @@ def net_case(rng):
     return stream.write_case(name, data, marking, orders, lent(rng, len(orders) // 6))
 
 
+def images_of(*rows):
+    """A list of images of these rows."""
+    return b"".join(struct.pack("<BI", 0x61, row) for row in rows)
+
+
+def orders_of(*colours):
+    """A list of orders of transition 0, each with one colour."""
+    return b"".join(bytes([0x60, 0, c, 0, 0, 0]) for c in colours)
+
+
 def flat_edges():
-    """The flat side's limits: 4,096 flat places and one more, no bytes at all."""
+    """The two-gauge net's cases on its flat file, and the flat side's limits."""
     places = b"\x50\0\0" * 4096
-    return [
+    fired = [stream.write_case("fire_images", TWO_GAUGE_FLAT, stream.packed(m), images_of(*o), b"\7" * len(o)) for m, o in TWO_GAUGE_FIRED]
+    first = [stream.write_case("first_row", TWO_GAUGE_FLAT, stream.packed(m)) for m in ((3, 0, 0, 0), (0, 0, 0, 0))]
+    return fired + first + [
+        stream.write_case("flat_sizes", TWO_GAUGE_FLAT),
         stream.write_case("flat_sizes", b""),
         stream.write_case("flat_sizes", b"\x02\x01" + places + b"\x5F"),
         stream.write_case("flat_sizes", b"\x02\x01" + places + b"\x50\0\0\x5F"),
         stream.write_case("first_row", b"\x02\x01\x5F", b""),
         stream.write_case("fire_images", b"\x02\x01\x5F", b"", b"", b""),
     ]
+
+
+def edge_nets():
+    """Net files at each limit and one beyond it, without the edition in front and the end behind."""
+    variables = "22 24 30 00 30 01 24 30 02 30 03"
+    wide = "11 00 11 00 11 01 14 15 22 25 30 00 30 00 22 24 30 01 30 01 24 30 02 30 02"
+    one, two = "10 02 11 00 12 00 14", "10 02 10 02 11 00 11 01 13 00 01 14"
+    return [
+        "", "10 01" * 16, "10 01" * 17, "10 40", "10 41", "10 00", "10 01" + "11 00" * 32, "10 01" + "11 00" * 33,
+        "10 01" + "12 00" * 32, "10 01" + "13 00 00" * 33, "10 40 13 00 00", "10 40 10 01 13 00 00 12 01", "14" * 32, "14" * 33,
+        "10 02" + "11 00" * 5 + "14 15" + variables, "10 02" + "11 00" * 5 + "14 15 22 24 30 04 30 04" + variables,
+        "10 40 10 10" + wide, "10 40 10 11" + wide, "10 40 10 10" + wide + "14", "10 40 10 10" + wide + "14 15 20 15",
+        "14 15" + "21" * 15 + "20", "14 15" + "21" * 16 + "20", one + "15 24" + "32" * 14 + "30 00 30 00", one + "15 24" + "32" * 15 + "30 00 30 00",
+        one + "16 00" + "44 0100" * 14 + "40 0100 30 00", one + "16 00" + "44 0100" * 15 + "40 0100 30 00", one + "16 00" + "44 0100" * 16 + "41 0100",
+        one + "16 00 44 FFFF 41 0100", one + "16 00 44 0001 41 0001", one + "16 00 42 41 FFFF 41 0000", one + "16 00 42 41 FFFF 41 0100",
+        one + "16 00 44 0000 42 41 FFFF 41 0100", one + "16 00 43 41 0100 42 41 FFFF 41 0100", one + "16 00 42 43 41 0100 41 FFFF 41 FEFF",
+        two + "16 00 40 0100 30 00 30 01", two + "16 00 40 0100 30 01 30 00", two + "15 24 30 00 30 01", two + "15 25 30 00 31 00 01",
+        one + "16 00 41 0100 17 00 41 0100 18 00 41 0100", one + "16 00 41 0100 16 00 41 0100", one + "19 00 0100 0000 19 00 0000 0100",
+        one + "19 00 0100 0000 19 00 0100 0000", one + "19 00 0200 0000", one + "19 01 0000 0000", "19 00 0000 0000",
+    ]
+
+
+def net_edges():
+    """The two-gauge net's cases on the drawing, and net files at each limit."""
+    out = [stream.write_case("fire_orders", TWO_GAUGE, stream.packed(m), orders_of(*o), b"\7" * len(o)) for m, o in TWO_GAUGE_FIRED]
+    out += [stream.write_case("first_order", TWO_GAUGE, stream.packed(m)) for m in ((3, 0, 0, 0), (0, 0, 0, 0))]
+    out += [stream.write_case("images", TWO_GAUGE, orders_of(1, 2, 0), bytes(15)), stream.write_case("row_order", TWO_GAUGE, struct.pack("<I", 1))]
+    files = [TWO_GAUGE, b"", *(bytes.fromhex("01 01" + parts + "1F") for parts in edge_nets()), TWO_GAUGE.ljust(16384, b"\0"), bytes(16385)]
+    for file in files:
+        flat_file = reference.unfold(file, bytearray(100000))
+        out.append(stream.write_case("unfold", file, bytes(flat_file[1] if flat_file[0] == "written" else 3)))
+    return out
 
 
 def large_flat_cases(rng):
@@ -434,8 +489,9 @@ def large_flat_cases(rng):
 def cases(seed, count, calls="flat", edges=False, large=False):
     """The cases of a seed."""
     rng = random.Random(seed)
-    out = flat_edges() if edges else []
-    out += large_flat_cases(rng) if large else []
+    out = flat_edges() if edges and calls != "net" else []
+    out += net_edges() if edges and calls != "flat" else []
+    out += large_flat_cases(rng) if large and calls != "net" else []
     for _ in range(count):
         flat = calls == "flat" or calls == "all" and rng.random() < 0.4
         out.append(flat_case(rng) if flat else net_case(rng))
@@ -447,7 +503,7 @@ if __name__ == "__main__":
     options.add_argument("--seed", type=int, default=1)
     options.add_argument("--count", type=int, default=300)
     options.add_argument("--calls", choices=("flat", "net", "all"), default="flat")
-    options.add_argument("--edges", action="store_true", help="the fixed cases at the flat side's limits first")
+    options.add_argument("--edges", action="store_true", help="the fixed cases first: the two-gauge net's and those at the limits")
     options.add_argument("--large", action="store_true", help="large files, and one large random one, first")
     o = options.parse_args()
     sys.stdout.buffer.write(b"".join(cases(o.seed, o.count, o.calls, o.edges, o.large)))
