@@ -64,6 +64,9 @@ class TwoGauge(unittest.TestCase):
         output = bytearray(15)
         self.assertEqual(reference.images(TWO_GAUGE, order(1) + order(2) + order(0), output), ("answered", 3))
         self.assertEqual(output, image(1) + image(4294967295) + image(0))
+        output = bytearray(b"\xAA" * 13)
+        self.assertEqual(reference.images(TWO_GAUGE, order(1) + order(0), output), ("answered", 2))
+        self.assertEqual(output, image(1) + image(0) + b"\xAA" * 3)
         for other in (b"\x61\0\0\0\0\0", b"\x60\1\0\0\0\0", b"\x60\0\0\1\0\0", b"\x60\0\0\0\0\1"):
             output, answers = bytearray(5), bytearray(1)
             reference.images(TWO_GAUGE, other, output)

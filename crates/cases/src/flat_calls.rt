@@ -11,7 +11,7 @@ pub fn sizes_case() {
     let mut file = [0u8; 131072];
     let n = read_bytes(&mut file);
     match flat::flat_sizes(&file[..n]) {
-        flat::SizesReply::Sizes { places, rows } => {
+        flat::SizesReply::Counted { places, rows } => {
             say(b"places ");
             say_number(places as u64);
             say(b" rows ");

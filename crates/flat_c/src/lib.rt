@@ -52,7 +52,7 @@ pub extern "C" fn flat_first_row(
 #[no_mangle]
 pub extern "C" fn flat_count_sizes(flat: &[u8], places: &mut usize, rows: &mut usize) -> u8 {
     match flat::flat_sizes(flat) {
-        flat::SizesReply::Sizes { places: p, rows: r } => {
+        flat::SizesReply::Counted { places: p, rows: r } => {
             *places = p;
             *rows = r;
             0
