@@ -31,7 +31,10 @@ pub extern "C" fn flat_first_row(
     tried: &mut usize,
 ) -> u8 {
     match flat::first_row(flat, marking) {
-        flat::FirstReply::Found { row: found, tried: count } => {
+        flat::FirstReply::Found {
+            row: found,
+            tried: count,
+        } => {
             *row = found;
             *tried = count;
             0
