@@ -1,4 +1,5 @@
-"""Changes the reference in one spot at a time and runs its tests on each: they must fail. Prints those that pass all the same.
+"""Changes the reference in one spot at a time and runs its tests on each: they must fail. Prints those that pass all the same,
+and those broken off after a minute, which count as noticed.
 
     python3 mutants.py [SKIP]        a few minutes; with SKIP only every SKIP-th change
 """
@@ -6,6 +7,7 @@ import ast
 import io
 import signal
 import sys
+import time
 import unittest
 
 SOURCE = open("reference.py").read()
@@ -57,7 +59,7 @@ def passes(tree):
         suite = unittest.defaultTestLoader.loadTestsFromName("test_reference")
         groups = sorted(suite, key=lambda group: any(type(t).__name__ in ("Generator", "Likeness") for t in group))
         return unittest.TextTestRunner(io.StringIO(), failfast=True).run(unittest.TestSuite(groups)).wasSuccessful()
-    except BaseException:
+    except (Exception, KeyboardInterrupt):
         return False
     finally:
         signal.alarm(0)
@@ -84,7 +86,8 @@ if __name__ == "__main__":
     for number in range(0, total, int(sys.argv[1]) if len(sys.argv) > 1 else 1):
         tree, change = mutant(number)
         tried += 1
-        if passes(tree):
-            alive += 1
-            print(f"not noticed: line {change.line}: {SOURCE.splitlines()[change.line - 1].strip()}", flush=True)
+        seconds = time.time()
+        alive += (passed := passes(tree))
+        if passed or time.time() - seconds > 60:
+            print(f"{'not noticed' if passed else 'too long'}: line {change.line}: {SOURCE.splitlines()[change.line - 1].strip()}", flush=True)
     print(f"{tried} changes, {alive} not noticed")
