@@ -4,29 +4,33 @@ use crate::plain::Refusal;
 #[link(name = "flat_c", kind = "static")]
 extern "C" {
     fn flat_fire_images(file: *const u8, file_len: usize, marking: *mut u16, marking_len: usize, images: *const u8, images_len: usize,
-                        answers: *mut u8, answers_len: usize, value: *mut usize) -> u8;
-    fn flat_first_row(file: *const u8, file_len: usize, marking: *const u16, marking_len: usize, row: *mut usize, tried: *mut usize) -> u8;
-    fn flat_count_sizes(file: *const u8, file_len: usize, places: *mut usize, rows: *mut usize) -> u8;
+                        answers: *mut u8, answers_len: usize, first: *mut usize, second: *mut usize) -> u8;
+    fn flat_first_row(file: *const u8, file_len: usize, marking: *const u16, marking_len: usize, first: *mut usize, second: *mut usize) -> u8;
+    fn flat_read_sizes(file: *const u8, file_len: usize, first: *mut usize, second: *mut usize) -> u8;
 }
 
+// Each slice is lent by its pointer and its length, and the numbers by their addresses. Code 0 is a refusal.
 pub fn fire_images(file: &[u8], marking: &mut [u16], images: &[u8], answers: &mut [u8]) -> Result<usize, Refusal> {
-    let mut value = 0;
-    // Each slice is lent by its pointer and its length, and the number by its address.
-    let said = unsafe {
+    let (mut first, mut second) = (0, 0);
+    let code = unsafe {
         flat_fire_images(file.as_ptr(), file.len(), marking.as_mut_ptr(), marking.len(), images.as_ptr(), images.len(),
-                         answers.as_mut_ptr(), answers.len(), &mut value)
+                         answers.as_mut_ptr(), answers.len(), &mut first, &mut second)
     };
-    if said == 0 { Ok(value) } else { Err((said, value)) }
+    if code == 0 { Err((first as u8, second)) } else { Ok(first) }
 }
 
+// The row, or the number of rows where none fires, and how many were tried.
 pub fn first_row(file: &[u8], marking: &[u16]) -> Result<(usize, usize), Refusal> {
-    let (mut row, mut tried) = (0, 0);
-    let said = unsafe { flat_first_row(file.as_ptr(), file.len(), marking.as_ptr(), marking.len(), &mut row, &mut tried) };
-    if said == 0 { Ok((row, tried)) } else { Err((said, row)) }
+    let (mut first, mut second) = (0, 0);
+    match unsafe { flat_first_row(file.as_ptr(), file.len(), marking.as_ptr(), marking.len(), &mut first, &mut second) } {
+        0 => Err((first as u8, second)),
+        1 => Ok((first, second)),
+        _ => Ok((first, first)),
+    }
 }
 
 pub fn sizes(file: &[u8]) -> Result<(usize, usize), Refusal> {
-    let (mut places, mut rows) = (0, 0);
-    let said = unsafe { flat_count_sizes(file.as_ptr(), file.len(), &mut places, &mut rows) };
-    if said == 0 { Ok((places, rows)) } else { Err((said, places)) }
+    let (mut first, mut second) = (0, 0);
+    let code = unsafe { flat_read_sizes(file.as_ptr(), file.len(), &mut first, &mut second) };
+    if code == 0 { Err((first as u8, second)) } else { Ok((first, second)) }
 }

@@ -1,68 +1,80 @@
-// The flat calls for Rust and C. Each returns 0 where the call was answered, else the refusal's number, and then the first
-// of the lent numbers is its place.
+// The flat calls for Rust and C. Each returns a code, and two numbers through `first` and `second`; specs/Codes.antt says what
+// they mean. Code 0 is a refusal: its number and its place.
+ghost use mathlib.Core.Path.{_≡_};
+ghost use Rattle.flat.specs.Flat.{fireImages, firstRow, flatSizes};
+ghost use Rattle.flat_c.specs.Codes.{fireCoded, firstCode, sizesCode};
 
-// `value`: how many images were answered.
+// Fires a list of images. Code 1: how many were answered.
 #[no_mangle]
 pub extern "C" fn flat_fire_images(
     flat: &[u8],
     marking: &mut [u16],
     images: &[u8],
     answers: &mut [u8],
-    value: &mut usize,
-) -> u8 {
+    first: &mut usize,
+    second: &mut usize,
+) -> u8
+    ensures { λ r. ⌜ fireCoded r (now (first .exit)) (now (second .exit)) (now (marking .exit)) (now (answers .exit))
+        ≡ fireImages (now (flat .entry)) (now (marking .entry)) (now (images .entry)) (now (answers .entry)) ⌝ }
+{
     match flat::fire_images(flat, marking, images, answers) {
         flat::FireReply::Answered { count } => {
-            *value = count;
-            0
+            *first = count;
+            *second = 0;
+            1
         }
         flat::FireReply::Refused { number, place } => {
-            *value = place;
-            number
+            *first = number as usize;
+            *second = place;
+            0
         }
     }
 }
 
-// `row`: the first row that would fire, or the number of rows where none would; `tried`: how many were tried.
+// The first row that would fire. Code 1: the row, and how many were tried. Code 2: none, and how many were tried.
 #[no_mangle]
 pub extern "C" fn flat_first_row(
     flat: &[u8],
     marking: &[u16],
-    row: &mut usize,
-    tried: &mut usize,
-) -> u8 {
+    first: &mut usize,
+    second: &mut usize,
+) -> u8
+    ensures { λ r. ⌜ firstCode r (now (first .exit)) (now (second .exit)) ≡ firstRow (now (flat .entry)) (now (marking .entry)) ⌝ }
+{
     match flat::first_row(flat, marking) {
-        flat::FirstReply::Found {
-            row: found,
-            tried: count,
-        } => {
-            *row = found;
-            *tried = count;
-            0
+        flat::FirstReply::Found { row, tried } => {
+            *first = row;
+            *second = tried;
+            1
         }
-        flat::FirstReply::Nothing { tried: count } => {
-            *row = count;
-            *tried = count;
-            0
+        flat::FirstReply::Nothing { tried } => {
+            *first = tried;
+            *second = 0;
+            2
         }
         flat::FirstReply::Refused { number, place } => {
-            *row = place;
-            number
+            *first = number as usize;
+            *second = place;
+            0
         }
     }
 }
 
-// `places`, `rows`: how many the file has.
+// Reads a flat file. Code 1: how many flat places and rows it has.
 #[no_mangle]
-pub extern "C" fn flat_count_sizes(flat: &[u8], places: &mut usize, rows: &mut usize) -> u8 {
+pub extern "C" fn flat_read_sizes(flat: &[u8], first: &mut usize, second: &mut usize) -> u8
+    ensures { λ r. ⌜ sizesCode r (now (first .exit)) (now (second .exit)) ≡ flatSizes (now (flat .entry)) ⌝ }
+{
     match flat::flat_sizes(flat) {
-        flat::SizesReply::Counted { places: p, rows: r } => {
-            *places = p;
-            *rows = r;
-            0
+        flat::SizesReply::Counted { places, rows } => {
+            *first = places;
+            *second = rows;
+            1
         }
         flat::SizesReply::Refused { number, place } => {
-            *places = place;
-            number
+            *first = number as usize;
+            *second = place;
+            0
         }
     }
 }
