@@ -1,3 +1,4 @@
 pub mod Bindings
+pub mod Digits
 pub mod Named
 pub mod FlatPlaces
