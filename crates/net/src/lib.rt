@@ -1,5 +1,6 @@
 // Reads net files. The meanings of this crate stand in specs/.
 mod expression;
+mod space;
 
 pub use expression::read_expression;
 ghost use mathlib.Core.Path.{_≡_};
