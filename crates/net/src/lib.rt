@@ -1,4 +1,8 @@
 // Reads net files. The meanings of this crate stand in specs/.
+mod expression;
+mod space;
+
+pub use expression::read_expression;
 ghost use mathlib.Core.Path.{_≡_};
 ghost use mathlib.Core.List.{List, [], map};
 ghost use Prim.Native.Nat.{ℕ, _≤_, _<_, _^_};
