@@ -1,4 +1,5 @@
 pub mod Bindings
 pub mod Digits
+pub mod Environments
 pub mod Named
 pub mod FlatPlaces
