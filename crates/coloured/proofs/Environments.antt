@@ -1,23 +1,19 @@
--- The loop that gives each variable its colour, from the last down; and the loop that numbers colours, from the first on. Assumes nothing.
-use mathlib.Core.Path.{_≡_, refl, sym, ap, ap₂, _∙_}
+-- The loop that gives each variable its colour, from the last down. Assumes nothing.
+use mathlib.Core.Path.{_≡_, refl, sym, ap, _∙_}
 use mathlib.Core.Logic.{⊎-elim}
-use Prim.Native.Nat.{_≤_, _<_, _-_, _^_}
+use Prim.Native.Nat.{_≤_, _<_, _-_}
 use native.Mathlib.Omega.{arith}
-use native.Mathlib.Numerals.{add-one}
-use native.Mathlib.Nat.{eq-or-lt-of-le, mul-assoc, add-mul, mul-one, zero-mul, suc-mul, mul-le-mul, pow-suc, pow-le-pow-right, le-trans}
-use borrow.Author.Tests.{eq-eqb, ne-eqb, lt-ltb, le-ltb}
-use lib.ListN.{set, length-append, length-map, length-drop, List·getD-eq-default, drop-of-length-le}
-use lib.Seq.{getD-set-same, getD-set-other, drop-cons, drop-drop, getD-take, getD-drop}
-use Rattle.reading.specs.Basics.{ℕ, zero, suc, _+_, _*_, _/_, _%_, Bool, true, false, _&&_, List, [], _∷_, map, length, take, drop, getD, eqb, ltb, if_then_else_, with, numbersFrom, below, keep, every, product, byteAt}
+use native.Mathlib.Nat.{eq-or-lt-of-le}
+use borrow.Author.Tests.{eq-eqb, ne-eqb}
+use lib.ListN.{set, length-map}
+use lib.Seq.{getD-set-same, getD-set-other}
+use Rattle.reading.specs.Basics.{ℕ, _+_, _/_, _%_, Bool, true, false, List, [], _∷_, map, length, getD, eqb, if_then_else_, with, below, keep}
 use Rattle.reading.proofs.Lists.{All, end, also, in-all, of-from}
 use Rattle.net.specs.Net.{Net}
 use Rattle.net.specs.Told.{bits}
 use Rattle.net.proofs.Spaces.{member-bits, keep-bits, below-next}
 use Rattle.coloured.specs.Effect.{standsFor}
-use Rattle.coloured.specs.Orders.{fits}
-use Rattle.coloured.specs.Numbers.{digits, number, those, sizesOver, Coloured, member, sizeIn, Bound, numberOf}
-use Rattle.coloured.specs.declared.binding.Numbered.{Numbered}
-use Rattle.coloured.specs.declared.binding.Numbered.the-variants.{At, Nothing}
+use Rattle.coloured.specs.Numbers.{digits, number, those, Coloured, member, sizeIn, Bound}
 use Rattle.coloured.proofs.Digits.{digits-with, digits-length}
 
 -- a test is not both
@@ -143,48 +139,3 @@ set-ends n stands sizes vars uses i left v room env inv done es ev le eb some fi
     let less : w < length vars = rw ev at lt in
     let is : member uses w ≡ true = rw eb (member-bits stands 32 w (omega arith) ∙ q) in
     rw (es, ev) (here .held w (omega arith) less is ∙ ap (λ l. standsFor l (digits (map (sizeIn sizes vars) l) i) w) (keep-bits stands eb far))
-
--- ---- from the first variable on
--- what the start says of the colours is what is left to say; the number so far is small
-pub record Numbering (sizes colours rest : List ℕ) (index count : ℕ) : Type 0 where
-  pub fit : fits sizes colours ≡ fits rest (drop count colours)
-  pub is : number sizes colours ≡ index * product rest + number rest (drop count colours)
-  pub small : index < 256 ^ count
-  pub few : count ≤ 4
-
-pub number-begins : (sizes colours : List ℕ) → Numbering sizes colours sizes 0 0
-number-begins sizes colours = record { fit = refl; is = omega (arith, zero-mul (product sizes)); small = omega arith; few = omega arith }
-
-module _ {sizes colours rest : List ℕ} {size index count : ℕ} (four : length colours ≡ 4) (here : Numbering sizes colours (size ∷ rest) index count) where
-  next : count < 4 → drop count colours ≡ byteAt colours count ∷ drop (count + 1) colours
-  next lt = drop-cons colours count 0 (omega arith) ∙ ap (λ k. byteAt colours count ∷ drop k colours) (sym (add-one count))
-
-  -- there is no byte for the variable, its colour is not in its set, or it is
-  pub number-short : 3 < count → Nothing ≡ numberOf sizes colours
-  unfolding fits
-  number-short gt = rw (here .fit, drop-of-length-le colours (let h : length colours ≤ count = omega arith in h))
-
-  pub number-wrong : {c : ℕ} → count < 4 → c ≡ byteAt colours count → size ≤ c → Nothing ≡ numberOf sizes colours
-  unfolding fits
-  number-wrong {c} lt e le = rw (here .fit, next lt, ← e, le-ltb c size le)
-
-  pub number-more : {c : ℕ} → count < 4 → c ≡ byteAt colours count → c < size → size < 256 → (index * size + c < 4294967296) × Numbering sizes colours rest (index * size + c) (count + 1)
-  unfolding fits number
-  number-more {c} lt e less byte =
-      let grown : suc index * size ≤ 256 ^ count * 256 = mul-le-mul (here .small) (let h : size ≤ 256 = omega arith in h) in
-      let power : 256 ^ (count + 1) ≡ 256 ^ count * 256 = rw (add-one count) (pow-suc 256 count) in
-      let below : index * size + c < 256 ^ (count + 1) = omega (arith, suc-mul index size) in
-      let most : 256 ^ (count + 1) ≤ 4294967296 = pow-le-pow-right {n = 256} (omega arith) (let h : count + 1 ≤ 4 = omega arith in h) in
-      let read : number (size ∷ rest) (drop count colours) ≡ c * product rest + number rest (drop (count + 1) colours) = rw (next lt, ← e) in
-      (omega arith, record {
-        fit = here .fit ∙ rw (next lt, ← e, lt-ltb c size less);
-        is = let h = here .is in omega (arith, mul-assoc index size (product rest), add-mul (index * size) c (product rest));
-        small = below;
-        few = omega arith;
-      })
-
--- the variable is not in the set
-pub number-ends : (sizes colours : List ℕ) (index count : ℕ) {t : Bool} → Numbering sizes colours [] index count → t ≡ every (eqb 0) (drop count colours)
-    → (if t then At index else Nothing) ≡ numberOf sizes colours
-unfolding fits number
-number-ends sizes colours index count here e = let q : number sizes colours ≡ index = here .is ∙ omega arith in rw (here .fit, ← e, q)

@@ -1,5 +1,6 @@
 pub mod Bindings
 pub mod Digits
 pub mod Environments
+pub mod Numbering
 pub mod Named
 pub mod FlatPlaces

@@ -1,53 +1,19 @@
+use borrow.Author.Needs.{needs}
+use native.Mathlib.Omega.{arith}
+use mathlib.Core.Path.{_≡_, refl, sym, _∙_}
+use Prim.Native.Nat.{_≤_, _-_}
+use lib.ListN.{take, drop}
+use lib.Dec.{eqb}
+use Rattle.reading.specs.Basics.{every}
+use Rattle.coloured.proofs.Numbering.{blank-on, blank-stops, blank-ends}
 use Rattle.coloured.proofs.binding.blank.Statement.{statement}
 use Rattle.coloured.proofs.binding.blank.Tie as tie
-use Rattle.coloured.proofs.binding.blank.Reads as reads
-use Rattle.coloured.proofs.binding.blank.Lts as lts
-use Rattle.reading.proofs.byte_at.Reads as byte-at-reads
 
 abbrev Inv-loop : tie.InvT-loop
-Inv-loop s from end i₀ i = ?
+Inv-loop s from end i₀ i = every (eqb 0) (take (end - from) (drop from s)) ≡ every (eqb 0) (take (end - i) (drop i s))
 
 abbrev μ-loop : tie.MeasureT-loop
-μ-loop s from end i₀ i = ?
-
--- src/binding.rt:82:5
-loop-holds : tie.Need-loop-holds Inv-loop μ-loop
-loop-holds c = ?
-
--- src/binding.rt:83:16
-byte-at-requires : tie.Need-byte-at-requires Inv-loop μ-loop
-byte-at-requires c κs = ?
-
--- src/binding.rt:84:13
-returns : tie.Need-returns Inv-loop μ-loop
-returns c = ?
-
--- src/binding.rt:86:9
-add-i : tie.Need-add-i Inv-loop μ-loop
-add-i c = ?
-
--- src/binding.rt:82:5
-loop-less : tie.Need-loop-less Inv-loop μ-loop
-loop-less c = ?
-
--- src/binding.rt:82:5
-loop-again : tie.Need-loop-again Inv-loop μ-loop
-loop-again c = ?
-
--- src/binding.rt:78:1
-returns-2 : tie.Need-returns-2 Inv-loop μ-loop
-returns-2 c = ?
+μ-loop s from end i₀ i = end - i
 
 pub blank-spec : {M : Type 1} → statement M
-blank-spec =
-    tie.close
-    (tie.spec
-    Inv-loop
-    μ-loop
-    loop-holds
-    byte-at-requires
-    returns
-    add-i
-    loop-less
-    loop-again
-    returns-2)
+blank-spec = tie.close (tie.spec Inv-loop μ-loop (λ c. refl) (λ c κs. search needs) (λ c. sym (c .before .before .before .loop .inv ∙ blank-stops _ _ _ (c .before .before .loop-test .taken) (omega (arith, c .before .byte-at .ensures .0)))) (λ c. omega arith) (λ c. omega arith) (λ c. c .before .before .before .loop .inv ∙ blank-on _ _ _ (c .before .before .loop-test .taken) (omega (arith, c .before .byte-at .ensures .0))) (λ c. sym (c .before .loop .inv ∙ blank-ends _ _ _ (c .loop-test .left))))

@@ -8,8 +8,6 @@ use Rattle.coloured.specs.Numbers.{member, sizeIn}
 use Rattle.coloured.proofs.Environments.{Setting, set-begins, set-turn, set-ends}
 use Rattle.coloured.proofs.binding.set_binding.Statement.{statement}
 use Rattle.coloured.proofs.binding.set_binding.Tie as tie
-use Rattle.coloured.proofs.binding.set_binding.Reads as reads
-use Rattle.coloured.proofs.binding.set_binding.Lts as lts
 
 abbrev Inv-loop : tie.InvT-loop
 Inv-loop uses sizes vars index env₀ left₀ v₀ env left v =
