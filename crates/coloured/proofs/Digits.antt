@@ -144,7 +144,7 @@ choices-at (size ∷ sizes) i lt =
     let f : ℕ → List (List ℕ) = λ c. map (λ rest. c ∷ rest) (choices sizes) in
     let len : (c : ℕ) → length (f c) ≡ product sizes = λ c. length-map (choices sizes) (λ rest. c ∷ rest) ∙ choices-length sizes in
     let e : sum (map (λ i. length (f i)) (below c)) + j ≡ i =
-        ap (λ l. sum l + j) (map-same (λ c. length (f c)) (λ c. product sizes) (below c) (λ c m. len c)) ∙ ap (λ s. s + j) (same-each (product sizes) 0 c) ∙ div-add-mod' i (product sizes) in
+    ap (λ l. sum l + j) (map-same (λ c. length (f c)) (λ c. product sizes) (below c) (λ c m. len c)) ∙ ap (λ s. s + j) (same-each (product sizes) 0 c) ∙ div-add-mod' i (product sizes) in
     let k : 0 + c ≡ c = omega arith in
     rw (mod-eq-of-lt first, ← digits-rest sizes i p)
     (ap (getElem? (flatMap f (below size))) (sym e)
@@ -173,7 +173,7 @@ module _ (n : Net) where
   before-is t le =
       let front : List Transition = take t (n .transitions) in
       let is : map (λ i. product (sizesOf n (getD front i start))) (below t) ≡ map (λ t. product (sizesOf n t)) front =
-          rw (length-take-le t (n .transitions) le) at (map-getD (λ t. product (sizesOf n t)) front start) in
+      rw (length-take-le t (n .transitions) le) at (map-getD (λ t. product (sizesOf n t)) front start) in
       ap sum (map-same (λ i. length (bindingsOf n i)) (λ i. product (sizesOf n (getD front i start))) (below t)
       (λ i m. bindings-of i ∙ ap (λ t. product (sizesOf n t)) (sym (getD-take t (n .transitions) i start (omega (arith, of-from 0 t m))))) ∙ is)
 
@@ -210,3 +210,8 @@ module _ (n : Net) where
 
   pub placed : (j : ℕ) → j < length (bindings n) → Placed j
   placed j lt = placed-below j (length (n .transitions)) (omega arith) (omega (arith, before-all))
+
+-- worked: over the sizes 2, 3 and 4 the number 17 has the colours 1, 1, 1, and these have the number 17
+seventeen : (digits (2 ∷ 3 ∷ 4 ∷ []) 17 ≡ 1 ∷ 1 ∷ 1 ∷ []) × (number (2 ∷ 3 ∷ 4 ∷ []) (1 ∷ 1 ∷ 1 ∷ []) ≡ 17)
+unfolding digits number
+seventeen = (refl, refl)

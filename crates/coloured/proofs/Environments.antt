@@ -13,7 +13,7 @@ use Rattle.net.specs.Net.{Net}
 use Rattle.net.specs.Told.{bits}
 use Rattle.net.proofs.Spaces.{member-bits, keep-bits, below-next}
 use Rattle.coloured.specs.Effect.{standsFor}
-use Rattle.coloured.specs.Numbers.{digits, number, those, Coloured, member, sizeIn, Bound}
+use Rattle.coloured.specs.Numbers.{digits, Coloured, member, sizeIn, Bound}
 use Rattle.coloured.proofs.Digits.{digits-with, digits-length}
 
 -- a test is not both

@@ -3,4 +3,5 @@ pub mod Digits
 pub mod Environments
 pub mod Numbering
 pub mod Named
+pub mod Ordering
 pub mod FlatPlaces

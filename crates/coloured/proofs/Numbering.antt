@@ -47,13 +47,15 @@ module _ {sizes colours rest : List ℕ} {size index count : ℕ} (four : length
       let power : 256 ^ (count + 1) ≡ 256 ^ count * 256 = rw (add-one count) (pow-suc 256 count) in
       let below : index * size + c < 256 ^ (count + 1) = omega (arith, suc-mul index size) in
       let most : 256 ^ (count + 1) ≤ 4294967296 = pow-le-pow-right {n = 256} (omega arith) (let h : count + 1 ≤ 4 = omega arith in h) in
-      let read : number (size ∷ rest) (drop count colours) ≡ c * product rest + number rest (drop (count + 1) colours) = rw (next lt, ← e) in
-      (omega arith, record {
-        fit = here .fit ∙ rw (next lt, ← e, lt-ltb c size less);
-        is = let h = here .is in omega (arith, mul-assoc index size (product rest), add-mul (index * size) c (product rest));
-        small = below;
-        few = omega arith;
-      })
+      let read : number (size ∷ rest) (drop count colours) ≡ c * product rest + number rest (drop (count + 1) colours) = rw (next lt, ← e) in (
+        omega arith,
+        record {
+          fit = here .fit ∙ rw (next lt, ← e, lt-ltb c size less);
+          is = let h = here .is in omega (arith, mul-assoc index size (product rest), add-mul (index * size) c (product rest));
+          small = below;
+          few = omega arith;
+        },
+      )
 
 -- the variable is not in the set
 pub number-ends : (sizes colours : List ℕ) (index count : ℕ) {t : Bool} → Numbering sizes colours [] index count → t ≡ every (eqb 0) (drop count colours)
@@ -97,7 +99,7 @@ allSizes uses sizes vars = map (sizeIn sizes vars) (keep (member uses) (below (l
 abbrev pub restSizes : ℕ → List ℕ → List ℕ → ℕ → List ℕ
 restSizes uses sizes vars v = map (sizeIn sizes vars) (keep (member uses) (numbersFrom v (length vars - v)))
 
-drop-take : (m n : ℕ) (l : List ℕ) → drop m (take n l) ≡ take (n - m) (drop m l)
+pub drop-take : (m n : ℕ) (l : List ℕ) → drop m (take n l) ≡ take (n - m) (drop m l)
 drop-take zero n l = let e : n - 0 ≡ n = omega arith in rw e
 drop-take (suc m) zero l = let e : 0 - suc m ≡ 0 = omega arith in rw e
 drop-take (suc m) (suc n) [] = sym (take-nil {A = ℕ} (suc n - suc m))

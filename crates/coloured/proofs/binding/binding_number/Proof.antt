@@ -1,10 +1,9 @@
 use borrow.Author.Needs.{needs}
 use native.Mathlib.Omega.{arith}
 use mathlib.Core.Logic.{⊎-elim}
-use mathlib.Core.Path.{_≡_, refl, sym, ap, _∙_}
-use Prim.Native.Nat.{ℕ, _≤_, _-_}
-use lib.ListN.{length, take, drop}
-use denote.Ref.{now}
+use mathlib.Core.Path.{sym, _∙_}
+use Prim.Native.Nat.{_-_}
+use lib.ListN.{length}
 use Rattle.coloured.proofs.Numbering.{Before, begins, passes, short, wrong, fits-in, goes, finishes}
 use Rattle.coloured.proofs.binding.binding_number.Statement.{statement}
 use Rattle.coloured.proofs.binding.binding_number.Tie as tie
