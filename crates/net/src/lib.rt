@@ -2,6 +2,7 @@
 mod evaluate;
 mod expression;
 mod table;
+mod space;
 
 pub use evaluate::Ranked;
 pub use evaluate::Tested;
