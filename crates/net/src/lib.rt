@@ -1,4 +1,14 @@
 // Reads net files. The meanings of this crate stand in specs/.
+mod evaluate;
+mod expression;
+mod table;
+
+pub use evaluate::Tested;
+pub use evaluate::Value;
+pub use evaluate::eval_colour;
+pub use evaluate::eval_guard;
+pub use expression::read_expression;
+pub use table::width;
 ghost use mathlib.Core.Path.{_≡_};
 ghost use mathlib.Core.List.{List, [], map};
 ghost use Prim.Native.Nat.{ℕ, _≤_, _<_, _^_};
