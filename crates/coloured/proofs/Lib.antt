@@ -1,3 +1,4 @@
 pub mod Bindings
 pub mod Named
 pub mod FlatPlaces
+pub mod Split

@@ -3,10 +3,14 @@ mod evaluate;
 mod expression;
 mod table;
 
+pub use evaluate::Ranked;
 pub use evaluate::Tested;
 pub use evaluate::Value;
+pub use evaluate::Weighed;
 pub use evaluate::eval_colour;
 pub use evaluate::eval_guard;
+pub use evaluate::eval_weight;
+pub use evaluate::next_rank;
 pub use expression::read_expression;
 pub use table::width;
 ghost use mathlib.Core.Path.{_≡_};
