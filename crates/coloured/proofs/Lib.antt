@@ -2,3 +2,4 @@ pub mod Bindings
 pub mod Named
 pub mod FlatPlaces
 pub mod Split
+pub mod Appending
