@@ -3,3 +3,4 @@ pub mod Named
 pub mod FlatPlaces
 pub mod Split
 pub mod Appending
+pub mod Loads
