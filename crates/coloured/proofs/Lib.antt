@@ -4,3 +4,6 @@ pub mod FlatPlaces
 pub mod Split
 pub mod Appending
 pub mod Loads
+pub mod Agreeing
+pub mod Drawn
+pub mod Effects

@@ -134,10 +134,10 @@ module _ (s sizes vars env : List ℕ) (paired : Bool) (start count at : ℕ) (p
       loading-ends start count (λ rank. weight (net sizes vars known [] []) (bound env) rank e) places₀ amounts₀ used places amounts end rank (l known first second next e reads a b) h
 
 -- ---- guards
-pub guard-none : {s : List ℕ} {n : Net} {env : List ℕ} {g : Guard} {at : ℕ} → at < 1 → GuardSlot (readGuard s n 16) g at → true ≡ holds n (bound env) g
-unfolding holds
-guard-none {n = n} {env = env} h slot = sym (ap (holds n (bound env)) (slot .without (omega arith)))
+module _ (s : List ℕ) (n : Net) (env : List ℕ) (g : Guard) (at : ℕ) (slot : GuardSlot (readGuard s n 16) g at) where
+  pub guard-none : at < 1 → true ≡ holds n (bound env) g
+  unfolding holds
+  guard-none h = sym (ap (holds n (bound env)) (slot .without (omega arith)))
 
-pub guard-told : {s : List ℕ} {n : Net} {env : List ℕ} {g : Guard} {at : ℕ} {r : Tested} → (at < 1 → ⊥) → GuardSlot (readGuard s n 16) g at → Held n env r (readGuard s n 16 at) → r .holds ≡ holds n (bound env) g
-guard-told {s} {n} {env} {g} {at} {r} h slot held =
-    let st = slot .standing (omega arith) in ap (λ x. x .holds) (subst (Held n env r) (st .reads) held)
+  pub guard-told : (r : Tested) → 1 ≤ at → Held n env r (readGuard s n 16 at) → r .holds ≡ holds n (bound env) g
+  guard-told r h held = let st = slot .standing (omega arith) in ap (λ x. x .holds) (subst (Held n env r) (st .reads) held)
