@@ -5,10 +5,10 @@ use Rattle.reading.specs.Basics.{ℕ, _+_, _-_, _*_, Bool, true, false, not, _&
 use Rattle.net.specs.Net.{Colour, variable, constant, successor, predecessor, Guard, always, opposite, both, either, equal, less, Expression, one, two, all, plus, minus, times, Net, sizeOf, setOf, inColour, inGuard, inExpression}
 use Rattle.net.specs.Values.{colour, holds, weight}
 
-or-left : (a b : Bool) → a ≡ true → (a || b) ≡ true
+pub or-left : (a b : Bool) → a ≡ true → (a || b) ≡ true
 or-left a b e = rw e
 
-or-right : (a b : Bool) → b ≡ true → (a || b) ≡ true
+pub or-right : (a b : Bool) → b ≡ true → (a || b) ≡ true
 or-right true b e = refl
 or-right false b e = e
 

@@ -1,3 +1,5 @@
+use native.Mathlib.Omega.{arith}
+use Rattle.coloured.proofs.Effects.{effect-nothing, effect-row}
 use borrow.Author.Needs.{needs}
 use Rattle.coloured.proofs.effect.load_effect.Statement.{statement}
 use Rattle.coloured.proofs.effect.load_effect.Tie as tie
@@ -17,7 +19,7 @@ guard-holds-requires c κs = search needs
 
 -- src/effect.rt:170:9
 returns : tie.Need-returns
-returns c = ?
+returns c = λ n colours d ht e binds x y. effect-nothing (c .before .before .before .before .before .before .before .before .before .before .before .before .before .args .s .now) n (c .before .before .before .before .before .before .before .before .before .before .before .before .before .args .sizes .now) (c .before .before .before .before .before .before .before .before .before .before .before .before .before .args .vars .now) (c .before .before .before .before .before .before .before .before .before .before .before .before .before .args .env .now) (c .before .before .before .before .before .before .before .before .before .before .before .before .before .args .seconds .now) (c .before .before .before .before .before .before .before .before .before .before .before .before .before .args .starts .now) (c .before .before .before .before .before .before .before .before .before .before .before .before .before .args .guards .now) (c .before .before .before .before .before .before .before .before .before .before .before .before .before .args .arcs .now) d (c .before .before .before .before .before .before .before .before .before .before .before .before .before .args .t) ht colours binds _ _ (c .before .before .slot-at .ensures) (c .before .guard-holds .ensures) (c .if1 .taken)
 
 -- src/effect.rt:172:16
 mul-base : tie.Need-mul-base
@@ -37,11 +39,11 @@ load-kind-requires-2 c κs = search needs
 
 -- src/effect.rt:175:73
 add-load-kind-2 : tie.Need-add-load-kind-2
-add-load-kind-2 c = ?
+add-load-kind-2 c = omega (arith, c .before .before .before .before .before .before .before .before .before .before .before .before .before .before .before .before .before .before .before .before .before .before .before .before .before .before .before .pre)
 
 -- src/effect.rt:175:9
 load-kind-requires-3 : tie.Need-load-kind-requires-3
-load-kind-requires-3 c κs = ?
+load-kind-requires-3 c κs = (omega (arith, c .before .before .before .before .before .before .before .before .before .before .before .before .before .before .before .before .before .before .before .before .before .before .before .before .before .before .before .before .before .pre), omega (arith, c .before .before .before .before .before .before .before .before .before .before .before .before .before .before .before .before .before .before .before .before .before .before .before .before .before .before .before .before .before .pre))
 
 -- src/effect.rt:151:1
 same-length : tie.Need-same-length
@@ -53,7 +55,7 @@ same-length-2 c = search needs
 
 -- src/effect.rt:151:1
 returns-2 : tie.Need-returns-2
-returns-2 c = ?
+returns-2 c = λ n colours d ht e binds x y. effect-row (c .before .before .before .before .before .before .before .before .before .before .before .before .before .before .before .before .before .before .before .before .before .before .before .before .before .before .before .before .before .before .before .before .before .before .args .s .now) n (c .before .before .before .before .before .before .before .before .before .before .before .before .before .before .before .before .before .before .before .before .before .before .before .before .before .before .before .before .before .before .before .before .before .before .args .sizes .now) (c .before .before .before .before .before .before .before .before .before .before .before .before .before .before .before .before .before .before .before .before .before .before .before .before .before .before .before .before .before .before .before .before .before .before .args .vars .now) (c .before .before .before .before .before .before .before .before .before .before .before .before .before .before .before .before .before .before .before .before .before .before .before .before .before .before .before .before .before .before .before .before .before .before .args .env .now) (c .before .before .before .before .before .before .before .before .before .before .before .before .before .before .before .before .before .before .before .before .before .before .before .before .before .before .before .before .before .before .before .before .before .before .args .seconds .now) (c .before .before .before .before .before .before .before .before .before .before .before .before .before .before .before .before .before .before .before .before .before .before .before .before .before .before .before .before .before .before .before .before .before .before .args .starts .now) (c .before .before .before .before .before .before .before .before .before .before .before .before .before .before .before .before .before .before .before .before .before .before .before .before .before .before .before .before .before .before .before .before .before .before .args .guards .now) (c .before .before .before .before .before .before .before .before .before .before .before .before .before .before .before .before .before .before .before .before .before .before .before .before .before .before .before .before .before .before .before .before .before .before .args .arcs .now) d (c .before .before .before .before .before .before .before .before .before .before .before .before .before .before .before .before .before .before .before .before .before .before .before .before .before .before .before .before .before .before .before .before .before .before .args .t) ht colours binds _ _ (c .before .before .before .before .before .before .before .before .before .before .before .before .before .before .before .before .before .before .before .before .before .before .before .slot-at .ensures) (c .before .before .before .before .before .before .before .before .before .before .before .before .before .before .before .before .before .before .before .before .before .before .guard-holds .ensures) (c .before .before .before .before .before .before .before .before .before .before .before .before .before .before .before .before .before .before .before .before .before .if1 .left) e x y (c .before .before .before .before .before .before .before .before .before .before .before .before .before .before .before .before .before .before .load-kind .ensures) (c .before .before .before .before .before .before .before .before .before .before .before .load-kind2 .ensures) (c .before .before .before .before .load-kind3 .ensures)
 
 pub load-effect-spec : {M : Type 1} → statement M
 load-effect-spec =
