@@ -28,8 +28,8 @@ rank-same : (start start' count count' : ℕ) (w w' : ℕ → ℕ) → start ≡
 rank-same start start' count count' w w' e f h = ap (λ x. rankArcs x count w) e ∙ ap (λ x. rankArcs start' x w) f ∙ ap (rankArcs start' count') (fun-ext h)
 
 -- ---- one place
-module _ (s : List ℕ) (n : Net) (sizes vars env seconds starts guards arcs : List ℕ) (d : Drawing s n sizes vars seconds starts guards arcs)
-    (t k p base : ℕ) (ht : t < length (n .transitions)) (hk : k < 3) (hb : base ≡ t * 96 + k * 32) (hp : p < length (n .places)) where
+module _ {s : List ℕ} {n : Net} {sizes vars seconds starts guards arcs : List ℕ} (env : List ℕ) (d : Drawing s n sizes vars seconds starts guards arcs)
+    {t k p base : ℕ} (ht : t < length (n .transitions)) (hk : k < 3) (hb : base ≡ t * 96 + k * 32) (hp : p < length (n .places)) where
 
   slot : Slot (readExpression s (net sizes vars (n .places) [] []) (placeAt n p) 16) (Option·map (λ a. a .expression) (arcOn (transitionAt n t .arcs) (0x16 + k) p)) (getD arcs (base + p) 0)
   slot = rw hb (d .arc t k p ht hk hp)
@@ -85,30 +85,28 @@ module _ (s : List ℕ) (n : Net) (sizes vars env seconds starts guards arcs : L
             (omega (arith, many)) (omega (arith, many)))
 
 -- ---- one kind, place after place
-module _ (s sizes vars env seconds starts arcs : List ℕ) (base count : ℕ) (places₀ amounts₀ : List ℕ) (used : ℕ) where
-  abbrev pub KindLoading : List ℕ → List ℕ → ℕ → ℕ → Type 0
-  KindLoading places amounts end p =
-      (n : Net) (guards : List ℕ) (t k : ℕ) → Drawing s n sizes vars seconds starts guards arcs → t < length (n .transitions) → k < 3 → base ≡ t * 96 + k * 32 → count ≤ length (n .places)
+pub record KindLoading (s sizes vars env seconds starts arcs : List ℕ) (base count : ℕ) (places₀ amounts₀ : List ℕ) (used : ℕ) (places amounts : List ℕ) (end p : ℕ) : Type 0 where
+  pub each : (n : Net) (guards : List ℕ) (t k : ℕ) → Drawing s n sizes vars seconds starts guards arcs → t < length (n .transitions) → k < 3 → base ≡ t * 96 + k * 32 → count ≤ length (n .places)
       → used + flatPlaceCount n ≤ length places₀ → used + flatPlaceCount n ≤ length amounts₀
       → Appended (kindArcs n (transitionAt n t) (bound env) (0x16 + k) p) places₀ amounts₀ used places amounts end
 
-  pub kind-begins : KindLoading places₀ amounts₀ used 0
+module _ {s sizes vars env seconds starts arcs : List ℕ} {base count : ℕ} {places₀ amounts₀ : List ℕ} {used : ℕ} where
+  pub kind-begins : KindLoading s sizes vars env seconds starts arcs base count places₀ amounts₀ used places₀ amounts₀ used 0
   unfolding flatMap numbersFrom
-  kind-begins n guards t k d ht hk hb hc x y = append-none places₀ amounts₀ used
+  kind-begins = record { each = λ n guards t k d ht hk hb hc x y. append-none places₀ amounts₀ used }
 
-  pub kind-goes : {places amounts places' amounts' : List ℕ} {end end' p : ℕ} → KindLoading places amounts end p → p < count
-      → PlaceLoaded s sizes vars env seconds starts arcs base p places amounts end places' amounts' end'
-      → KindLoading places' amounts' end' (p + 1)
-  kind-goes {places} {amounts} {places'} {amounts'} {end} {end'} {p} l h loaded n guards t k d ht hk hb hc x y =
-      let before = l n guards t k d ht hk hb hc x y in
-      let few = kind-few n (transitionAt n t) (bound env) (0x16 + k) p (omega arith) in
-      let next = start-next n p (omega arith) in
-      let low = start-low n (p + 1) in
-      let f = before .end in let g = before .size in let i = before .sizes in
-      rw (kind-more n (transitionAt n t) (bound env) (0x16 + k) p) (append-join before (loaded n guards t k d ht hk hb (omega arith) (omega arith) (omega arith)))
+  module _ {places amounts : List ℕ} {end p : ℕ} (l : KindLoading s sizes vars env seconds starts arcs base count places₀ amounts₀ used places amounts end p) where
+    pub kind-goes : {places' amounts' : List ℕ} {end' : ℕ} → p < count → PlaceLoaded s sizes vars env seconds starts arcs base p places amounts end places' amounts' end'
+        → KindLoading s sizes vars env seconds starts arcs base count places₀ amounts₀ used places' amounts' end' (p + 1)
+    kind-goes h loaded = record { each = λ n guards t k d ht hk hb hc x y.
+        let before = l .each n guards t k d ht hk hb hc x y in
+        let few = kind-few n (transitionAt n t) (bound env) (0x16 + k) p (omega arith) in
+        let next = start-next n p (omega arith) in
+        let low = start-low n (p + 1) in
+        let f = before .end in let g = before .size in let i = before .sizes in
+        rw (kind-more n (transitionAt n t) (bound env) (0x16 + k) p) (append-join before (loaded n guards t k d ht hk hb (omega arith) (omega arith) (omega arith))) }
 
-  pub kind-ends : {places amounts : List ℕ} {end p : ℕ} → KindLoading places amounts end p → p ≤ count → count ≤ p
-      → KindLoaded s sizes vars env seconds starts arcs base count places₀ amounts₀ used places amounts end
-  kind-ends {places} {amounts} {end} {p} l h g n guards t k d ht hk hb hc x y =
-      let e : p ≡ count = omega arith in
-      subst (λ q. Appended (kindArcs n (transitionAt n t) (bound env) (0x16 + k) q) places₀ amounts₀ used places amounts end) e (l n guards t k d ht hk hb hc x y)
+    pub kind-ends : p ≤ count → count ≤ p → KindLoaded s sizes vars env seconds starts arcs base count places₀ amounts₀ used places amounts end
+    kind-ends h g n guards t k d ht hk hb hc x y =
+        let e : p ≡ count = omega arith in
+        subst (λ q. Appended (kindArcs n (transitionAt n t) (bound env) (0x16 + k) q) places₀ amounts₀ used places amounts end) e (l .each n guards t k d ht hk hb hc x y)

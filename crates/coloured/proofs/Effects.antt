@@ -63,9 +63,9 @@ not-false : (b : Bool) → not b ≡ false → b ≡ true
 not-false true e = refl
 not-false false e = sym e
 
-module _ (s : List ℕ) (n : Net) (sizes vars env seconds starts guards arcs : List ℕ) (d : Drawing s n sizes vars seconds starts guards arcs)
+module _ {s : List ℕ} {n : Net} {sizes vars seconds starts guards arcs : List ℕ} (env : List ℕ) (d : Drawing s n sizes vars seconds starts guards arcs)
     (t : ℕ) (ht : t < length (n .transitions)) (colours : List ℕ) (binds : Binds n (binding t colours) env)
-    (at : ℕ) (r : Bool) (slot : at ≡ getD guards t 0) (told : GuardTold s sizes vars env at r) where
+    {at : ℕ} (r : Bool) (slot : at ≡ getD guards t 0) (told : GuardTold s sizes vars env at r) where
 
   guard-is : r ≡ holds n (standsFor (variablesOf n (transitionAt n t)) colours) (transitionAt n t .guard)
   guard-is =

@@ -103,35 +103,34 @@ module _ (start count : ℕ) (w : ℕ → ℕ) (places₀ amounts₀ : List ℕ)
       subst (λ x. Appended x places₀ amounts₀ used places amounts end) (sym (append-nil (l .arcs)) ∙ ap (λ x. l .arcs ++ ranksFrom start w rank x) (sym k) ∙ l .left) (l .so-far)
 
 -- ---- for every expression that may stand there
-module _ (s sizes vars env : List ℕ) (paired : Bool) (start count at : ℕ) (places₀ amounts₀ : List ℕ) (used : ℕ) where
-  abbrev pub ArcLoading : List ℕ → List ℕ → ℕ → ℕ → Type 0
-  ArcLoading places amounts end rank =
-      (known : List Place) (first second next : ℕ) (e : Expression) → readExpression s (net sizes vars known [] []) (placeBy paired first second) 16 at ≡ fine e next
+pub record ArcLoading (s sizes vars env : List ℕ) (paired : Bool) (start count at : ℕ) (places₀ amounts₀ : List ℕ) (used : ℕ) (places amounts : List ℕ) (end rank : ℕ) : Type 0 where
+  pub each : (known : List Place) (first second next : ℕ) (e : Expression) → readExpression s (net sizes vars known [] []) (placeBy paired first second) 16 at ≡ fine e next
       → used + count ≤ length places₀ → used + count ≤ length amounts₀
       → Loading start count (λ rank. weight (net sizes vars known [] []) (bound env) rank e) places₀ amounts₀ used places amounts end rank
 
+module _ {s sizes vars env : List ℕ} {paired : Bool} {start count at : ℕ} {places₀ amounts₀ : List ℕ} {used : ℕ} where
   pub arc-begins : (r : Ranked)
       → ((known : List Place) (first second : ℕ) → Skips (net sizes vars known [] []) env 0 r (readExpression s (net sizes vars known [] []) (placeBy paired first second) 16 at))
-      → ArcLoading places₀ amounts₀ used (r .rank)
-  arc-begins r skips known first second next e reads a b =
+      → ArcLoading s sizes vars env paired start count at places₀ amounts₀ used places₀ amounts₀ used (r .rank)
+  arc-begins r skips = record { each = λ known first second next e reads a b.
       loading-begins start count (λ rank. weight (net sizes vars known [] []) (bound env) rank e) places₀ amounts₀ used (r .rank)
-      (subst (Skips (net sizes vars known [] []) env 0 r) reads (skips known first second) .1)
+      (subst (Skips (net sizes vars known [] []) env 0 r) reads (skips known first second) .1) }
 
-  pub arc-goes : {places amounts places' amounts' : List ℕ} {end end' rank : ℕ} (r : Ranked) (v : Weighed) → ArcLoading places amounts end rank → rank < count
-      → ((known : List Place) (first second : ℕ) → Weighs (net sizes vars known [] []) env rank v (readExpression s (net sizes vars known [] []) (placeBy paired first second) 16 at))
-      → ((0 < v .weight → (end < length places) × (end < length amounts)) → Appended (oneArc (start + rank) (v .weight)) places amounts end places' amounts' end')
-      → ((known : List Place) (first second : ℕ) → Skips (net sizes vars known [] []) env (rank + 1) r (readExpression s (net sizes vars known [] []) (placeBy paired first second) 16 at))
-      → rank + 1 ≤ r .rank
-      → ArcLoading places' amounts' end' (r .rank)
-  arc-goes {places} {amounts} {places'} {amounts'} {end} {end'} {rank} r v l h weighs app skips on known first second next e reads a b =
-      loading-goes start count (λ rank. weight (net sizes vars known [] []) (bound env) rank e) places₀ amounts₀ used places amounts places' amounts' end end' rank (r .rank) (v .weight)
-      (l known first second next e reads a b) h a b (ap (λ x. x .weight) (subst (Weighs (net sizes vars known [] []) env rank v) reads (weighs known first second))) app on
-      (subst (Skips (net sizes vars known [] []) env (rank + 1) r) reads (skips known first second) .1)
+  module _ {places amounts : List ℕ} {end rank : ℕ} (l : ArcLoading s sizes vars env paired start count at places₀ amounts₀ used places amounts end rank) where
+    pub arc-goes : {places' amounts' : List ℕ} {end' : ℕ} (r : Ranked) (v : Weighed) → rank < count
+        → ((known : List Place) (first second : ℕ) → Weighs (net sizes vars known [] []) env rank v (readExpression s (net sizes vars known [] []) (placeBy paired first second) 16 at))
+        → ((0 < v .weight → (end < length places) × (end < length amounts)) → Appended (oneArc (start + rank) (v .weight)) places amounts end places' amounts' end')
+        → ((known : List Place) (first second : ℕ) → Skips (net sizes vars known [] []) env (rank + 1) r (readExpression s (net sizes vars known [] []) (placeBy paired first second) 16 at))
+        → rank + 1 ≤ r .rank
+        → ArcLoading s sizes vars env paired start count at places₀ amounts₀ used places' amounts' end' (r .rank)
+    arc-goes {places'} {amounts'} {end'} r v h weighs app skips on = record { each = λ known first second next e reads a b.
+        loading-goes start count (λ rank. weight (net sizes vars known [] []) (bound env) rank e) places₀ amounts₀ used places amounts places' amounts' end end' rank (r .rank) (v .weight)
+        (l .each known first second next e reads a b) h a b (ap (λ x. x .weight) (subst (Weighs (net sizes vars known [] []) env rank v) reads (weighs known first second))) app on
+        (subst (Skips (net sizes vars known [] []) env (rank + 1) r) reads (skips known first second) .1) }
 
-  pub arc-ends : {places amounts : List ℕ} {end rank : ℕ} → ArcLoading places amounts end rank → count ≤ rank
-      → ArcLoaded s sizes vars env paired start count at places₀ amounts₀ used places amounts end
-  arc-ends {places} {amounts} {end} {rank} l h known first second next e reads a b =
-      loading-ends start count (λ rank. weight (net sizes vars known [] []) (bound env) rank e) places₀ amounts₀ used places amounts end rank (l known first second next e reads a b) h
+    pub arc-ends : count ≤ rank → ArcLoaded s sizes vars env paired start count at places₀ amounts₀ used places amounts end
+    arc-ends h known first second next e reads a b =
+        loading-ends start count (λ rank. weight (net sizes vars known [] []) (bound env) rank e) places₀ amounts₀ used places amounts end rank (l .each known first second next e reads a b) h
 
 -- ---- guards
 module _ (s : List ℕ) (n : Net) (env : List ℕ) (g : Guard) (at : ℕ) (slot : GuardSlot (readGuard s n 16) g at) where
