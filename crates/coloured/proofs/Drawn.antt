@@ -30,7 +30,6 @@ rank-same start start' count count' w w' e f h = ap (λ x. rankArcs x count w) e
 -- ---- one place
 module _ {s : List ℕ} {n : Net} {sizes vars seconds starts guards arcs : List ℕ} (env : List ℕ) (d : Drawing s n sizes vars seconds starts guards arcs)
     {t k p base : ℕ} (ht : t < length (n .transitions)) (hk : k < 3) (hb : base ≡ t * 96 + k * 32) (hp : p < length (n .places)) where
-
   slot : Slot (readExpression s (net sizes vars (n .places) [] []) (placeAt n p) 16) (Option·map (λ a. a .expression) (arcOn (transitionAt n t .arcs) (0x16 + k) p)) (getD arcs (base + p) 0)
   slot = rw hb (d .arc t k p ht hk hp)
 
@@ -98,13 +97,15 @@ module _ {s sizes vars env seconds starts arcs : List ℕ} {base count : ℕ} {p
   module _ {places amounts : List ℕ} {end p : ℕ} (l : KindLoading s sizes vars env seconds starts arcs base count places₀ amounts₀ used places amounts end p) where
     pub kind-goes : {places' amounts' : List ℕ} {end' : ℕ} → p < count → PlaceLoaded s sizes vars env seconds starts arcs base p places amounts end places' amounts' end'
         → KindLoading s sizes vars env seconds starts arcs base count places₀ amounts₀ used places' amounts' end' (p + 1)
-    kind-goes h loaded = record { each = λ n guards t k d ht hk hb hc x y.
-        let before = l .each n guards t k d ht hk hb hc x y in
-        let few = kind-few n (transitionAt n t) (bound env) (0x16 + k) p (omega arith) in
-        let next = start-next n p (omega arith) in
-        let low = start-low n (p + 1) in
-        let f = before .end in let g = before .size in let i = before .sizes in
-        rw (kind-more n (transitionAt n t) (bound env) (0x16 + k) p) (append-join before (loaded n guards t k d ht hk hb (omega arith) (omega arith) (omega arith))) }
+    kind-goes h loaded = record {
+      each = λ n guards t k d ht hk hb hc x y.
+          let before = l .each n guards t k d ht hk hb hc x y in
+          let few = kind-few n (transitionAt n t) (bound env) (0x16 + k) p (omega arith) in
+          let next = start-next n p (omega arith) in
+          let low = start-low n (p + 1) in
+          let f = before .end in let g = before .size in let i = before .sizes in
+          rw (kind-more n (transitionAt n t) (bound env) (0x16 + k) p) (append-join before (loaded n guards t k d ht hk hb (omega arith) (omega arith) (omega arith)));
+    }
 
     pub kind-ends : p ≤ count → count ≤ p → KindLoaded s sizes vars env seconds starts arcs base count places₀ amounts₀ used places amounts end
     kind-ends h g n guards t k d ht hk hb hc x y =

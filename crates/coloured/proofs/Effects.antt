@@ -66,7 +66,6 @@ not-false false e = sym e
 module _ {s : List ℕ} {n : Net} {sizes vars seconds starts guards arcs : List ℕ} (env : List ℕ) (d : Drawing s n sizes vars seconds starts guards arcs)
     (t : ℕ) (ht : t < length (n .transitions)) (colours : List ℕ) (binds : Binds n (binding t colours) env)
     {at : ℕ} (r : Bool) (slot : at ≡ getD guards t 0) (told : GuardTold s sizes vars env at r) where
-
   guard-is : r ≡ holds n (standsFor (variablesOf n (transitionAt n t)) colours) (transitionAt n t .guard)
   guard-is =
       told (n .places) (transitionAt n t .guard) (rw slot (d .guard t ht))

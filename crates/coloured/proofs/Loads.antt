@@ -66,7 +66,7 @@ module _ (start count : ℕ) (w : ℕ → ℕ) (places₀ amounts₀ : List ℕ)
   loading-begins : (r : ℕ) → ((rank : ℕ) → 0 ≤ rank → rank < r → w rank ≡ 0) → Loading start count w places₀ amounts₀ used places₀ amounts₀ used r
   loading-begins r z =
       let e : count ≡ count - 0 = omega arith in
-      record { arcs = []; so-far = append-none places₀ amounts₀ used; left = sym (ap (rankArcs' ) e ∙ ranks-to start w 0 r count (omega arith) z) }
+      record { arcs = []; so-far = append-none places₀ amounts₀ used; left = sym (ap (rankArcs') e ∙ ranks-to start w 0 r count (omega arith) z) }
     where
       rankArcs' : ℕ → List Arc
       rankArcs' k = rankArcs start k w
@@ -112,9 +112,11 @@ module _ {s sizes vars env : List ℕ} {paired : Bool} {start count at : ℕ} {p
   pub arc-begins : (r : Ranked)
       → ((known : List Place) (first second : ℕ) → Skips (net sizes vars known [] []) env 0 r (readExpression s (net sizes vars known [] []) (placeBy paired first second) 16 at))
       → ArcLoading s sizes vars env paired start count at places₀ amounts₀ used places₀ amounts₀ used (r .rank)
-  arc-begins r skips = record { each = λ known first second next e reads a b.
-      loading-begins start count (λ rank. weight (net sizes vars known [] []) (bound env) rank e) places₀ amounts₀ used (r .rank)
-      (subst (Skips (net sizes vars known [] []) env 0 r) reads (skips known first second) .1) }
+  arc-begins r skips = record {
+    each = λ known first second next e reads a b.
+        loading-begins start count (λ rank. weight (net sizes vars known [] []) (bound env) rank e) places₀ amounts₀ used (r .rank)
+        (subst (Skips (net sizes vars known [] []) env 0 r) reads (skips known first second) .1);
+  }
 
   module _ {places amounts : List ℕ} {end rank : ℕ} (l : ArcLoading s sizes vars env paired start count at places₀ amounts₀ used places amounts end rank) where
     pub arc-goes : {places' amounts' : List ℕ} {end' : ℕ} (r : Ranked) (v : Weighed) → rank < count
@@ -123,10 +125,12 @@ module _ {s sizes vars env : List ℕ} {paired : Bool} {start count at : ℕ} {p
         → ((known : List Place) (first second : ℕ) → Skips (net sizes vars known [] []) env (rank + 1) r (readExpression s (net sizes vars known [] []) (placeBy paired first second) 16 at))
         → rank + 1 ≤ r .rank
         → ArcLoading s sizes vars env paired start count at places₀ amounts₀ used places' amounts' end' (r .rank)
-    arc-goes {places'} {amounts'} {end'} r v h weighs app skips on = record { each = λ known first second next e reads a b.
-        loading-goes start count (λ rank. weight (net sizes vars known [] []) (bound env) rank e) places₀ amounts₀ used places amounts places' amounts' end end' rank (r .rank) (v .weight)
-        (l .each known first second next e reads a b) h a b (ap (λ x. x .weight) (subst (Weighs (net sizes vars known [] []) env rank v) reads (weighs known first second))) app on
-        (subst (Skips (net sizes vars known [] []) env (rank + 1) r) reads (skips known first second) .1) }
+    arc-goes {places'} {amounts'} {end'} r v h weighs app skips on = record {
+      each = λ known first second next e reads a b.
+          loading-goes start count (λ rank. weight (net sizes vars known [] []) (bound env) rank e) places₀ amounts₀ used places amounts places' amounts' end end' rank (r .rank) (v .weight)
+          (l .each known first second next e reads a b) h a b (ap (λ x. x .weight) (subst (Weighs (net sizes vars known [] []) env rank v) reads (weighs known first second))) app on
+          (subst (Skips (net sizes vars known [] []) env (rank + 1) r) reads (skips known first second) .1);
+    }
 
     pub arc-ends : count ≤ rank → ArcLoaded s sizes vars env paired start count at places₀ amounts₀ used places amounts end
     arc-ends h known first second next e reads a b =

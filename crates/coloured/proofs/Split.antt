@@ -6,7 +6,6 @@ use native.Mathlib.Omega.{arith}
 use native.Mathlib.Numerals.{add-one}
 use borrow.Author.Tests.{ltb-true, ltb-false, lt-ltb, le-ltb}
 use lib.ListN.{length-append, length-map}
-
 use Rattle.reading.specs.Basics.{ℕ, zero, suc, _+_, _-_, Bool, true, false, List, [], _∷_, _++_, map, flatMap, Option, none, some, length, getD, getElem?, take, ltb, if_then_else_, given, keep, numbersFrom, below, sum}
 use Rattle.reading.proofs.Lists.{map-same, map-from, length-from}
 use Rattle.firing.specs.Arcs.{Arc, arcsOf}
@@ -83,8 +82,8 @@ module _ (w : FlatPlace → ℕ) where
   walk-at a (f ∷ l) =
       let e : a + 0 ≡ a = omega arith in
       let q = map-from {A = Arc} (λ i. record { place = a + i; weight = given (getElem? (f ∷ l) i) 0 w }) 0 (length l)
-          ∙ map-same {B = Arc} (λ i. record { place = a + (i + 1); weight = given (getElem? (f ∷ l) (i + 1)) 0 w }) (λ i. record { place = a + 1 + i; weight = given (getElem? l i) 0 w })
-          (below (length l)) (λ i m. let z : a + suc i ≡ a + 1 + i = omega arith in rw (add-one i, z)) in
+      ∙ map-same {B = Arc} (λ i. record { place = a + (i + 1); weight = given (getElem? (f ∷ l) (i + 1)) 0 w }) (λ i. record { place = a + 1 + i; weight = given (getElem? l i) 0 w })
+      (below (length l)) (λ i m. let z : a + suc i ≡ a + 1 + i = omega arith in rw (add-one i, z)) in
       rw (e, q, walk-at (a + 1) l)
 
   -- places in turn, where each begins where the one before it ends
@@ -150,8 +149,14 @@ module _ (n : Net) (t : Transition) (env : ℕ → ℕ) (kind : ℕ) where
   unfolding flatMap numbersFrom
   kind-few zero h = omega arith
   kind-few (suc p) h =
-      subst (λ k. length (kindArcs n t env kind k) ≤ startOf n k) (add-one p) (omega (arith, ap length (kind-more p), length-append (kindArcs n t env kind p) (placeArcs n t env kind p), kind-few p (omega arith),
-      ranks-few (startOf n p) (λ r. arcWeight n t env kind (record { place = p; rank = r })) 0 (coloursOf n (placeAt n p)), start-next n p (omega arith)))
+      subst (λ k. length (kindArcs n t env kind k) ≤ startOf n k) (add-one p) (omega (
+        arith,
+        ap length (kind-more p),
+        length-append (kindArcs n t env kind p) (placeArcs n t env kind p),
+        kind-few p (omega arith),
+        ranks-few (startOf n p) (λ r. arcWeight n t env kind (record { place = p; rank = r })) 0 (coloursOf n (placeAt n p)),
+        start-next n p (omega arith),
+      ))
 
   -- a place without an arc of the kind
   pub place-none : (p : ℕ) → arcOn (t .arcs) kind p ≡ none → placeArcs n t env kind p ≡ []

@@ -101,7 +101,19 @@ fn load_place(
         return used;
     }
     let paired = byte_at(seconds, p) != 255;
-    load_arc(s, sizes, vars, env, paired, start, end - start, at, places, amounts, used)
+    load_arc(
+        s,
+        sizes,
+        vars,
+        env,
+        paired,
+        start,
+        end - start,
+        at,
+        places,
+        amounts,
+        used,
+    )
 }
 
 // Appends the arcs of a kind, place after place.
@@ -126,7 +138,20 @@ fn load_kind(
     let mut end = used;
     let mut p = 0;
     while p < count {
-        end = load_place(s, sizes, vars, env, seconds, starts, arcs, base, p, places, amounts, end);
+        end = load_place(
+            s,
+            sizes,
+            vars,
+            env,
+            seconds,
+            starts,
+            arcs,
+            base,
+            p,
+            places,
+            amounts,
+            end,
+        );
         p += 1;
     }
     end
@@ -145,7 +170,11 @@ fn guard_holds(s: &[u8], sizes: &[u8], vars: &[u8], env: &[u8], at: usize) -> bo
 // The effect of a binding: nothing where its guard is false, or where its takes, puts and hinders end in the lent lists.
 pub enum Loaded {
     Nothing,
-    Row { takes: usize, puts: usize, hinders: usize },
+    Row {
+        takes: usize,
+        puts: usize,
+        hinders: usize,
+    },
 }
 
 pub fn load_effect(
@@ -170,9 +199,48 @@ pub fn load_effect(
         return Loaded::Nothing;
     }
     let base = t * 96;
-    let takes = load_kind(s, sizes, vars, env, seconds, starts, arcs, base, count, places, amounts, 0);
-    let puts = load_kind(s, sizes, vars, env, seconds, starts, arcs, base + 32, count, places, amounts, takes);
-    let hinders = load_kind(s, sizes, vars, env, seconds, starts, arcs, base + 64, count, places, amounts, puts);
+    let takes = load_kind(
+        s,
+        sizes,
+        vars,
+        env,
+        seconds,
+        starts,
+        arcs,
+        base,
+        count,
+        places,
+        amounts,
+        0,
+    );
+    let puts = load_kind(
+        s,
+        sizes,
+        vars,
+        env,
+        seconds,
+        starts,
+        arcs,
+        base + 32,
+        count,
+        places,
+        amounts,
+        takes,
+    );
+    let hinders = load_kind(
+        s,
+        sizes,
+        vars,
+        env,
+        seconds,
+        starts,
+        arcs,
+        base + 64,
+        count,
+        places,
+        amounts,
+        puts,
+    );
     Loaded::Row {
         takes,
         puts,

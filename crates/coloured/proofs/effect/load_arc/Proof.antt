@@ -31,8 +31,11 @@ load-arc-spec =
     (λ c. omega arith)
     (λ c κs. search needs)
     (λ c. omega arith)
-    (λ c. (c .before .before .before .before .before .append .kept .0 ∙ c .before .before .before .before .before .before .before .before .before .before .loop .inv .0, c .before .before .before .before .before .append .kept .1 .0 ∙ c .before .before .before .before .before .before .before .before .before .before .loop .inv .1,
-    arc-goes (c .before .before .before .before .before .before .before .before .before .before .loop .inv .2) (c .next-rank2 .result) (c .before .before .before .before .before .before .before .before .eval-weight .result) (c .before .before .before .before .before .before .before .before .before .loop-test .taken) (c .before .before .before .before .before .before .before .before .eval-weight .ensures .0) (c .before .before .before .before .before .append .ensures) (c .next-rank2 .ensures .0) (c .next-rank2 .ensures .1)))
+    (λ c. (
+      c .before .before .before .before .before .append .kept .0 ∙ c .before .before .before .before .before .before .before .before .before .before .loop .inv .0,
+      c .before .before .before .before .before .append .kept .1 .0 ∙ c .before .before .before .before .before .before .before .before .before .before .loop .inv .1,
+      arc-goes (c .before .before .before .before .before .before .before .before .before .before .loop .inv .2) (c .next-rank2 .result) (c .before .before .before .before .before .before .before .before .eval-weight .result) (c .before .before .before .before .before .before .before .before .before .loop-test .taken) (c .before .before .before .before .before .before .before .before .eval-weight .ensures .0) (c .before .before .before .before .before .append .ensures) (c .next-rank2 .ensures .0) (c .next-rank2 .ensures .1),
+    ))
     (λ c. c .before .loop .inv .0)
     (λ c. c .before .loop .inv .1)
     (λ c. arc-ends (c .before .loop .inv .2) (c .loop-test .left)))

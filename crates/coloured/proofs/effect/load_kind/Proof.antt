@@ -25,8 +25,12 @@ load-kind-spec =
     (λ c κs. search needs)
     (λ c. omega arith)
     (λ c. omega arith)
-    (λ c. (omega arith, c .before .before .before .before .load-place .kept .1 .1 .1 .1 .1 .1 .1 .1 .1 .0 ∙ c .before .before .before .before .before .before .before .before .loop .inv .1, c .before .before .before .before .load-place .kept .1 .1 .1 .1 .1 .1 .1 .1 .1 .1 .0 ∙ c .before .before .before .before .before .before .before .before .loop .inv .2,
-    kind-goes (c .before .before .before .before .before .before .before .before .loop .inv .3) (c .before .before .before .before .before .before .before .loop-test .taken) (c .before .before .before .before .load-place .ensures)))
+    (λ c. (
+      omega arith,
+      c .before .before .before .before .load-place .kept .1 .1 .1 .1 .1 .1 .1 .1 .1 .0 ∙ c .before .before .before .before .before .before .before .before .loop .inv .1,
+      c .before .before .before .before .load-place .kept .1 .1 .1 .1 .1 .1 .1 .1 .1 .1 .0 ∙ c .before .before .before .before .before .before .before .before .loop .inv .2,
+      kind-goes (c .before .before .before .before .before .before .before .before .loop .inv .3) (c .before .before .before .before .before .before .before .loop-test .taken) (c .before .before .before .before .load-place .ensures),
+    ))
     (λ c. c .before .loop .inv .1)
     (λ c. c .before .loop .inv .2)
     (λ c. kind-ends (c .before .loop .inv .3) (c .before .loop .inv .0) (c .loop-test .left)))
