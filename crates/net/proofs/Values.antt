@@ -8,7 +8,7 @@ use Rattle.reading.specs.Reading.{Answer, fine, fault, _andThen_, under, Check,
 use Rattle.reading.proofs.Commands.{known, needed-at, needed-past}
 use Rattle.reading.proofs.Within.{by-test}
 use Rattle.net.specs.Net.{Colour, successor, predecessor, Guard, opposite, both, either, equal, less, Net, sizeOf, setOf}
-use Rattle.net.specs.Reader.{readColour, readGuard, comparison}
+use Rattle.net.specs.Reader.{command, readColour, readGuard, readGuardIf, comparison}
 use Rattle.net.specs.Values.{colour, holds}
 use Rattle.net.specs.Evaluated.{after, before, bound, Valued, Held}
 use Rattle.net.specs.declared.evaluate.Value.{Value}
@@ -230,3 +230,13 @@ module _ (s : List ℕ) (n : Net) (env : List ℕ) (left at : ℕ) where
   guard-stray r f g h i j k =
       rw (guard-step s n left at) (needed-each (Held n env r) (λ k p. tt) s at _
       (λ e. absurd (f e), (λ e. absurd (g e), (λ e. absurd (h e), (λ e. absurd (i e), (λ e. absurd (j e), (λ e. absurd (k e), tt)))))))
+
+-- ---- 0x15 and a guard, or true
+module _ (s : List ℕ) (n : Net) (env : List ℕ) (at : ℕ) where
+  pub no-guard : standing s (command 0x15 [] (readGuard s n 16) ∷ []) at ≡ none → Held n env (record { holds = true; next = at }) (readGuardIf s n at)
+  unfolding readGuardIf holds
+  no-guard e = rw e
+
+  pub its-guard : (r : Tested) {answer : Answer Guard} → standing s (command 0x15 [] (readGuard s n 16) ∷ []) at ≡ some answer → Held n env r answer → Held n env r (readGuardIf s n at)
+  unfolding readGuardIf
+  its-guard r e h = rw e h

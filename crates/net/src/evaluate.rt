@@ -1,5 +1,5 @@
 // Evaluates the expressions of a net file under a binding, which gives each variable's colour.
-// Where the bytes hold a tree, what comes out is the tree's; no byte is asked for anything.
+// Nothing is asked of the bytes: where they hold a tree, what comes out is the tree's.
 use crate::entry;
 use reading::word_at;
 ghost use mathlib.Core.Path.{_≡_};
@@ -7,7 +7,7 @@ ghost use mathlib.Core.List.{List, []};
 ghost use Prim.Native.Nat.{ℕ, _≤_, _<_, _+_, _-_};
 ghost use Rattle.reading.specs.Basics.{if_then_else_};
 ghost use Rattle.net.specs.Net.{net, Place, equal, less};
-ghost use Rattle.net.specs.Reader.{readColour, readGuard, readExpression, comparison, amount};
+ghost use Rattle.net.specs.Reader.{readColour, readGuard, readGuardIf, readExpression, comparison, amount};
 ghost use Rattle.net.specs.Evaluated.{Valued, Held, Weighs, Ranks, Skips, placeBy, limit, after, before};
 
 // The colour that an expression means, its set, and the place after it.
@@ -192,6 +192,26 @@ pub fn eval_guard(s: &[u8], sizes: &[u8], vars: &[u8], env: &[u8], left: u8, at:
     }
 }
 
+// The guard of a transition: 0x15 and a guard, or true.
+pub fn eval_guard_if(s: &[u8], sizes: &[u8], vars: &[u8], env: &[u8], at: usize) -> Tested
+    ensures { λ r. ⌜ ((places : List Place) → Held (net (now (sizes .entry)) (now (vars .entry)) places [] []) (now (env .entry)) r
+        (readGuardIf (now (s .entry)) (net (now (sizes .entry)) (now (vars .entry)) places [] []) at)) ⌝ }
+{
+    if s.len() <= at {
+        return Tested {
+            holds: true,
+            next: at,
+        };
+    }
+    if s[at] == 0x15 {
+        return eval_guard(s, sizes, vars, env, 16, at + 1);
+    }
+    Tested {
+        holds: true,
+        next: at,
+    }
+}
+
 // A rank, and the place after an expression.
 pub struct Ranked {
     pub rank: usize,
@@ -333,7 +353,7 @@ fn lesser_of(a: usize, b: usize) -> usize
     if a <= b { a } else { b }
 }
 
-// The next rank, from one on, at which the arc expression at a place may have a weight; past every rank where there is none.
+// The next rank, from one on, at which the arc expression at a place may have a weight; the largest usize where there is none.
 pub fn next_rank(
     s: &[u8],
     sizes: &[u8],

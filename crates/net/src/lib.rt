@@ -9,6 +9,7 @@ pub use evaluate::Value;
 pub use evaluate::Weighed;
 pub use evaluate::eval_colour;
 pub use evaluate::eval_guard;
+pub use evaluate::eval_guard_if;
 pub use evaluate::eval_weight;
 pub use evaluate::next_rank;
 pub use expression::read_expression;
