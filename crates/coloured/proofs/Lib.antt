@@ -6,3 +6,9 @@ pub mod Named
 pub mod Ordering
 pub mod FlatPlaces
 pub mod Values
+pub mod Split
+pub mod Appending
+pub mod Loads
+pub mod Agreeing
+pub mod Drawn
+pub mod Effects

@@ -1,2 +1,6 @@
-// The meanings of this crate stand in specs/.
+// Firing on the drawing: bindings, and what firing each does, from a net file's bytes. The meanings of this crate stand in specs/.
 mod binding;
+mod effect;
+
+pub use effect::Loaded;
+pub use effect::load_effect;

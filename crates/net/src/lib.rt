@@ -1,8 +1,8 @@
 // Reads net files. The meanings of this crate stand in specs/.
 mod evaluate;
 mod expression;
-mod table;
 mod space;
+mod table;
 
 pub use evaluate::Ranked;
 pub use evaluate::Tested;

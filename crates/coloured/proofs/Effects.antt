@@ -1,0 +1,134 @@
+-- The effect of a binding, from its guard and the arcs of its three kinds; and what firing its row gives. Assumes nothing.
+use mathlib.Core.Path.{_≡_, refl, sym, ap, subst, fun-ext, _∙_}
+use mathlib.Core.List.{List·Memᴰ·not-nil}
+use Prim.Native.Nat.{_≤_, _<_}
+use native.Mathlib.Omega.{arith}
+use lib.Seq.{take-take}
+use Rattle.reading.specs.Basics.{ℕ, zero, suc, _+_, _*_, Bool, true, false, not, _&&_, _||_, List, [], _∷_, Option, none, some, length, take, getD, getElem?, eqb, if_then_else_, given, any, find}
+use Rattle.reading.proofs.Lists.{In, here, there, in-cases}
+use Rattle.firing.specs.Firing.{Weights, Fired, fired, fire}
+use Rattle.firing.specs.Arcs.{Arc, arcsIn, arcsOf, row, rowIn, rowOf, weights, Proper}
+use Rattle.firing.proofs.Agree.{fire-same}
+use Rattle.firing.proofs.Weighted.{row-agrees, row-proper}
+use Rattle.net.specs.Net as net
+use Rattle.net.specs.Net.{Expression, Transition, Net, net, coloursOf, placeAt, flatPlaceCount, arcOn, variablesOf, inGuard, inExpression}
+use Rattle.net.specs.Reader.{readGuard}
+use Rattle.net.specs.Values.{holds, weight}
+use Rattle.net.specs.Evaluated.{bound}
+use Rattle.coloured.specs.Effect.{Binding, FlatPlace, transitionAt, standsFor, flatPlaces, arcWeight, weightsOf, effect}
+use Rattle.coloured.specs.Drawing.{kindArcs, Appended, Drawing, standsIn, Binds, RowLoaded}
+use Rattle.coloured.specs.Loading.{KindLoaded, GuardTold, binding}
+use Rattle.coloured.proofs.Split.{split, start-low, kind-few}
+use Rattle.coloured.proofs.Appending.{arcs-kept}
+use Rattle.coloured.proofs.Agreeing.{or-left, or-right, holds-same, weight-same}
+
+-- an arc that is found is one of the arcs
+found-in : (test : net.Arc → Bool) (l : List net.Arc) (a : net.Arc) → find test l ≡ some a → In a l
+unfolding find
+found-in test [] a e = let z : _≡_ {A = ℕ} 0 1 = cc in absurd (omega arith)
+found-in test (b ∷ l) a e = go (test b) (found-in test l a) e
+  where
+    go : (t : Bool) → (find test l ≡ some a → In a l) → (if t then some b else find test l) ≡ some a → In a (b ∷ l)
+    go true ih q = let z : b ≡ a = cc in subst (λ x. In x (b ∷ l)) z here
+    go false ih q = there (ih q)
+
+in-any : (test : net.Arc → Bool) (l : List net.Arc) (a : net.Arc) → In a l → test a ≡ true → any test l ≡ true
+unfolding any
+in-any test [] a m e = absurd (List·Memᴰ·not-nil m)
+in-any test (b ∷ l) a m e = in-cases (λ q. or-left (test b) _ (ap test (sym q) ∙ e)) (λ k. or-right (test b) _ (in-any test l a k e)) m
+
+-- ---- colours of a binding
+module _ (n : Net) (t : Transition) (env other : ℕ → ℕ) (same : (v : ℕ) → standsIn v t ≡ true → env v ≡ other v) where
+  guard-as : holds n env (t .guard) ≡ holds n other (t .guard)
+  guard-as = holds-same n n refl refl env other (t .guard) (λ v e. same v (or-left _ (any (λ a. inExpression v (a .expression)) (t .arcs)) e))
+
+  arc-as : (kind : ℕ) (f : FlatPlace) → arcWeight n t env kind f ≡ arcWeight n t other kind f
+  arc-as kind f = go (arcOn (t .arcs) kind (f .place)) refl
+    where
+      go : (o : Option net.Arc) → arcOn (t .arcs) kind (f .place) ≡ o → given o 0 (λ a. weight n env (f .rank) (a .expression)) ≡ given o 0 (λ a. weight n other (f .rank) (a .expression))
+      go none q = refl
+      go (some a) q = weight-same n n refl refl env other (f .rank) (a .expression)
+          (λ v e. same v (or-right (inGuard v (t .guard)) _ (in-any (λ a. inExpression v (a .expression)) (t .arcs) a (found-in _ (t .arcs) a q) e)))
+
+  -- the arcs of a kind, place by place, are the row's
+  kind-row : (kind : ℕ) → kindArcs n t env kind (length (n .places)) ≡ arcsOf (flatPlaceCount n) (λ p. given (getElem? (flatPlaces n) p) 0 (arcWeight n t other kind))
+  kind-row kind = sym (split n t env kind) ∙ ap (λ w. arcsOf (flatPlaceCount n) (λ p. given (getElem? (flatPlaces n) p) 0 w)) (fun-ext (arc-as kind))
+
+-- ---- the code's two results
+not-true : (b : Bool) → not b ≡ true → b ≡ false
+not-true true e = sym e
+not-true false e = refl
+
+not-false : (b : Bool) → not b ≡ false → b ≡ true
+not-false true e = refl
+not-false false e = sym e
+
+module _ {s : List ℕ} {n : Net} {sizes vars seconds starts guards arcs : List ℕ} (env : List ℕ) (d : Drawing s n sizes vars seconds starts guards arcs)
+    (t : ℕ) (ht : t < length (n .transitions)) (colours : List ℕ) (binds : Binds n (binding t colours) env)
+    {at : ℕ} (r : Bool) (slot : at ≡ getD guards t 0) (told : GuardTold s sizes vars env at r) where
+  guard-is : r ≡ holds n (standsFor (variablesOf n (transitionAt n t)) colours) (transitionAt n t .guard)
+  guard-is =
+      told (n .places) (transitionAt n t .guard) (rw slot (d .guard t ht))
+      ∙ holds-same (net sizes vars (n .places) [] []) n (sym (d .sets)) (sym (d .variables)) (bound env) (bound env) (transitionAt n t .guard) (λ v e. refl)
+      ∙ guard-as n (transitionAt n t) (bound env) (standsFor (variablesOf n (transitionAt n t)) colours) binds
+
+  -- the guard is false
+  pub effect-nothing : not r ≡ true → effect n (binding t colours) ≡ none
+  unfolding effect
+  effect-nothing e = rw (sym guard-is ∙ not-true r e)
+
+  -- it is true, and the takes, puts and hinders were appended one after the other
+  pub effect-row : {places amounts p1 a1 p2 a2 p3 a3 : List ℕ} {count takes puts hinders : ℕ} → not r ≡ false → count ≡ length (n .places) → 12288 ≤ length places → 12288 ≤ length amounts
+      → KindLoaded s sizes vars env seconds starts arcs (t * 96) count places amounts 0 p1 a1 takes
+      → KindLoaded s sizes vars env seconds starts arcs (t * 96 + 32) count p1 a1 takes p2 a2 puts
+      → KindLoaded s sizes vars env seconds starts arcs (t * 96 + 64) count p2 a2 puts p3 a3 hinders
+      → RowLoaded n (binding t colours) p3 a3 takes puts hinders
+  unfolding effect
+  effect-row {places} {amounts} {p1} {a1} {p2} {a2} {p3} {a3} {count} {takes} {puts} {hinders} e c x y k1 k2 k3 =
+      record {
+        weighs = weightsOf n (transitionAt n t) other;
+        is = rw (sym guard-is ∙ not-false r e);
+        row = rows (arcs-kept p2 a2 p3 a3 0 takes (shorter p2 p3 (third .front)) (shorter a2 a3 (third .fronts)) ∙ arcs-kept p1 a1 p2 a2 0 takes (second .front) (second .fronts) ∙ first .are ∙ rows-of 0x16)
+            (arcs-kept p2 a2 p3 a3 takes puts (third .front) (third .fronts) ∙ second .are ∙ rows-of 0x17) (third .are ∙ rows-of 0x18);
+      }
+    where
+      other : ℕ → ℕ
+      other = standsFor (variablesOf n (transitionAt n t)) colours
+
+      few : (kind : ℕ) → length (kindArcs n (transitionAt n t) (bound env) kind count) ≤ 4096
+      few kind = omega (arith, kind-few n (transitionAt n t) (bound env) kind count (omega arith), start-low n count, d .few)
+
+      first : Appended (kindArcs n (transitionAt n t) (bound env) 0x16 count) places amounts 0 p1 a1 takes
+      first = k1 n guards t 0 d ht (omega arith) (omega arith) (omega arith) (omega (arith, d .few)) (omega (arith, d .few))
+
+      second : Appended (kindArcs n (transitionAt n t) (bound env) 0x17 count) p1 a1 takes p2 a2 puts
+      second = k2 n guards t 1 d ht (omega arith) (omega arith) (omega arith) (omega (arith, d .few, few 0x16, first .end, first .size)) (omega (arith, d .few, few 0x16, first .end, first .sizes))
+
+      third : Appended (kindArcs n (transitionAt n t) (bound env) 0x18 count) p2 a2 puts p3 a3 hinders
+      third = k3 n guards t 2 d ht (omega arith) (omega arith) (omega arith)
+          (omega (arith, d .few, few 0x16, few 0x17, first .end, first .size, second .end, second .size)) (omega (arith, d .few, few 0x16, few 0x17, first .end, first .sizes, second .end, second .sizes))
+
+      shorter : (l l' : List ℕ) → take puts l' ≡ take puts l → take takes l' ≡ take takes l
+      shorter l l' q = let u : takes ≤ puts = omega (arith, second .end) in sym (take-take takes puts l' u) ∙ ap (take takes) q ∙ take-take takes puts l u
+
+      rows-of : (kind : ℕ) → kindArcs n (transitionAt n t) (bound env) kind count ≡ arcsOf (flatPlaceCount n) (λ p. given (getElem? (flatPlaces n) p) 0 (arcWeight n (transitionAt n t) other kind))
+      rows-of kind = ap (kindArcs n (transitionAt n t) (bound env) kind) c ∙ kind-row n (transitionAt n t) (bound env) other binds kind
+
+      rows : {a b c a' b' c' : List Arc} → a ≡ a' → b ≡ b' → c ≡ c' → row a b c ≡ row a' b' c'
+      rows f g h = cc
+
+-- ---- for callers: firing the row that was loaded is firing the effect
+module _ {n : Net} {b : Binding} {places amounts : List ℕ} {takes puts hinders : ℕ} (l : RowLoaded n b places amounts takes puts hinders) (m : List ℕ) (sized : length m ≡ flatPlaceCount n) where
+  -- what answer and fire_row ask of a row
+  pub loaded-proper : Proper (length m) (rowIn places amounts takes puts hinders)
+  loaded-proper = rw (l .row, sized) (row-proper (flatPlaceCount n) (l .weighs))
+
+  pub loaded-fires : fire (weights (rowIn places amounts takes puts hinders)) m ≡ fire (l .weighs) m
+  loaded-fires = ap (λ r. fire (weights r) m) (l .row) ∙ fire-same (weights (rowOf (flatPlaceCount n) (l .weighs))) (l .weighs) m (rw sized (row-agrees (flatPlaceCount n) (l .weighs)))
+
+  -- the answer alone, and the firing
+  pub loaded-answer : (r : ℕ) → (Proper (length m) (rowIn places amounts takes puts hinders) → r ≡ fire (weights (rowIn places amounts takes puts hinders)) m .answer) → r ≡ fire (l .weighs) m .answer
+  loaded-answer r h = h loaded-proper ∙ ap (λ f. f .answer) loaded-fires
+
+  pub loaded-fired : (r : ℕ) (m' : List ℕ) → (Proper (length m) (rowIn places amounts takes puts hinders) → fired r m' ≡ fire (weights (rowIn places amounts takes puts hinders)) m) → fired r m' ≡ fire (l .weighs) m
+  loaded-fired r m' h = h loaded-proper ∙ loaded-fires

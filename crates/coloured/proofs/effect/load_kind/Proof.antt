@@ -1,0 +1,36 @@
+use borrow.Author.Needs.{needs}
+use native.Mathlib.Omega.{arith}
+use mathlib.Core.Path.{_≡_, refl, _∙_}
+use Prim.Native.Nat.{_-_, _≤_}
+use lib.ListN.{length}
+use Rattle.coloured.proofs.Drawn.{KindLoading, kind-begins, kind-goes, kind-ends}
+use Rattle.coloured.proofs.effect.load_kind.Statement.{statement}
+use Rattle.coloured.proofs.effect.load_kind.Tie as tie
+
+abbrev Inv-loop : tie.InvT-loop
+Inv-loop s sizes vars env seconds starts arcs base count places₀ amounts₀ used end₀ p₀ places amounts end p =
+    (p ≤ count) × (length places ≡ length places₀) × (length amounts ≡ length amounts₀) × KindLoading s sizes vars env seconds starts arcs base count places₀ amounts₀ used places amounts end p
+
+abbrev μ-loop : tie.MeasureT-loop
+μ-loop s sizes vars env seconds starts arcs base count places₀ amounts₀ used end₀ p₀ places amounts end p =
+    count - p
+
+pub load-kind-spec : {M : Type 1} → statement M
+load-kind-spec =
+    tie.close
+    (tie.spec
+    Inv-loop
+    μ-loop
+    (λ c. (omega arith, refl, refl, kind-begins))
+    (λ c κs. search needs)
+    (λ c. omega arith)
+    (λ c. omega arith)
+    (λ c. (
+      omega arith,
+      c .before .before .before .before .load-place .kept .1 .1 .1 .1 .1 .1 .1 .1 .1 .0 ∙ c .before .before .before .before .before .before .before .before .loop .inv .1,
+      c .before .before .before .before .load-place .kept .1 .1 .1 .1 .1 .1 .1 .1 .1 .1 .0 ∙ c .before .before .before .before .before .before .before .before .loop .inv .2,
+      kind-goes (c .before .before .before .before .before .before .before .before .loop .inv .3) (c .before .before .before .before .before .before .before .loop-test .taken) (c .before .before .before .before .load-place .ensures),
+    ))
+    (λ c. c .before .loop .inv .1)
+    (λ c. c .before .loop .inv .2)
+    (λ c. kind-ends (c .before .loop .inv .3) (c .before .loop .inv .0) (c .loop-test .left)))
