@@ -14,3 +14,5 @@ pub mod Drawn
 pub mod Effects
 pub mod Used
 pub mod Readied
+pub mod Turning
+pub mod Searching

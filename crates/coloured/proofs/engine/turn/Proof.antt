@@ -1,4 +1,8 @@
 use borrow.Author.Needs.{needs}
+use native.Mathlib.Omega.{arith}
+use denote.Ref.{now}
+use mathlib.Core.Path.{sym, _∙_}
+use Rattle.coloured.proofs.Turning.{turn-other, turn-past, turn-none, turn-at}
 use Rattle.coloured.proofs.engine.turn.Statement.{statement}
 use Rattle.coloured.proofs.engine.turn.Tie as tie
 use Rattle.coloured.proofs.engine.turn.Reads as reads
@@ -18,7 +22,7 @@ byte-at-requires c κs = search needs
 
 -- src/engine.rt:151:9
 returns : tie.Need-returns
-returns c = ?
+returns c = λ n ready room room' sized. turn-other n (now (c .before .before .before .before .before .before .before .before .before .before .before .before .before .before .args .orders)) (now (c .before .before .before .before .before .before .before .before .before .before .before .before .before .before .args .m)) (c .before .before .before .before .before .before .before .before .before .before .before .before .before .before .args .i) (λ e. c .if1 .taken (c .before .byte-at .ensures .0 ∙ e))
 
 -- src/engine.rt:153:29
 add-byte-at : tie.Need-add-byte-at
@@ -30,7 +34,7 @@ byte-at-requires-2 c κs = search needs
 
 -- src/engine.rt:155:9
 returns-2 : tie.Need-returns-2
-returns-2 c = ?
+returns-2 c = λ n ready room room' sized. turn-past n (now (c .before .before .before .before .before .before .before .before .before .before .before .before .before .before .before .before .args .orders)) (now (c .before .before .before .before .before .before .before .before .before .before .before .before .before .before .before .before .args .m)) (c .before .before .before .before .before .before .before .before .before .before .before .before .before .before .before .before .args .i) (omega (arith, ready .transitions-are, c .if2 .taken, c .before .byte-at2 .ensures .0))
 
 -- src/engine.rt:157:26
 uses-at-requires : tie.Need-uses-at-requires
@@ -58,7 +62,7 @@ fire-binding-requires c κs = search needs
 
 -- src/engine.rt:126:1
 returns-3 : tie.Need-returns-3
-returns-3 c = ?
+returns-3 c = λ n ready room room' sized. turn-none ready (now (c .before .before .before .before .before .before .before .before .before .before .before .before .before .before .before .before .before .before .before .before .args .orders)) (now (c .before .before .before .before .before .before .before .before .before .before .before .before .before .before .before .before .before .before .before .before .args .m)) (c .before .before .before .before .before .before .before .before .before .before .before .before .before .before .before .before .before .before .before .before .args .i) _ _ (sym (c .before .before .before .before .before .before .before .byte-at .ensures .0) ∙ c .before .before .before .before .before .before .if1 .left) (c .before .before .before .before .before .byte-at2 .ensures .0) (c .before .before .before .before .if2 .left) (c .before .before .before .uses-at .ensures) (c .before .before .binding-number .ensures) (c .enum-told .given .1)
 
 -- src/engine.rt:126:1
 same-length : tie.Need-same-length
@@ -74,7 +78,7 @@ same-length-3 c = search needs
 
 -- src/engine.rt:126:1
 returns-4 : tie.Need-returns-4
-returns-4 c = ?
+returns-4 c = λ n ready room room' sized. c .before .before .before .before .before .before .fire-binding .ensures n _ ready (c .before .before .before .before .before .before .before .before .before .before .before .before .before .before .before .if2 .left) room room' sized ∙ turn-at ready (now (c .before .before .before .before .before .before .before .before .before .before .before .before .before .before .before .before .before .before .before .before .before .before .before .before .before .before .before .before .before .before .before .args .orders)) (now (c .before .before .before .before .before .before .before .before .before .before .before .before .before .before .before .before .before .before .before .before .before .before .before .before .before .before .before .before .before .before .before .args .m)) (c .before .before .before .before .before .before .before .before .before .before .before .before .before .before .before .before .before .before .before .before .before .before .before .before .before .before .before .before .before .before .before .args .i) _ _ (sym (c .before .before .before .before .before .before .before .before .before .before .before .before .before .before .before .before .before .before .byte-at .ensures .0) ∙ c .before .before .before .before .before .before .before .before .before .before .before .before .before .before .before .before .before .if1 .left) (c .before .before .before .before .before .before .before .before .before .before .before .before .before .before .before .before .byte-at2 .ensures .0) (c .before .before .before .before .before .before .before .before .before .before .before .before .before .before .before .if2 .left) (c .before .before .before .before .before .before .before .before .before .before .before .before .before .before .uses-at .ensures) (c .before .before .before .before .before .before .before .before .before .before .before .before .before .binding-number .ensures) (c .before .before .before .before .before .before .before .before .before .before .before .index .given .1)
 
 pub turn-spec : {M : Type 1} → statement M
 turn-spec =
