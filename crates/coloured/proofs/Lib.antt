@@ -16,3 +16,4 @@ pub mod Used
 pub mod Readied
 pub mod Turning
 pub mod Searching
+pub mod Gathering

@@ -2,6 +2,12 @@
 mod binding;
 mod effect;
 mod engine;
+mod order;
 
+pub use binding::Numbered;
+pub use binding::binding_number;
+pub use binding::set_binding;
 pub use effect::Loaded;
-pub use effect::load_effect;
+pub use engine::load_binding;
+pub use order::Order;
+pub use order::order_at;

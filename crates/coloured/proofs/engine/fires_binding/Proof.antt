@@ -5,62 +5,18 @@ use lib.Dec.{eqb}
 use Rattle.coloured.proofs.Readied.{none-fires, row-answers}
 use Rattle.coloured.proofs.engine.fires_binding.Statement.{statement}
 use Rattle.coloured.proofs.engine.fires_binding.Tie as tie
-use Rattle.coloured.proofs.engine.fires_binding.Reads as reads
-use Rattle.coloured.proofs.engine.fires_binding.Lts as lts
-use Rattle.coloured.proofs.engine.load_binding.Reads as load-binding-reads
-use Rattle.firing.proofs.answer.Reads as answer-reads
-
--- src/engine.rt:249:11
-load-binding-requires : tie.Need-load-binding-requires
-load-binding-requires c κs = search needs
-
--- src/engine.rt:264:28
-enum-told : tie.Need-enum-told
-enum-told c = search needs
-
--- src/engine.rt:266:13
-enum-known-takes : tie.Need-enum-known-takes
-enum-known-takes c = search needs
-
--- src/engine.rt:270:13
-answer-requires : tie.Need-answer-requires
-answer-requires c κs = search needs
-
--- src/engine.rt:228:1
-same-length : tie.Need-same-length
-same-length c = search needs
-
--- src/engine.rt:228:1
-same-length-2 : tie.Need-same-length-2
-same-length-2 c = search needs
-
--- src/engine.rt:228:1
-returns : tie.Need-returns
-returns c = λ n transitions ready lt room room' sized. ap (λ f. eqb (f .answer) 0) (none-fires ready (c .before .before .before .before .before .before .before .before .before .before .before .before .before .before .before .before .before .before .before .before .args .t) (c .before .before .before .before .before .before .before .before .before .before .before .before .before .before .before .before .before .before .before .before .args .index) (now (c .before .before .before .before .before .before .before .before .before .before .before .before .before .before .before .before .before .before .before .before .args .m)) sized (c .before .before .before .before .before .before .load-binding .last .1 .1 .1 .1 .1 .1 .1 .1 .1 .1 .1 .0) (c .before .before .before .before .before .before .load-binding .last .1 .1 .1 .1 .1 .1 .1 .1 .1 .1 .1 .1 .0) (c .enum-told .given .1) (c .before .before .before .before .before .before .load-binding .ensures n transitions ready lt room room'))
-
--- src/engine.rt:228:1
-same-length-3 : tie.Need-same-length-3
-same-length-3 c = search needs
-
--- src/engine.rt:228:1
-same-length-4 : tie.Need-same-length-4
-same-length-4 c = search needs
-
--- src/engine.rt:228:1
-returns-2 : tie.Need-returns-2
-returns-2 c = λ n transitions ready lt room room' sized. row-answers ready (c .before .before .before .before .before .before .before .before .before .before .before .before .before .before .before .before .before .before .before .before .before .before .before .before .args .t) (c .before .before .before .before .before .before .before .before .before .before .before .before .before .before .before .before .before .before .before .before .before .before .before .before .args .index) (now (c .before .before .before .before .before .before .before .before .before .before .before .before .before .before .before .before .before .before .before .before .before .before .before .before .args .m)) sized (c .before .before .before .before .before .before .before .before .before .before .load-binding .last .1 .1 .1 .1 .1 .1 .1 .1 .1 .1 .1 .0) (c .before .before .before .before .before .before .before .before .before .before .load-binding .last .1 .1 .1 .1 .1 .1 .1 .1 .1 .1 .1 .1 .0) _ (c .before .before .before .before .takes .given .1) (c .before .before .before .before .before .before .before .before .before .before .load-binding .ensures n transitions ready lt room room') (c .answer .ensures)
 
 pub fires-binding-spec : {M : Type 1} → statement M
 fires-binding-spec =
     tie.close
     (tie.spec
-    load-binding-requires
-    enum-told
-    enum-known-takes
-    answer-requires
-    same-length
-    same-length-2
-    returns
-    same-length-3
-    same-length-4
-    returns-2)
+    (λ c κs. search needs)
+    (λ c. search needs)
+    (λ c. search needs)
+    (λ c κs. search needs)
+    (λ c. search needs)
+    (λ c. search needs)
+    (λ c. λ n transitions ready lt room room' sized. ap (λ f. eqb (f .answer) 0) (none-fires ready (c .before .before .before .before .before .before .before .before .before .before .before .before .before .before .before .before .before .before .before .before .args .t) (c .before .before .before .before .before .before .before .before .before .before .before .before .before .before .before .before .before .before .before .before .args .index) (now (c .before .before .before .before .before .before .before .before .before .before .before .before .before .before .before .before .before .before .before .before .args .m)) sized (c .before .before .before .before .before .before .load-binding .last .1 .1 .1 .1 .1 .1 .1 .1 .1 .1 .1 .0) (c .before .before .before .before .before .before .load-binding .last .1 .1 .1 .1 .1 .1 .1 .1 .1 .1 .1 .1 .0) (c .enum-told .given .1) (c .before .before .before .before .before .before .load-binding .ensures n transitions ready lt room room')))
+    (λ c. search needs)
+    (λ c. search needs)
+    (λ c. λ n transitions ready lt room room' sized. row-answers ready (c .before .before .before .before .before .before .before .before .before .before .before .before .before .before .before .before .before .before .before .before .before .before .before .before .args .t) (c .before .before .before .before .before .before .before .before .before .before .before .before .before .before .before .before .before .before .before .before .before .before .before .before .args .index) (now (c .before .before .before .before .before .before .before .before .before .before .before .before .before .before .before .before .before .before .before .before .before .before .before .before .args .m)) sized (c .before .before .before .before .before .before .before .before .before .before .load-binding .last .1 .1 .1 .1 .1 .1 .1 .1 .1 .1 .1 .0) (c .before .before .before .before .before .before .before .before .before .before .load-binding .last .1 .1 .1 .1 .1 .1 .1 .1 .1 .1 .1 .1 .0) _ (c .before .before .before .before .takes .given .1) (c .before .before .before .before .before .before .before .before .before .before .load-binding .ensures n transitions ready lt room room') (c .answer .ensures)))
