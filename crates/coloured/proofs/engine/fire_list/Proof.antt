@@ -20,8 +20,6 @@ Inv-loop s sizes vars seconds starts uses guards arcs count transitions m₀ ord
 abbrev μ-loop : tie.MeasureT-loop
 μ-loop s sizes vars seconds starts uses guards arcs count transitions m₀ orders answers₀ places₀ amounts₀ many i₀ m answers places amounts i = many - i
 
-)
-
 pub fire-list-spec : {M : Type 1} → statement M
 fire-list-spec =
     tie.close
@@ -34,13 +32,14 @@ fire-list-spec =
     (λ c. omega arith)
     (λ c. omega arith)
     (λ c. (
-  λ n ready room room' sized. run-item (fireOrder n) 6 (now (c .before .before .before .before .before .before .before .before .before .before .before .before .before .before .before .before .before .before .before .before .before .before .before .before .before .args .orders)) _ _ (c .before .before .before .before .before .before .before .before .before .before .before .loop .inv .0 n ready room room' sized) _ _ (c .before .before .before .before .before .before .before .before .before .before .loop-test .taken) (c .before .before .before .before .before .before .before .before .before .before .before .before .before .before .before .before .before .before .before .before .before .before .before .before .before .pre .1)
-      (c .before .before .before .before .before .before .turn .ensures n ready (omega (arith, c .before .before .before .before .before .before .before .before .before .before .before .loop .inv .3)) (omega (arith, c .before .before .before .before .before .before .before .before .before .before .before .loop .inv .4)) (c .before .before .before .before .before .before .before .before .before .before .before .loop .inv .1 ∙ sized)) (c .before .before .before .before .before .before .turn .kept .1 .1 .1 .1 .1 .1 .1 .1 .1 .1 .0),
-  search needs,
-  search needs,
-  search needs,
-  search needs,
-  search needs,)
+      λ n ready room room' sized. run-item (fireOrder n) 6 (now (c .before .before .before .before .before .before .before .before .before .before .before .before .before .before .before .before .before .before .before .before .before .before .before .before .before .args .orders)) _ _ (c .before .before .before .before .before .before .before .before .before .before .before .loop .inv .0 n ready room room' sized) _ _ (c .before .before .before .before .before .before .before .before .before .before .loop-test .taken) (c .before .before .before .before .before .before .before .before .before .before .before .before .before .before .before .before .before .before .before .before .before .before .before .before .before .pre .1)
+          (c .before .before .before .before .before .before .turn .ensures n ready (omega (arith, c .before .before .before .before .before .before .before .before .before .before .before .loop .inv .3)) (omega (arith, c .before .before .before .before .before .before .before .before .before .before .before .loop .inv .4)) (c .before .before .before .before .before .before .before .before .before .before .before .loop .inv .1 ∙ sized)) (c .before .before .before .before .before .before .turn .kept .1 .1 .1 .1 .1 .1 .1 .1 .1 .1 .0),
+      search needs,
+      search needs,
+      search needs,
+      search needs,
+      search needs,
+    ))
     (λ c. search needs)
     (λ c. search needs)
     (λ c. search needs)

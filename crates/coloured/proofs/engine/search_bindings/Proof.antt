@@ -18,8 +18,6 @@ Inv-loop s sizes vars seconds starts uses guards arcs count t many m places₀ a
 abbrev μ-loop : tie.MeasureT-loop
 μ-loop s sizes vars seconds starts uses guards arcs count t many m places₀ amounts₀ i₀ places amounts i = many - i
 
-)
-
 pub search-bindings-spec : {M : Type 1} → statement M
 search-bindings-spec =
     tie.close
@@ -36,12 +34,13 @@ search-bindings-spec =
     (λ c. omega arith)
     (λ c. omega arith)
     (λ c. (
-  λ n transitions ready lt room room' sized.
-      below-step _ (c .before .before .before .before .before .before .before .before .before .before .before .before .before .before .before .before .before .before .before .before .before .args .many) (c .before .before .before .before .before .before .before .before .before .loop .inv .0 n transitions ready lt room room' sized) (c .before .before .before .before .before .before .before .before .loop-test .taken)
-      (sym (c .before .before .before .before .before .fires-binding .ensures n transitions ready lt (omega (arith, c .before .before .before .before .before .before .before .before .before .loop .inv .1)) (omega (arith, c .before .before .before .before .before .before .before .before .before .loop .inv .2)) sized) ∙ c .if1 .left),
-  search needs,
-  search needs,
-  omega arith,)
+      λ n transitions ready lt room room' sized.
+          below-step _ (c .before .before .before .before .before .before .before .before .before .before .before .before .before .before .before .before .before .before .before .before .before .args .many) (c .before .before .before .before .before .before .before .before .before .loop .inv .0 n transitions ready lt room room' sized) (c .before .before .before .before .before .before .before .before .loop-test .taken)
+          (sym (c .before .before .before .before .before .fires-binding .ensures n transitions ready lt (omega (arith, c .before .before .before .before .before .before .before .before .before .loop .inv .1)) (omega (arith, c .before .before .before .before .before .before .before .before .before .loop .inv .2)) sized) ∙ c .if1 .left),
+      search needs,
+      search needs,
+      omega arith,
+    ))
     (λ c. search needs)
     (λ c. search needs)
     (λ c. λ n transitions ready lt room room' sized. below-none _ (c .before .before .before .before .before .before .before .before .before .before .before .before .before .args .many) (c .before .loop .inv .0 n transitions ready lt room room' sized) (c .loop-test .left) ∙ sym (stopped-out _ _ (c .loop-test .left))))
