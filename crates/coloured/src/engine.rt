@@ -23,7 +23,7 @@ ghost use Rattle.coloured.specs.Orders.{fireOrder, orderOf};
 ghost use Rattle.coloured.specs.Ready.{Ready, numbered, BindingLoaded, fireBinding, searchTold, SearchWithin};
 
 // A transition's variables, or none past the end.
-fn uses_at(uses: &[u32], t: usize) -> u32
+pub fn uses_at(uses: &[u32], t: usize) -> u32
     ensures { λ r. ⌜ r ≡ getD (now (uses .entry)) t 0 ⌝ }
 {
     if t < uses.len() { uses[t] } else { 0 }
