@@ -12,12 +12,12 @@ use Rattle.net.specs.Net.{Expression, Place, single, pair, Net, net, coloursOf,
 use Rattle.net.specs.Reader.{readExpression}
 use Rattle.net.specs.Values.{weight}
 use Rattle.net.specs.Evaluated.{bound, placeBy, isPair}
+use Rattle.net.proofs.Alike.{weight-alike}
 use Rattle.coloured.specs.Effect.{transitionAt, arcWeight}
 use Rattle.coloured.specs.Drawing.{rankArcs, startOf, placeArcs, kindArcs, Appended, Slot, Standing, Drawing}
 use Rattle.coloured.specs.Loading.{ArcLoaded, PlaceLoaded, KindLoaded}
 use Rattle.coloured.proofs.Split.{ranks-few, start-next, start-low, kind-more, kind-few, place-none}
 use Rattle.coloured.proofs.Appending.{append-none, append-join}
-use Rattle.coloured.proofs.Agreeing.{weight-same}
 
 -- a place by whether it is a pair
 place-by : (q : Place) → (first : ℕ) × (second : ℕ) × (placeBy (isPair q) first second ≡ q)
@@ -78,7 +78,7 @@ module _ {s : List ℕ} {n : Net} {sizes vars seconds starts guards arcs : List 
             subst (λ l. Appended l places amounts used places' amounts' r)
             (rank-same start (startOf n p) (end - start) (coloursOf n (placeAt n p)) (λ rank. weight (net sizes vars (n .places) [] []) (bound env) rank (a .expression))
             (λ rank. arcWeight n (transitionAt n t) (bound env) (0x16 + k) (record { place = p; rank = rank })) (f ∙ begins) many
-            (λ rank. weight-same (net sizes vars (n .places) [] []) n (sym (d .sets)) (sym (d .variables)) (bound env) (bound env) rank (a .expression) (λ v z. refl) ∙ rw q refl))
+            (λ rank. weight-alike (net sizes vars (n .places) [] []) n (sym (d .sets)) (sym (d .variables)) (bound env) rank (a .expression) ∙ rw q refl))
             (loaded (n .places) (by .0) (by .1) (sl .1 .next) (a .expression)
             (ap (λ b. readExpression s (net sizes vars (n .places) [] []) (placeBy b (by .0) (by .1)) 16 at) paired-as ∙ ap₂ (λ q i. readExpression s (net sizes vars (n .places) [] []) q 16 i) (by .2) e ∙ sl .1 .reads)
             (omega (arith, many)) (omega (arith, many)))

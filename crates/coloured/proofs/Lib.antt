@@ -4,6 +4,5 @@ pub mod FlatPlaces
 pub mod Split
 pub mod Appending
 pub mod Loads
-pub mod Agreeing
 pub mod Drawn
 pub mod Effects
