@@ -2,21 +2,18 @@
 use mathlib.Core.Path.{_≡_, refl, sym, ap, ap₂, subst, fun-ext, _∙_}
 use Prim.Native.Nat.{_≤_, _<_}
 use native.Mathlib.Omega.{arith}
-use native.Mathlib.Numerals.{add-one}
-use lib.ListN.{length-append}
-use Rattle.reading.specs.Basics.{ℕ, zero, suc, _+_, _-_, _*_, Bool, true, false, not, List, [], _∷_, _++_, flatMap, Option, none, some, Option·map, length, getD, ltb, eqb, if_then_else_, given, numbersFrom}
-use Rattle.reading.specs.Reading.{Answer, fine, fault}
+use Rattle.reading.specs.Basics.{ℕ, _+_, _-_, _*_, Bool, not, List, [], flatMap, Option, none, some, Option·map, length, getD, eqb, numbersFrom}
 use Rattle.firing.specs.Arcs.{Arc}
 use Rattle.net.specs.Net as net
-use Rattle.net.specs.Net.{Expression, Place, single, pair, Net, net, coloursOf, placeAt, flatPlaceCount, arcOn}
+use Rattle.net.specs.Net.{Place, single, pair, Net, net, coloursOf, placeAt, flatPlaceCount, arcOn}
 use Rattle.net.specs.Reader.{readExpression}
 use Rattle.net.specs.Values.{weight}
 use Rattle.net.specs.Evaluated.{bound, placeBy, isPair}
 use Rattle.net.proofs.Alike.{weight-alike}
 use Rattle.coloured.specs.Effect.{transitionAt, arcWeight}
-use Rattle.coloured.specs.Drawing.{rankArcs, startOf, placeArcs, kindArcs, Appended, Slot, Standing, Drawing}
+use Rattle.coloured.specs.Drawing.{rankArcs, startOf, placeArcs, kindArcs, Appended, Slot, Drawing}
 use Rattle.coloured.specs.Loading.{ArcLoaded, PlaceLoaded, KindLoaded}
-use Rattle.coloured.proofs.Split.{ranks-few, start-next, start-low, kind-more, kind-few, place-none}
+use Rattle.coloured.proofs.Split.{start-next, start-low, kind-more, kind-few, place-none}
 use Rattle.coloured.proofs.Appending.{append-none, append-join}
 
 -- a place by whether it is a pair

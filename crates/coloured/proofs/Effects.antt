@@ -4,15 +4,14 @@ use mathlib.Core.List.{List·Memᴰ·not-nil}
 use Prim.Native.Nat.{_≤_, _<_}
 use native.Mathlib.Omega.{arith}
 use lib.Seq.{take-take}
-use Rattle.reading.specs.Basics.{ℕ, zero, suc, _+_, _*_, Bool, true, false, not, _&&_, _||_, List, [], _∷_, Option, none, some, length, take, getD, getElem?, eqb, if_then_else_, given, any, find}
+use Rattle.reading.specs.Basics.{ℕ, _+_, _*_, Bool, true, false, not, _||_, List, [], _∷_, Option, none, some, length, take, getD, getElem?, if_then_else_, given, any, find}
 use Rattle.reading.proofs.Lists.{In, here, there, in-cases}
-use Rattle.firing.specs.Firing.{Weights, Fired, fired, fire}
-use Rattle.firing.specs.Arcs.{Arc, arcsIn, arcsOf, row, rowIn, rowOf, weights, Proper}
+use Rattle.firing.specs.Firing.{fired, fire}
+use Rattle.firing.specs.Arcs.{Arc, arcsOf, row, rowIn, rowOf, weights, Proper}
 use Rattle.firing.proofs.Agree.{fire-same}
 use Rattle.firing.proofs.Weighted.{row-agrees, row-proper}
 use Rattle.net.specs.Net as net
-use Rattle.net.specs.Net.{Expression, Transition, Net, net, coloursOf, placeAt, flatPlaceCount, arcOn, variablesOf, inGuard, inExpression}
-use Rattle.net.specs.Reader.{readGuard}
+use Rattle.net.specs.Net.{Transition, Net, net, flatPlaceCount, arcOn, variablesOf, inGuard, inExpression}
 use Rattle.net.specs.Values.{holds, weight}
 use Rattle.net.specs.Evaluated.{bound}
 use Rattle.net.proofs.Alike.{holds-alike, holds-bound, weight-bound}
