@@ -28,7 +28,7 @@ rank-same start start' count count' w w' e f h = ap (λ x. rankArcs x count w) e
 module _ {s : List ℕ} {n : Net} {sizes vars seconds starts guards arcs : List ℕ} (env : List ℕ) (d : Drawing s n sizes vars seconds starts guards arcs)
     {t k p base : ℕ} (ht : t < length (n .transitions)) (hk : k < 3) (hb : base ≡ t * 96 + k * 32) (hp : p < length (n .places)) where
   slot : Slot (readExpression s (net sizes vars (n .places) [] []) (placeAt n p) 16) (Option·map (λ a. a .expression) (arcOn (transitionAt n t .arcs) (0x16 + k) p)) (getD arcs (base + p) 0)
-  slot = rw hb (d .arc t k p ht hk hp)
+  slot = let e : base + p ≡ t * 96 + (k * 32 + p) = omega arith in rw e (d .arc t k p ht hk hp)
 
   -- where its flat places begin and end
   begins : getD starts p 0 ≡ startOf n p

@@ -143,4 +143,4 @@ module _ (s : List ℕ) (n : Net) (env : List ℕ) (g : Guard) (at : ℕ) (slot 
   guard-none h = sym (ap (holds n (bound env)) (slot .without (omega arith)))
 
   pub guard-told : (r : Tested) → 1 ≤ at → Held n env r (readGuard s n 16 at) → r .holds ≡ holds n (bound env) g
-  guard-told r h held = let st = slot .standing (omega arith) in ap (λ x. x .holds) (subst (Held n env r) (st .reads) held)
+  guard-told r h held = let st = slot .stands (omega arith) in ap (λ x. x .holds) (subst (Held n env r) (st .reads) held)
