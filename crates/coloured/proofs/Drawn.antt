@@ -2,22 +2,19 @@
 use mathlib.Core.Path.{_≡_, refl, sym, ap, ap₂, subst, fun-ext, _∙_}
 use Prim.Native.Nat.{_≤_, _<_}
 use native.Mathlib.Omega.{arith}
-use native.Mathlib.Numerals.{add-one}
-use lib.ListN.{length-append}
-use Rattle.reading.specs.Basics.{ℕ, zero, suc, _+_, _-_, _*_, Bool, true, false, not, List, [], _∷_, _++_, flatMap, Option, none, some, Option·map, length, getD, ltb, eqb, if_then_else_, given, numbersFrom}
-use Rattle.reading.specs.Reading.{Answer, fine, fault}
+use Rattle.reading.specs.Basics.{ℕ, _+_, _-_, _*_, Bool, not, List, [], flatMap, Option, none, some, Option·map, length, getD, eqb, numbersFrom}
 use Rattle.firing.specs.Arcs.{Arc}
 use Rattle.net.specs.Net as net
-use Rattle.net.specs.Net.{Expression, Place, single, pair, Net, net, coloursOf, placeAt, flatPlaceCount, arcOn}
+use Rattle.net.specs.Net.{Place, single, pair, Net, net, coloursOf, placeAt, flatPlaceCount, arcOn}
 use Rattle.net.specs.Reader.{readExpression}
 use Rattle.net.specs.Values.{weight}
 use Rattle.net.specs.Evaluated.{bound, placeBy, isPair}
+use Rattle.net.proofs.Alike.{weight-alike}
 use Rattle.coloured.specs.Effect.{transitionAt, arcWeight}
-use Rattle.coloured.specs.Drawing.{rankArcs, startOf, placeArcs, kindArcs, Appended, Slot, Standing, Drawing}
+use Rattle.coloured.specs.Drawing.{rankArcs, startOf, placeArcs, kindArcs, Appended, Slot, Drawing}
 use Rattle.coloured.specs.Loading.{ArcLoaded, PlaceLoaded, KindLoaded}
-use Rattle.coloured.proofs.Split.{ranks-few, start-next, start-low, kind-more, kind-few, place-none}
+use Rattle.coloured.proofs.Split.{start-next, start-low, kind-more, kind-few, place-none}
 use Rattle.coloured.proofs.Appending.{append-none, append-join}
-use Rattle.coloured.proofs.Agreeing.{weight-same}
 
 -- a place by whether it is a pair
 place-by : (q : Place) → (first : ℕ) × (second : ℕ) × (placeBy (isPair q) first second ≡ q)
@@ -31,7 +28,7 @@ rank-same start start' count count' w w' e f h = ap (λ x. rankArcs x count w) e
 module _ {s : List ℕ} {n : Net} {sizes vars seconds starts guards arcs : List ℕ} (env : List ℕ) (d : Drawing s n sizes vars seconds starts guards arcs)
     {t k p base : ℕ} (ht : t < length (n .transitions)) (hk : k < 3) (hb : base ≡ t * 96 + k * 32) (hp : p < length (n .places)) where
   slot : Slot (readExpression s (net sizes vars (n .places) [] []) (placeAt n p) 16) (Option·map (λ a. a .expression) (arcOn (transitionAt n t .arcs) (0x16 + k) p)) (getD arcs (base + p) 0)
-  slot = rw hb (d .arc t k p ht hk hp)
+  slot = let e : base + p ≡ t * 96 + (k * 32 + p) = omega arith in rw e (d .arc t k p ht hk hp)
 
   -- where its flat places begin and end
   begins : getD starts p 0 ≡ startOf n p
@@ -78,7 +75,7 @@ module _ {s : List ℕ} {n : Net} {sizes vars seconds starts guards arcs : List 
             subst (λ l. Appended l places amounts used places' amounts' r)
             (rank-same start (startOf n p) (end - start) (coloursOf n (placeAt n p)) (λ rank. weight (net sizes vars (n .places) [] []) (bound env) rank (a .expression))
             (λ rank. arcWeight n (transitionAt n t) (bound env) (0x16 + k) (record { place = p; rank = rank })) (f ∙ begins) many
-            (λ rank. weight-same (net sizes vars (n .places) [] []) n (sym (d .sets)) (sym (d .variables)) (bound env) (bound env) rank (a .expression) (λ v z. refl) ∙ rw q refl))
+            (λ rank. weight-alike (net sizes vars (n .places) [] []) n (sym (d .sets)) (sym (d .variables)) (bound env) rank (a .expression) ∙ rw q refl))
             (loaded (n .places) (by .0) (by .1) (sl .1 .next) (a .expression)
             (ap (λ b. readExpression s (net sizes vars (n .places) [] []) (placeBy b (by .0) (by .1)) 16 at) paired-as ∙ ap₂ (λ q i. readExpression s (net sizes vars (n .places) [] []) q 16 i) (by .2) e ∙ sl .1 .reads)
             (omega (arith, many)) (omega (arith, many)))

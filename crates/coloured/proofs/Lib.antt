@@ -9,7 +9,6 @@ pub mod Values
 pub mod Split
 pub mod Appending
 pub mod Loads
-pub mod Agreeing
 pub mod Drawn
 pub mod Effects
 pub mod Used

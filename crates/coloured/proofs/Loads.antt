@@ -3,10 +3,10 @@ use mathlib.Core.Path.{_≡_, refl, sym, ap, subst, _∙_}
 use mathlib.Core.List.{append-assoc, append-nil}
 use Prim.Native.Nat.{_≤_, _<_}
 use native.Mathlib.Omega.{arith}
-use borrow.Author.Tests.{ltb-true, ltb-false, leb-true, leb-false, lt-ltb, le-ltb}
+use borrow.Author.Tests.{leb-true, leb-false, lt-ltb, le-ltb}
 use lib.ListN.{set, length-append}
-use Rattle.reading.specs.Basics.{ℕ, zero, suc, _+_, _-_, _*_, Bool, true, false, not, List, [], _∷_, _++_, Option, none, some, Option·map, length, getD, ltb, leb, eqb, if_then_else_, given, keep, numbersFrom}
-use Rattle.reading.specs.Reading.{Answer, fine, fault}
+use Rattle.reading.specs.Basics.{ℕ, suc, _+_, _-_, Bool, true, false, List, [], _∷_, _++_, length, ltb, leb, if_then_else_, keep, numbersFrom}
+use Rattle.reading.specs.Reading.{fine}
 use Rattle.firing.specs.Arcs.{Arc}
 use Rattle.net.specs.Net.{Guard, Expression, Place, Net, net}
 use Rattle.net.specs.Reader.{readGuard, readExpression}
@@ -17,7 +17,7 @@ use Rattle.net.specs.declared.evaluate.Weighed.{Weighed}
 use Rattle.net.specs.declared.evaluate.Tested.{Tested}
 use Rattle.coloured.specs.Drawing.{ranksFrom, rankArcs, Appended, GuardSlot}
 use Rattle.coloured.specs.Loading.{oneArc, ArcLoaded}
-use Rattle.coloured.proofs.Split.{ranks-more, ranks-skip, ranks-pass, ranks-few}
+use Rattle.coloured.proofs.Split.{ranks-pass, ranks-few}
 use Rattle.coloured.proofs.Appending.{append-none, append-one, append-join}
 
 -- ---- one arc
@@ -143,4 +143,4 @@ module _ (s : List ℕ) (n : Net) (env : List ℕ) (g : Guard) (at : ℕ) (slot 
   guard-none h = sym (ap (holds n (bound env)) (slot .without (omega arith)))
 
   pub guard-told : (r : Tested) → 1 ≤ at → Held n env r (readGuard s n 16 at) → r .holds ≡ holds n (bound env) g
-  guard-told r h held = let st = slot .standing (omega arith) in ap (λ x. x .holds) (subst (Held n env r) (st .reads) held)
+  guard-told r h held = let st = slot .stands (omega arith) in ap (λ x. x .holds) (subst (Held n env r) (st .reads) held)

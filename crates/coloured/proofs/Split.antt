@@ -4,9 +4,9 @@ use mathlib.Core.List.{append-assoc, append-nil}
 use Prim.Native.Nat.{_≤_, _<_}
 use native.Mathlib.Omega.{arith}
 use native.Mathlib.Numerals.{add-one}
-use borrow.Author.Tests.{ltb-true, ltb-false, lt-ltb, le-ltb}
+use borrow.Author.Tests.{lt-ltb, le-ltb}
 use lib.ListN.{length-append, length-map}
-use Rattle.reading.specs.Basics.{ℕ, zero, suc, _+_, _-_, Bool, true, false, List, [], _∷_, _++_, map, flatMap, Option, none, some, length, getD, getElem?, take, ltb, if_then_else_, given, keep, numbersFrom, below, sum}
+use Rattle.reading.specs.Basics.{ℕ, zero, suc, _+_, _-_, Bool, true, false, List, [], _∷_, _++_, map, flatMap, none, length, getD, getElem?, take, ltb, if_then_else_, given, keep, numbersFrom, below, sum}
 use Rattle.reading.proofs.Lists.{map-same, map-from, length-from}
 use Rattle.firing.specs.Arcs.{Arc, arcsOf}
 use Rattle.net.specs.Net.{Transition, Net, single, coloursOf, placeAt, flatPlaceCount, arcOn}

@@ -52,7 +52,7 @@ Slot read (some a) at = (0 < at) × Standing read a at
 -- the slot of a guard: with 0 it is true
 pub record GuardSlot (read : ℕ → Answer Guard) (g : Guard) (at : ℕ) : Type 0 where
   pub without : at ≡ 0 → g ≡ always
-  pub standing : 0 < at → Standing read g at
+  pub stands : 0 < at → Standing read g at
 
 -- sets and variables; where each place's flat places begin; which places are pairs; where guards and arc expressions stand
 pub record Drawing (s : List ℕ) (n : Net) (sizes vars seconds starts guards arcs : List ℕ) : Type 0 where
@@ -64,7 +64,7 @@ pub record Drawing (s : List ℕ) (n : Net) (sizes vars seconds starts guards ar
   pub guard : (t : ℕ) → t < length (n .transitions) → GuardSlot (readGuard s (net sizes vars (n .places) [] []) 16) (transitionAt n t .guard) (getD guards t 0)
   pub arc : (t k p : ℕ) → t < length (n .transitions) → k < 3 → p < length (n .places)
       → Slot (readExpression s (net sizes vars (n .places) [] []) (placeAt n p) 16) (Option·map (λ a. a .expression) (arcOn (transitionAt n t .arcs) (0x16 + k) p))
-      (getD arcs (t * 96 + k * 32 + p) 0)
+      (getD arcs (t * 96 + (k * 32 + p)) 0)
 
 -- ---- bindings
 -- a variable stands in a transition

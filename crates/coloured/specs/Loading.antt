@@ -1,7 +1,7 @@
 -- What the code that loads an effect promises.
 use mathlib.Core.Path.{_≡_}
 use Prim.Native.Nat.{_≤_, _<_}
-use Rattle.reading.specs.Basics.{ℕ, _+_, _*_, Bool, List, [], _∷_, Option, none, length, ltb, if_then_else_}
+use Rattle.reading.specs.Basics.{ℕ, _+_, _*_, Bool, List, [], _∷_, none, length, ltb, if_then_else_}
 use Rattle.reading.specs.Reading.{fine}
 use Rattle.firing.specs.Arcs.{Arc}
 use Rattle.net.specs.Net.{Guard, Expression, Place, Net, net, coloursOf, placeAt, flatPlaceCount}
