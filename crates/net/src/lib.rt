@@ -1,4 +1,6 @@
 // Reads net files. The meanings of this crate stand in specs/.
+mod place;
+
 ghost use mathlib.Core.Path.{_≡_};
 ghost use mathlib.Core.List.{List, [], map};
 ghost use Prim.Native.Nat.{ℕ, _≤_, _<_, _^_};
@@ -8,6 +10,7 @@ ghost use Rattle.reading.specs.Reading.{whole};
 ghost use Rattle.net.specs.Net.{net, Place, coloursOf, equal, less};
 ghost use Rattle.net.specs.Reader.{readColour, readGuard, readGuardIf, comparison, setPart, variablePart, placePart};
 ghost use Rattle.net.specs.Told.{colourTold, guardTold, setStep, setsRead, Room, RoomFor, declaredRead, declaring, Few, placeStep};
+ghost use Rattle.net.specs.Tables.{PlaceRoom};
 
 // A whole expression: the place after it, its set and its variables; or the first fault.
 pub enum Read {
@@ -494,9 +497,10 @@ pub enum PlaceStep {
 // The place command at a place, after so many places with so many colours together.
 pub fn place_at(s: &[u8], sets: &[u8], count: usize, total: usize, at: usize) -> PlaceStep
     requires { ⌜ total ≤ 4096 ⌝ }
-    ensures { λ r. ⌜ ((variables : List ℕ) (places : List Place) → length places ≡ count
+    ensures is { λ r. ⌜ ((variables : List ℕ) (places : List Place) → length places ≡ count
         → sum (map (coloursOf (net (now (sets .entry)) variables [] [] [])) places) ≡ total
         → placePart (now (s .entry)) (net (now (sets .entry)) variables [] [] []) places at ≡ placeStep places r) ⌝ }
+    ensures room { λ r. ⌜ PlaceRoom (now (sets .entry)) (length (now (s .entry))) count total at r ⌝ }
 {
     if s.len() <= at {
         return PlaceStep::Done;
