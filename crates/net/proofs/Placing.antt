@@ -39,7 +39,7 @@ pub places-more : (firsts seconds : List ℕ) (count a b : ℕ) → count < leng
 places-more firsts seconds count a b p q =
     ap₂ placesOf (rw add-one (take-suc-set firsts count a p)) (rw add-one (take-suc-set seconds count b q))
     ∙ places-with (take count firsts) (take count seconds) a b
-        (length-take-le count firsts (omega arith) ∙ sym (length-take-le count seconds (omega arith)))
+    (length-take-le count firsts (omega arith) ∙ sym (length-take-le count seconds (omega arith)))
 
 -- ---- where flat places begin
 pub starts-none : (n : Net) (starts : List ℕ) → 0 < length starts → Started n [] (set starts 0 0) 0 0

@@ -1,14 +1,19 @@
 -- What the tables of a net hold, that a reading leaves for later calls.
 use mathlib.Core.Path.{_≡_}
 use Prim.Native.Nat.{_<_, _≤_}
-use Rattle.reading.specs.Basics.{ℕ, zero, suc, _+_, _*_, List, [], _∷_, map, sum, length, getD, take}
-use Rattle.reading.specs.Reading.{Answer, fine, fault}
-use Rattle.net.specs.Net.{Place, Net, net, coloursOf}
+use Rattle.reading.specs.Basics.{ℕ, zero, suc, _+_, _*_, List, [], _∷_, Option, none, some, given, with, map, sum, length, getD, take}
+use Rattle.reading.specs.Reading.{Answer, fine, fault, whole}
+use Rattle.net.specs.Net.{Place, Tokens, Net, net, coloursOf, placeAt, tokensOn}
+use Rattle.net.specs.Reader.{tokensPart}
 use Rattle.net.specs.Told.{placeOf}
 use Rattle.net.specs.declared.PlaceStep.{PlaceStep}
 use Rattle.net.specs.declared.PlaceStep.the-variants as place-step
 use Rattle.net.specs.declared.place.Placed.{Placed}
 use Rattle.net.specs.declared.place.Placed.the-variants as placed
+use Rattle.net.specs.declared.token.TokenStep.{TokenStep}
+use Rattle.net.specs.declared.token.TokenStep.the-variants as token-step
+use Rattle.net.specs.declared.token.Ended.{Ended}
+use Rattle.net.specs.declared.token.Ended.the-variants as ended
 
 -- ---- places
 -- the places of two lists of sets, first and second
@@ -47,3 +52,50 @@ abbrev pub PlacesHeld : List ℕ → List ℕ → List ℕ → List ℕ → Plac
 PlacesHeld sets firsts seconds starts (placed.Whole count total next) =
     Started (net sets [] [] [] []) (placesOf (take count firsts) (take count seconds)) starts count total
 PlacesHeld sets firsts seconds starts (placed.Fault number place) = Unit {0}
+
+-- ---- tokens
+-- each place's flat places begin no later than the next one's, and none past the total
+pub record Rising (starts : List ℕ) (count total : ℕ) : Type 0 where
+  pub sized : count < length starts
+  pub small : total ≤ 4096
+  pub rises : (p : ℕ) → p < count → getD starts p 0 ≤ getD starts (p + 1) 0
+  pub bound : (p : ℕ) → p < count → getD starts (p + 1) 0 ≤ total
+
+-- the flat place of a rank of a place
+abbrev pub flatAt : List ℕ → ℕ → ℕ → ℕ
+flatAt starts p rank = getD starts p 0 + rank
+
+-- the count of tokens that may be there; whether they are, as 0 or 1
+abbrev pub countOf : Option Tokens → ℕ
+countOf o = given o 0 λ t. t .count
+
+abbrev pub flag : Option Tokens → ℕ
+flag o = given o 0 λ t. 1
+
+-- a table over the flat places holds what a test of the tokens gives at each rank of each place
+abbrev pub Holds : Net → List Tokens → (Option Tokens → ℕ) → List ℕ → List ℕ → Type 0
+Holds n tokens value starts table =
+    (p rank : ℕ) → p < length (n .places) → rank < coloursOf n (placeAt n p) → getD table (flatAt starts p rank) 0 ≡ value (tokensOn tokens p rank)
+
+-- a step of the tokens part
+abbrev pub tokenStep : List Tokens → TokenStep → Option (Answer (List Tokens))
+tokenStep tokens token-step.Done = none
+tokenStep tokens (token-step.More p rank count flat next) = some (fine (with tokens (record { place = p; rank = rank; count = count })) next)
+tokenStep tokens (token-step.Stop number place) = some (fault number place)
+
+-- one that goes on is at a flat place of its place that has no mark yet
+abbrev pub TokenRoom : List ℕ → List ℕ → ℕ → ℕ → ℕ → TokenStep → Type 0
+TokenRoom starts named len count at token-step.Done = Unit {0}
+TokenRoom starts named len count at (token-step.More p rank tokens flat next) =
+    (p < count) × (flat ≡ getD starts p 0 + rank) × (flat < getD starts (p + 1) 0) × (at < next) × (next ≤ len) × (getD named flat 0 ≡ 0)
+TokenRoom starts named len count at (token-step.Stop number place) = at < len
+
+-- the tokens that were read: the table holds their counts
+pub record TokensRead (s : List ℕ) (n : Net) (start : ℕ) (starts initial : List ℕ) (next : ℕ) : Type 0 where
+  pub tokens : List Tokens
+  pub read : fine tokens next ≡ whole s (tokensPart s n) [] start
+  pub holds : Holds n tokens countOf starts initial
+
+abbrev pub TokensTold : List ℕ → Net → ℕ → List ℕ → List ℕ → Ended → Type 0
+TokensTold s n start starts initial (ended.Whole next) = TokensRead s n start starts initial next
+TokensTold s n start starts initial (ended.Fault number place) = fault number place ≡ whole s (tokensPart s n) [] start

@@ -1,5 +1,7 @@
 // Reads net files. The meanings of this crate stand in specs/.
+mod clear;
 mod place;
+mod token;
 
 ghost use mathlib.Core.Path.{_≡_};
 ghost use mathlib.Core.List.{List, [], map};

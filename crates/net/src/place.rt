@@ -24,7 +24,14 @@ pub enum Placed {
 }
 
 // The place part, over so many sets.
-pub fn read_places(s: &[u8], sets: &[u8], firsts: &mut [u8], seconds: &mut [u8], starts: &mut [usize], start: usize) -> Placed
+pub fn read_places(
+    s: &[u8],
+    sets: &[u8],
+    firsts: &mut [u8],
+    seconds: &mut [u8],
+    starts: &mut [usize],
+    start: usize,
+) -> Placed
     requires { ⌜ length (now sets) ≤ 16 ⌝ }
     requires { ⌜ length (now firsts) ≡ 32 ⌝ }
     requires { ⌜ length (now seconds) ≡ 32 ⌝ }
