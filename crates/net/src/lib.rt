@@ -1,8 +1,10 @@
 // Reads net files. The meanings of this crate stand in specs/.
 mod clear;
+mod expression;
 mod place;
 mod token;
 
+pub use expression::read_expression;
 ghost use mathlib.Core.Path.{_≡_};
 ghost use mathlib.Core.List.{List, [], map};
 ghost use Prim.Native.Nat.{ℕ, _≤_, _<_, _^_};
