@@ -87,7 +87,7 @@ module _ {n : Net} {places : List Place} {starts : List ℕ} {count total : ℕ}
   apart p q r t pl ql rl tl e = by-order p q (λ lt. absurd (before p q r t lt ql rl e)) (λ z. z) (λ lt. absurd (before q p t r lt pl tl (sym e)))
 
 -- ---- tokens with one more
-find-new : {A : Type 0} (test : A → Bool) (l : List A) (a : A) → find test l ≡ none → test a ≡ true → find test (with l a) ≡ some a
+pub find-new : {A : Type 0} (test : A → Bool) (l : List A) (a : A) → find test l ≡ none → test a ≡ true → find test (with l a) ≡ some a
 unfolding find
 find-new test [] a e t = rw t
 find-new {A} test (x ∷ l) a e t = by-bool (test x) e (λ q. find-new test l a q t)

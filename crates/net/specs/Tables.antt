@@ -1,15 +1,19 @@
 -- What the tables of a net hold, that a reading leaves for later calls.
 use mathlib.Core.Path.{_≡_}
 use Prim.Native.Nat.{_<_, _≤_}
-use Rattle.reading.specs.Basics.{ℕ, zero, suc, _+_, _*_, List, [], _∷_, Option, none, some, given, with, map, sum, length, getD, take}
+use Rattle.reading.specs.Basics.{ℕ, zero, suc, _+_, _*_, List, [], _∷_, Option, none, some, Option·map, given, with, any, map, sum, length, getD, take}
 use Rattle.reading.specs.Reading.{Answer, fine, fault, whole}
-use Rattle.net.specs.Net.{Place, Tokens, Net, net, coloursOf, placeAt, tokensOn}
-use Rattle.net.specs.Reader.{tokensPart}
-use Rattle.net.specs.Told.{placeOf}
+use Rattle.net.specs.Net.{Expression, Place, Arc, Tokens, Net, net, coloursOf, placeAt, arcOn, tokensOn, inExpression}
+use Rattle.net.specs.Reader.{readExpression, arcPart, tokensPart}
+use Rattle.net.specs.Told.{bits, placeOf}
 use Rattle.net.specs.declared.PlaceStep.{PlaceStep}
 use Rattle.net.specs.declared.PlaceStep.the-variants as place-step
 use Rattle.net.specs.declared.place.Placed.{Placed}
 use Rattle.net.specs.declared.place.Placed.the-variants as placed
+use Rattle.net.specs.declared.arc.ArcStep.{ArcStep}
+use Rattle.net.specs.declared.arc.ArcStep.the-variants as arc-step
+use Rattle.net.specs.declared.arc.Gathered.{Gathered}
+use Rattle.net.specs.declared.arc.Gathered.the-variants as gathered
 use Rattle.net.specs.declared.token.TokenStep.{TokenStep}
 use Rattle.net.specs.declared.token.TokenStep.the-variants as token-step
 use Rattle.net.specs.declared.token.Ended.{Ended}
@@ -99,3 +103,62 @@ pub record TokensRead (s : List ℕ) (n : Net) (start : ℕ) (starts initial : L
 abbrev pub TokensTold : List ℕ → Net → ℕ → List ℕ → List ℕ → Ended → Type 0
 TokensTold s n start starts initial (ended.Whole next) = TokensRead s n start starts initial next
 TokensTold s n start starts initial (ended.Fault number place) = fault number place ≡ whole s (tokensPart s n) [] start
+
+-- ---- arcs
+-- what stands at a place of the file, by a reading
+pub record Standing {A : Type 0} (read : ℕ → Answer A) (a : A) (at : ℕ) : Type 0 where
+  pub next : ℕ
+  pub reads : read at ≡ fine a next
+
+-- a slot that says where a value stands in the file: 0 where there is none, which no value's place is
+abbrev pub Slot : {A : Type 0} → (ℕ → Answer A) → Option A → ℕ → Type 0
+Slot read none at = at ≡ 0
+Slot read (some a) at = (0 < at) × Standing read a at
+
+-- the slot of each arc of a transition: 32 a kind, from input on
+abbrev pub RowHolds : List ℕ → Net → List Arc → (ℕ → ℕ) → Type 0
+RowHolds s n arcs slot =
+    (k p : ℕ) → k < 3 → p < length (n .places)
+    → Slot (readExpression s n (placeAt n p) 16) (Option·map (λ a. a .expression) (arcOn arcs (0x16 + k) p)) (slot (k * 32 + p))
+
+-- the net that a transition is read over: sets, variables, and places by their sets
+abbrev pub over : List ℕ → List ℕ → List ℕ → List ℕ → Net
+over sizes vars firsts seconds = net sizes vars (placesOf firsts seconds) [] []
+
+-- an arc that was read: its slot, which was free, and the variables in its expression
+pub record ArcRead (s : List ℕ) (n : Net) (arcs : List Arc) (at : ℕ) (row : List ℕ) (slot uses next : ℕ) : Type 0 where
+  pub kind : ℕ
+  pub place : ℕ
+  pub expression : Expression
+  pub of-three : kind < 3
+  pub known : place < length (n .places)
+  pub is : slot ≡ kind * 32 + place
+  pub free : getD row slot 0 ≡ 0
+  pub reads : readExpression s n (placeAt n place) 16 (at + 2) ≡ fine expression next
+  pub used : uses ≡ bits (λ v. inExpression v expression) 32
+  pub goes : arcPart s n arcs at ≡ some (fine (with arcs (record { kind = 0x16 + kind; place = place; expression = expression })) next)
+
+abbrev pub ArcTold : List ℕ → Net → List Arc → ℕ → List ℕ → ArcStep → Type 0
+ArcTold s n arcs at row arc-step.Done = arcPart s n arcs at ≡ none
+ArcTold s n arcs at row (arc-step.More slot uses next) = ArcRead s n arcs at row slot uses next
+ArcTold s n arcs at row (arc-step.Stop number place) = arcPart s n arcs at ≡ some (fault number place)
+
+abbrev pub ArcRoom : ℕ → ℕ → ArcStep → Type 0
+ArcRoom len at arc-step.Done = Unit {0}
+ArcRoom len at (arc-step.More slot uses next) = (slot < 96) × (at + 2 < next) × (next ≤ len)
+ArcRoom len at (arc-step.Stop number place) = at < len
+
+-- the arcs of a transition that were read: their slots, and the variables in their expressions
+pub record ArcsRead (s : List ℕ) (n : Net) (start : ℕ) (row : List ℕ) (uses next : ℕ) : Type 0 where
+  pub arcs : List Arc
+  pub read : fine arcs next ≡ whole s (arcPart s n) [] start
+  pub holds : RowHolds s n arcs (λ i. getD row i 0)
+  pub used : uses ≡ bits (λ v. any (λ a. inExpression v (a .expression)) arcs) 32
+
+abbrev pub ArcsTold : List ℕ → Net → ℕ → List ℕ → Gathered → Type 0
+ArcsTold s n start row (gathered.Whole uses next) = ArcsRead s n start row uses next
+ArcsTold s n start row (gathered.Fault number place) = fault number place ≡ whole s (arcPart s n) [] start
+
+abbrev pub ArcsRoom : ℕ → ℕ → Gathered → Type 0
+ArcsRoom len start (gathered.Whole uses next) = (start ≤ next) × (start ≤ len → next ≤ len)
+ArcsRoom len start (gathered.Fault number place) = Unit {0}

@@ -1,4 +1,5 @@
 // Reads net files. The meanings of this crate stand in specs/.
+mod arc;
 mod clear;
 mod expression;
 mod place;
