@@ -1,10 +1,10 @@
 -- What the tables of a net hold, that a reading leaves for later calls.
 use mathlib.Core.Path.{_≡_}
-use Prim.Native.Nat.{_<_, _≤_}
-use Rattle.reading.specs.Basics.{ℕ, zero, suc, _+_, _*_, List, [], _∷_, Option, none, some, Option·map, given, with, any, map, sum, length, getD, take}
+use Prim.Native.Nat.{_<_, _≤_, _^_}
+use Rattle.reading.specs.Basics.{ℕ, zero, suc, _+_, _*_, _/_, _%_, Bool, _||_, List, [], _∷_, Option, none, some, Option·map, given, if_then_else_, with, any, keep, below, map, sum, product, length, getD, take, eqb, byteAt}
 use Rattle.reading.specs.Reading.{Answer, fine, fault, whole}
-use Rattle.net.specs.Net.{Expression, Place, Arc, Tokens, Net, net, coloursOf, placeAt, arcOn, tokensOn, inExpression}
-use Rattle.net.specs.Reader.{readExpression, arcPart, tokensPart}
+use Rattle.net.specs.Net.{Guard, always, Expression, Place, Arc, Transition, Tokens, Net, net, coloursOf, placeAt, arcOn, tokensOn, inGuard, inExpression, bindingSpace}
+use Rattle.net.specs.Reader.{readGuard, readExpression, arcPart, ended, transitionPart, tokensPart}
 use Rattle.net.specs.Told.{bits, placeOf}
 use Rattle.net.specs.declared.PlaceStep.{PlaceStep}
 use Rattle.net.specs.declared.PlaceStep.the-variants as place-step
@@ -17,7 +17,11 @@ use Rattle.net.specs.declared.arc.Gathered.the-variants as gathered
 use Rattle.net.specs.declared.token.TokenStep.{TokenStep}
 use Rattle.net.specs.declared.token.TokenStep.the-variants as token-step
 use Rattle.net.specs.declared.token.Ended.{Ended}
-use Rattle.net.specs.declared.token.Ended.the-variants as ended
+use Rattle.net.specs.declared.token.Ended.the-variants as token-end
+use Rattle.net.specs.declared.transition.Closed.{Closed}
+use Rattle.net.specs.declared.transition.Closed.the-variants as closed
+use Rattle.net.specs.declared.transition.TransitionStep.{TransitionStep}
+use Rattle.net.specs.declared.transition.TransitionStep.the-variants as transition-step
 
 -- ---- places
 -- the places of two lists of sets, first and second
@@ -101,8 +105,8 @@ pub record TokensRead (s : List ℕ) (n : Net) (start : ℕ) (starts initial : L
   pub holds : Holds n tokens countOf starts initial
 
 abbrev pub TokensTold : List ℕ → Net → ℕ → List ℕ → List ℕ → Ended → Type 0
-TokensTold s n start starts initial (ended.Whole next) = TokensRead s n start starts initial next
-TokensTold s n start starts initial (ended.Fault number place) = fault number place ≡ whole s (tokensPart s n) [] start
+TokensTold s n start starts initial (token-end.Whole next) = TokensRead s n start starts initial next
+TokensTold s n start starts initial (token-end.Fault number place) = fault number place ≡ whole s (tokensPart s n) [] start
 
 -- ---- arcs
 -- what stands at a place of the file, by a reading
@@ -162,3 +166,63 @@ ArcsTold s n start row (gathered.Fault number place) = fault number place ≡ wh
 abbrev pub ArcsRoom : ℕ → ℕ → Gathered → Type 0
 ArcsRoom len start (gathered.Whole uses next) = (start ≤ next) × (start ≤ len → next ≤ len)
 ArcsRoom len start (gathered.Fault number place) = Unit {0}
+
+-- ---- transitions
+-- whether a number is in a set that is kept as bits; those below n that are
+abbrev pub inSet : ℕ → ℕ → Bool
+inSet set v = eqb (set / 2 ^ v % 2) 1
+
+abbrev pub chosen : ℕ → ℕ → List ℕ
+chosen set n = keep (inSet set) (below n)
+
+-- the size of a variable's set, and of all those in a set of variables together
+abbrev pub sizeFor : List ℕ → List ℕ → ℕ → ℕ
+sizeFor sizes vars v = getD sizes (getD vars v 0) 0
+
+abbrev pub productOf : List ℕ → List ℕ → ℕ → ℕ → ℕ
+productOf sizes vars set n = product (map (sizeFor sizes vars) (chosen set n))
+
+-- a variable stands in a transition
+abbrev pub inTransition : ℕ → Transition → Bool
+inTransition v t = inGuard v (t .guard) || any (λ a. inExpression v (a .expression)) (t .arcs)
+
+-- where a guard stands: 0 without one
+abbrev pub guardPlace : List ℕ → ℕ → ℕ
+guardPlace s at = if eqb (byteAt s at) 0x15 then at + 1 else 0
+
+pub record GuardHolds (s : List ℕ) (n : Net) (guard : Guard) (at : ℕ) : Type 0 where
+  pub without : at ≡ 0 → guard ≡ always
+  pub stands : 0 < at → Standing (readGuard s n 16) guard at
+
+-- what the tables hold of a transition: where its guard and its arcs stand, and its variables
+pub record TransitionHolds (s : List ℕ) (n : Net) (t : Transition) (guard uses : ℕ) (slot : ℕ → ℕ) : Type 0 where
+  pub guarded : GuardHolds s n (t .guard) guard
+  pub arced : RowHolds s n (t .arcs) slot
+  pub used : uses ≡ bits (λ v. inTransition v t) 32
+
+-- a transition that ends: the binding space with it, or the fault
+abbrev pub ClosedTold : List ℕ → Net → List Transition → ℕ → Transition → ℕ → Closed → Type 0
+ClosedTold s n transitions at t end (closed.Whole space) =
+    (ended s n transitions at t end ≡ fine (with transitions t) end) × (bindingSpace n (with transitions t) ≡ space)
+ClosedTold s n transitions at t end (closed.Fault number place) = ended s n transitions at t end ≡ fault number place
+
+abbrev pub ClosedRoom : Closed → Type 0
+ClosedRoom (closed.Whole space) = space ≤ 65536
+ClosedRoom (closed.Fault number place) = Unit {0}
+
+-- a step of the transition part
+pub record TransitionRead (s : List ℕ) (n : Net) (transitions : List Transition) (at : ℕ) (row : List ℕ) (guard uses space next : ℕ) : Type 0 where
+  pub transition : Transition
+  pub goes : transitionPart s n transitions at ≡ some (fine (with transitions transition) next)
+  pub holds : TransitionHolds s n transition guard uses (λ i. getD row i 0)
+  pub wide : bindingSpace n (with transitions transition) ≡ space
+
+abbrev pub TransitionTold : List ℕ → Net → List Transition → ℕ → List ℕ → TransitionStep → Type 0
+TransitionTold s n transitions at row transition-step.Done = transitionPart s n transitions at ≡ none
+TransitionTold s n transitions at row (transition-step.More guard uses space next) = TransitionRead s n transitions at row guard uses space next
+TransitionTold s n transitions at row (transition-step.Stop number place) = transitionPart s n transitions at ≡ some (fault number place)
+
+abbrev pub TransitionRoom : ℕ → ℕ → ℕ → TransitionStep → Type 0
+TransitionRoom len count at transition-step.Done = Unit {0}
+TransitionRoom len count at (transition-step.More guard uses space next) = (count < 32) × (space ≤ 65536) × (at < next) × (next ≤ len)
+TransitionRoom len count at (transition-step.Stop number place) = at < len

@@ -4,6 +4,7 @@ mod clear;
 mod expression;
 mod place;
 mod token;
+mod transition;
 
 pub use expression::read_expression;
 ghost use mathlib.Core.Path.{_≡_};
