@@ -2,9 +2,9 @@
 use mathlib.Core.Path.{_≡_}
 use Prim.Native.Nat.{_<_, _≤_, _^_}
 use Rattle.reading.specs.Basics.{ℕ, zero, suc, _+_, _*_, _/_, _%_, Bool, _||_, List, [], _∷_, Option, none, some, Option·map, given, if_then_else_, with, any, keep, below, map, sum, product, length, getD, take, eqb, byteAt}
-use Rattle.reading.specs.Reading.{Answer, fine, fault, whole}
+use Rattle.reading.specs.Reading.{Answer, fine, fault, _andThen_, whole}
 use Rattle.net.specs.Net.{Guard, always, Expression, Place, Arc, Transition, Tokens, Net, net, coloursOf, placeAt, arcOn, tokensOn, inGuard, inExpression, bindingSpace}
-use Rattle.net.specs.Reader.{readGuard, readExpression, arcPart, ended, transitionPart, tokensPart}
+use Rattle.net.specs.Reader.{readGuard, readGuardIf, readExpression, arcPart, ended, transitionPart, tokensPart}
 use Rattle.net.specs.Told.{bits, placeOf}
 use Rattle.net.specs.declared.PlaceStep.{PlaceStep}
 use Rattle.net.specs.declared.PlaceStep.the-variants as place-step
@@ -210,19 +210,32 @@ abbrev pub ClosedRoom : Closed → Type 0
 ClosedRoom (closed.Whole space) = space ≤ 65536
 ClosedRoom (closed.Fault number place) = Unit {0}
 
--- a step of the transition part
-pub record TransitionRead (s : List ℕ) (n : Net) (transitions : List Transition) (at : ℕ) (row : List ℕ) (guard uses space next : ℕ) : Type 0 where
+-- a transition after its 0x14: its guard, its arcs, and its end
+abbrev pub inside : List ℕ → Net → List Transition → ℕ → Answer (List Transition)
+inside s n transitions at =
+    readGuardIf s n (at + 1) andThen λ guard more.
+    whole s (arcPart s n) [] more andThen λ arcs end.
+    ended s n transitions at (record { guard = guard; arcs = arcs }) end
+
+-- a step of the transition part, as x, and what the code tells of it
+pub record TransitionRead (s : List ℕ) (n : Net) (transitions : List Transition) (x : Option (Answer (List Transition))) (row : List ℕ) (guard uses space next : ℕ) : Type 0 where
   pub transition : Transition
-  pub goes : transitionPart s n transitions at ≡ some (fine (with transitions transition) next)
+  pub goes : x ≡ some (fine (with transitions transition) next)
   pub holds : TransitionHolds s n transition guard uses (λ i. getD row i 0)
   pub wide : bindingSpace n (with transitions transition) ≡ space
 
-abbrev pub TransitionTold : List ℕ → Net → List Transition → ℕ → List ℕ → TransitionStep → Type 0
-TransitionTold s n transitions at row transition-step.Done = transitionPart s n transitions at ≡ none
-TransitionTold s n transitions at row (transition-step.More guard uses space next) = TransitionRead s n transitions at row guard uses space next
-TransitionTold s n transitions at row (transition-step.Stop number place) = transitionPart s n transitions at ≡ some (fault number place)
+abbrev pub TransitionTold : List ℕ → Net → List Transition → Option (Answer (List Transition)) → List ℕ → TransitionStep → Type 0
+TransitionTold s n transitions x row transition-step.Done = x ≡ none
+TransitionTold s n transitions x row (transition-step.More guard uses space next) = TransitionRead s n transitions x row guard uses space next
+TransitionTold s n transitions x row (transition-step.Stop number place) = x ≡ some (fault number place)
 
-abbrev pub TransitionRoom : ℕ → ℕ → ℕ → TransitionStep → Type 0
-TransitionRoom len count at transition-step.Done = Unit {0}
-TransitionRoom len count at (transition-step.More guard uses space next) = (count < 32) × (space ≤ 65536) × (at < next) × (next ≤ len)
-TransitionRoom len count at (transition-step.Stop number place) = at < len
+abbrev pub TransitionRoom : ℕ → ℕ → TransitionStep → Type 0
+TransitionRoom len at transition-step.Done = Unit {0}
+TransitionRoom len at (transition-step.More guard uses space next) = (space ≤ 65536) × (at < next) × (next ≤ len)
+TransitionRoom len at (transition-step.Stop number place) = at < len
+
+-- one that goes on was among the first 32
+abbrev pub TransitionFew : ℕ → TransitionStep → Type 0
+TransitionFew count transition-step.Done = Unit {0}
+TransitionFew count (transition-step.More guard uses space next) = count < 32
+TransitionFew count (transition-step.Stop number place) = Unit {0}

@@ -12,7 +12,9 @@ ghost use lib.ListN.{length};
 ghost use Rattle.reading.specs.Basics.{if_then_else_};
 ghost use Rattle.net.specs.Net.{net, Place, Transition, bindingSpace};
 ghost use Rattle.net.specs.Told.{bits};
-ghost use Rattle.net.specs.Tables.{over, inSet, chosen, sizeFor, productOf, inTransition, guardPlace, ClosedTold, ClosedRoom, TransitionTold, TransitionRoom};
+ghost use Rattle.net.specs.Tables.{over, inSet, chosen, sizeFor, productOf, inTransition, guardPlace, ClosedTold, ClosedRoom, inside, TransitionTold, TransitionRoom, TransitionFew};
+ghost use Rattle.net.specs.Reader.{transitionPart};
+ghost use mathlib.Core.Option.{some};
 
 // 1 where v is in the set, else 0.
 fn bit(set: u32, v: usize) -> usize
@@ -135,4 +137,97 @@ pub enum TransitionStep {
         number: u8,
         place: usize,
     },
+}
+
+// The transition whose command stands at a place.
+fn transition_in(
+    s: &[u8],
+    sizes: &[u8],
+    vars: &[u8],
+    firsts: &[u8],
+    seconds: &[u8],
+    space: usize,
+    row: &mut [u16],
+    at: usize,
+) -> TransitionStep
+    requires { ⌜ length (now s) ≤ 16384 ⌝ }
+    requires { ⌜ length (now vars) ≤ 32 ⌝ }
+    requires { ⌜ length (now firsts) ≤ 32 ⌝ }
+    requires { ⌜ length (now seconds) ≡ length (now firsts) ⌝ }
+    requires { ⌜ length (now row) ≡ 96 ⌝ }
+    requires { ⌜ space ≤ 65536 ⌝ }
+    requires { ⌜ at < length (now s) ⌝ }
+    ensures is { λ r. ⌜ ((transitions : List Transition) → bindingSpace (over (now (sizes .entry)) (now (vars .entry)) (now (firsts .entry)) (now (seconds .entry))) transitions ≡ space
+        → TransitionTold (now (s .entry)) (over (now (sizes .entry)) (now (vars .entry)) (now (firsts .entry)) (now (seconds .entry))) transitions
+        (some (inside (now (s .entry)) (over (now (sizes .entry)) (now (vars .entry)) (now (firsts .entry)) (now (seconds .entry))) transitions at)) (now (row .exit)) r) ⌝ }
+    ensures room { λ r. ⌜ TransitionRoom (length (now (s .entry))) at r ⌝ }
+{
+    match read_guard_if(s, sizes, vars, at + 1) {
+        Read::Fault { number, place } => TransitionStep::Stop { number, place },
+        Read::Whole { next, set: _, uses } => match read_arcs(
+            s,
+            sizes,
+            vars,
+            firsts,
+            seconds,
+            row,
+            next,
+        ) {
+            Gathered::Fault { number, place } => TransitionStep::Stop { number, place },
+            Gathered::Whole {
+                uses: more,
+                next: end,
+            } => {
+                match close_at(s, sizes, vars, uses | more, space, at, end) {
+                    Closed::Fault { number, place } => TransitionStep::Stop { number, place },
+                    Closed::Whole { space } => TransitionStep::More {
+                        guard: guard_place(s, at + 1),
+                        uses: uses | more,
+                        space,
+                        next: end,
+                    },
+                }
+            }
+        },
+    }
+}
+
+// The transition command at a place, after so many transitions with a binding space.
+pub fn transition_at(
+    s: &[u8],
+    sizes: &[u8],
+    vars: &[u8],
+    firsts: &[u8],
+    seconds: &[u8],
+    count: usize,
+    space: usize,
+    row: &mut [u16],
+    at: usize,
+) -> TransitionStep
+    requires { ⌜ length (now s) ≤ 16384 ⌝ }
+    requires { ⌜ length (now vars) ≤ 32 ⌝ }
+    requires { ⌜ length (now firsts) ≤ 32 ⌝ }
+    requires { ⌜ length (now seconds) ≡ length (now firsts) ⌝ }
+    requires { ⌜ length (now row) ≡ 96 ⌝ }
+    requires { ⌜ space ≤ 65536 ⌝ }
+    ensures is { λ r. ⌜ ((transitions : List Transition) → length transitions ≡ count
+        → bindingSpace (over (now (sizes .entry)) (now (vars .entry)) (now (firsts .entry)) (now (seconds .entry))) transitions ≡ space
+        → TransitionTold (now (s .entry)) (over (now (sizes .entry)) (now (vars .entry)) (now (firsts .entry)) (now (seconds .entry))) transitions
+        (transitionPart (now (s .entry)) (over (now (sizes .entry)) (now (vars .entry)) (now (firsts .entry)) (now (seconds .entry))) transitions at) (now (row .exit)) r) ⌝ }
+    ensures room { λ r. ⌜ TransitionRoom (length (now (s .entry))) at r ⌝ }
+    ensures few { λ r. ⌜ TransitionFew count r ⌝ }
+{
+    if s.len() <= at {
+        return TransitionStep::Done;
+    }
+    if s[at] == 0x14 {
+        if 32 <= count {
+            return TransitionStep::Stop {
+                number: 4,
+                place: at,
+            };
+        }
+        return transition_in(s, sizes, vars, firsts, seconds, space, row, at);
+    }
+    TransitionStep::Done
 }
