@@ -5,14 +5,16 @@ use Prim.Native.Nat.{_≤_, _<_}
 use native.Mathlib.Omega.{arith}
 use borrow.Author.Tests.{lt-ltb, le-ltb, eq-eqb, ne-eqb, eqb-true, eqb-false, ltb-true, ltb-false}
 use lib.Bits.{bitOr}
-use Rattle.reading.specs.Basics.{ℕ, zero, suc, _+_, List, [], _∷_, Option, some, none, given, if_then_else_, length, getD, with, any, eqb, ltb, byteAt}
+use lib.ListN.{length-drop, List·getD-append}
+use lib.Seq.{length-take-le, getD-append-add, getD-take}
+use Rattle.reading.specs.Basics.{ℕ, zero, suc, _+_, _*_, List, [], _∷_, _++_, Option, some, none, Option·map, given, if_then_else_, length, getD, take, drop, with, any, eqb, ltb, byteAt}
 use Rattle.reading.specs.Reading.{Answer, fine, fault, _andThen_, standing, whole}
 use Rattle.reading.proofs.Commands.{past, end, other, passes, done, fails, standing-past, standing-none, stands-cut, stands-fails, stands-goes}
 use Rattle.reading.proofs.Within.{Ends}
-use Rattle.net.specs.Net.{Guard, always, Arc, Transition, Net, bindingSpace, inGuard, inExpression}
-use Rattle.net.specs.Reader.{command, readGuard, readGuardIf, arcPart, ended, transitionPart}
+use Rattle.net.specs.Net.{Guard, always, Arc, Transition, Net, placeAt, arcOn, bindingSpace, inGuard, inExpression}
+use Rattle.net.specs.Reader.{command, readGuard, readGuardIf, readExpression, arcPart, ended, transitionPart}
 use Rattle.net.specs.Told.{bits, guardTold}
-use Rattle.net.specs.Tables.{Standing, RowHolds, ArcsRead, guardPlace, GuardHolds, TransitionHolds, inTransition, inside, TransitionRead, TransitionFew}
+use Rattle.net.specs.Tables.{Standing, RowHolds, ArcsRead, guardPlace, GuardHolds, TransitionHolds, inTransition, inside, TransitionRead, TransitionTold, TransitionFew}
 use Rattle.net.specs.declared.transition.TransitionStep.{TransitionStep}
 use Rattle.net.specs.declared.transition.TransitionStep.the-variants.{Done, More, Stop}
 use Rattle.net.specs.declared.Read.{Read}
@@ -20,7 +22,7 @@ use Rattle.net.specs.declared.Read.the-variants as read
 use Rattle.net.proofs.Shut.{commands}
 use Rattle.net.proofs.Answers.{bits-or}
 use Rattle.net.proofs.Ending.{guard-ends}
-use Rattle.net.proofs.Arcing.{Heard}
+use Rattle.net.proofs.Arcing.{Heard, slot-is}
 
 -- a byte that is not 0 stands in the file
 pub stands-in : (s : List ℕ) (p b : ℕ) → 0 < b → byteAt s p ≡ b → p < length s
@@ -86,7 +88,7 @@ module _ (s : List ℕ) (n : Net) (transitions : List Transition) (at : ℕ) whe
 
       pub transition-read : {space : ℕ} → ended s n transitions at (record { guard = g .value; arcs = a .arcs }) last ≡ fine (with transitions (record { guard = g .value; arcs = a .arcs })) last
           → bindingSpace n (with transitions (record { guard = g .value; arcs = a .arcs })) ≡ space
-          → TransitionRead s n transitions (some (inside s n transitions at)) row (guardPlace s (at + 1)) (bitOr used uses) space last
+          → TransitionRead s n transitions (some (inside s n transitions at)) (λ i. getD row i 0) (guardPlace s (at + 1)) (bitOr used uses) space last
       transition-read e f = record {
         transition = record { guard = g .value; arcs = a .arcs };
         goes = ap some (ends-by ∙ e);
@@ -117,3 +119,31 @@ pub few-of : (count : ℕ) (r : TransitionStep) → count < 32 → TransitionFew
 few-of count Done lt = tt
 few-of count (More guard uses space next) lt = lt
 few-of count (Stop number place) lt = tt
+
+-- ---- a row of the table of arcs
+-- a part of a list that was put back: what stands in it, and before it
+pub part-in : (xs ys zs : List ℕ) (a i : ℕ) → a ≤ length xs → i < length ys → getD (take a xs ++ (ys ++ zs)) (a + i) 0 ≡ getD ys i 0
+part-in xs ys zs a i le lt =
+    ap (λ k. getD (take a xs ++ (ys ++ zs)) (k + i) 0) (sym (length-take-le a xs le)) ∙ getD-append-add (take a xs) (ys ++ zs) i 0 ∙ List·getD-append ys zs 0 i lt
+
+pub part-before : (xs ys : List ℕ) (a i : ℕ) → a ≤ length xs → i < a → getD (take a xs ++ ys) i 0 ≡ getD xs i 0
+part-before xs ys a i le lt = List·getD-append (take a xs) ys 0 i (rw (length-take-le a xs le) lt) ∙ getD-take a xs i 0 lt
+
+pub part-sized : (xs : List ℕ) (a k : ℕ) → a + k ≤ length xs → length (take k (drop a xs)) ≡ k
+part-sized xs a k le = length-take-le k (drop a xs) (rw (length-drop a xs) (omega arith))
+
+-- what is told of a row is told of any slots that hold the same
+module _ (s : List ℕ) (n : Net) (few : length (n .places) ≤ 32) (f g : ℕ → ℕ) (same : (i : ℕ) → i < 96 → f i ≡ g i) where
+  pub row-same : (arcs : List Arc) → RowHolds s n arcs f → RowHolds s n arcs g
+  row-same arcs holds k p of-three known =
+      slot-is (readExpression s n (placeAt n p) 16) {o = Option·map (λ a. a .expression) (arcOn arcs (0x16 + k) p)} refl (sym (same (k * 32 + p) (omega arith))) (holds k p of-three known)
+
+  pub told-same : (transitions : List Transition) (x : Option (Answer (List Transition))) (r : TransitionStep) → TransitionTold s n transitions x f r → TransitionTold s n transitions x g r
+  told-same transitions x Done h = h
+  told-same transitions x (More guard uses space next) h = record {
+    transition = h .transition;
+    goes = h .goes;
+    holds = record { guarded = h .holds .guarded; arced = row-same (h .transition .arcs) (h .holds .arced); used = h .holds .used };
+    wide = h .wide;
+  }
+  told-same transitions x (Stop number place) h = h

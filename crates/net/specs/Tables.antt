@@ -218,16 +218,16 @@ inside s n transitions at =
     ended s n transitions at (record { guard = guard; arcs = arcs }) end
 
 -- a step of the transition part, as x, and what the code tells of it
-pub record TransitionRead (s : List ℕ) (n : Net) (transitions : List Transition) (x : Option (Answer (List Transition))) (row : List ℕ) (guard uses space next : ℕ) : Type 0 where
+pub record TransitionRead (s : List ℕ) (n : Net) (transitions : List Transition) (x : Option (Answer (List Transition))) (slot : ℕ → ℕ) (guard uses space next : ℕ) : Type 0 where
   pub transition : Transition
   pub goes : x ≡ some (fine (with transitions transition) next)
-  pub holds : TransitionHolds s n transition guard uses (λ i. getD row i 0)
+  pub holds : TransitionHolds s n transition guard uses slot
   pub wide : bindingSpace n (with transitions transition) ≡ space
 
-abbrev pub TransitionTold : List ℕ → Net → List Transition → Option (Answer (List Transition)) → List ℕ → TransitionStep → Type 0
-TransitionTold s n transitions x row transition-step.Done = x ≡ none
-TransitionTold s n transitions x row (transition-step.More guard uses space next) = TransitionRead s n transitions x row guard uses space next
-TransitionTold s n transitions x row (transition-step.Stop number place) = x ≡ some (fault number place)
+abbrev pub TransitionTold : List ℕ → Net → List Transition → Option (Answer (List Transition)) → (ℕ → ℕ) → TransitionStep → Type 0
+TransitionTold s n transitions x slot transition-step.Done = x ≡ none
+TransitionTold s n transitions x slot (transition-step.More guard uses space next) = TransitionRead s n transitions x slot guard uses space next
+TransitionTold s n transitions x slot (transition-step.Stop number place) = x ≡ some (fault number place)
 
 abbrev pub TransitionRoom : ℕ → ℕ → TransitionStep → Type 0
 TransitionRoom len at transition-step.Done = Unit {0}

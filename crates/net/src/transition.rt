@@ -7,8 +7,8 @@ use crate::read_guard_if;
 use reading::byte_at;
 ghost use mathlib.Core.Path.{_≡_};
 ghost use mathlib.Core.List.{List, []};
-ghost use Prim.Native.Nat.{ℕ, _≤_, _<_, _/_, _%_, _^_};
-ghost use lib.ListN.{length};
+ghost use Prim.Native.Nat.{ℕ, _≤_, _<_, _+_, _*_, _/_, _%_, _^_};
+ghost use lib.ListN.{length, getD};
 ghost use Rattle.reading.specs.Basics.{if_then_else_};
 ghost use Rattle.net.specs.Net.{net, Place, Transition, bindingSpace};
 ghost use Rattle.net.specs.Told.{bits};
@@ -159,7 +159,7 @@ fn transition_in(
     requires { ⌜ at < length (now s) ⌝ }
     ensures is { λ r. ⌜ ((transitions : List Transition) → bindingSpace (over (now (sizes .entry)) (now (vars .entry)) (now (firsts .entry)) (now (seconds .entry))) transitions ≡ space
         → TransitionTold (now (s .entry)) (over (now (sizes .entry)) (now (vars .entry)) (now (firsts .entry)) (now (seconds .entry))) transitions
-        (some (inside (now (s .entry)) (over (now (sizes .entry)) (now (vars .entry)) (now (firsts .entry)) (now (seconds .entry))) transitions at)) (now (row .exit)) r) ⌝ }
+        (some (inside (now (s .entry)) (over (now (sizes .entry)) (now (vars .entry)) (now (firsts .entry)) (now (seconds .entry))) transitions at)) (λ i. getD (now (row .exit)) i 0) r) ⌝ }
     ensures room { λ r. ⌜ TransitionRoom (length (now (s .entry))) at r ⌝ }
 {
     match read_guard_if(s, sizes, vars, at + 1) {
@@ -192,7 +192,7 @@ fn transition_in(
     }
 }
 
-// The transition command at a place, after so many transitions with a binding space.
+// The transition command at a place, after so many transitions with a binding space; its row is the next of the table.
 pub fn transition_at(
     s: &[u8],
     sizes: &[u8],
@@ -201,21 +201,23 @@ pub fn transition_at(
     seconds: &[u8],
     count: usize,
     space: usize,
-    row: &mut [u16],
+    arcs: &mut [u16],
     at: usize,
 ) -> TransitionStep
     requires { ⌜ length (now s) ≤ 16384 ⌝ }
     requires { ⌜ length (now vars) ≤ 32 ⌝ }
     requires { ⌜ length (now firsts) ≤ 32 ⌝ }
     requires { ⌜ length (now seconds) ≡ length (now firsts) ⌝ }
-    requires { ⌜ length (now row) ≡ 96 ⌝ }
+    requires { ⌜ length (now arcs) ≡ 3072 ⌝ }
     requires { ⌜ space ≤ 65536 ⌝ }
     ensures is { λ r. ⌜ ((transitions : List Transition) → length transitions ≡ count
         → bindingSpace (over (now (sizes .entry)) (now (vars .entry)) (now (firsts .entry)) (now (seconds .entry))) transitions ≡ space
         → TransitionTold (now (s .entry)) (over (now (sizes .entry)) (now (vars .entry)) (now (firsts .entry)) (now (seconds .entry))) transitions
-        (transitionPart (now (s .entry)) (over (now (sizes .entry)) (now (vars .entry)) (now (firsts .entry)) (now (seconds .entry))) transitions at) (now (row .exit)) r) ⌝ }
+        (transitionPart (now (s .entry)) (over (now (sizes .entry)) (now (vars .entry)) (now (firsts .entry)) (now (seconds .entry))) transitions at)
+        (λ i. getD (now (arcs .exit)) (count * 96 + i) 0) r) ⌝ }
     ensures room { λ r. ⌜ TransitionRoom (length (now (s .entry))) at r ⌝ }
     ensures few { λ r. ⌜ TransitionFew count r ⌝ }
+    ensures kept { λ r. ⌜ ((i : ℕ) → i < count * 96 → getD (now (arcs .exit)) i 0 ≡ getD (now (arcs .entry)) i 0) ⌝ }
 {
     if s.len() <= at {
         return TransitionStep::Done;
@@ -227,7 +229,18 @@ pub fn transition_at(
                 place: at,
             };
         }
-        return transition_in(s, sizes, vars, firsts, seconds, space, row, at);
+        let from = count * 96;
+        let to = from + 96;
+        return transition_in(
+            s,
+            sizes,
+            vars,
+            firsts,
+            seconds,
+            space,
+            &mut arcs[from..to],
+            at,
+        );
     }
     TransitionStep::Done
 }
