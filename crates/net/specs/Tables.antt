@@ -22,6 +22,8 @@ use Rattle.net.specs.declared.transition.Closed.{Closed}
 use Rattle.net.specs.declared.transition.Closed.the-variants as closed
 use Rattle.net.specs.declared.transition.TransitionStep.{TransitionStep}
 use Rattle.net.specs.declared.transition.TransitionStep.the-variants as transition-step
+use Rattle.net.specs.declared.transitions.Passed.{Passed}
+use Rattle.net.specs.declared.transitions.Passed.the-variants as passed
 
 -- ---- places
 -- the places of two lists of sets, first and second
@@ -239,3 +241,22 @@ abbrev pub TransitionFew : ℕ → TransitionStep → Type 0
 TransitionFew count transition-step.Done = Unit {0}
 TransitionFew count (transition-step.More guard uses space next) = count < 32
 TransitionFew count (transition-step.Stop number place) = Unit {0}
+
+-- what the tables hold of each transition: its variables, its guard's place, and its row of 96 slots
+abbrev pub TransitionsHold : List ℕ → Net → List Transition → List ℕ → List ℕ → List ℕ → Type 0
+TransitionsHold s n transitions uses guards arcs =
+    (t : ℕ) → t < length transitions
+    → TransitionHolds s n (getD transitions t (record { guard = always; arcs = [] })) (getD guards t 0) (getD uses t 0) (λ i. getD arcs (t * 96 + i) 0)
+
+pub record TransitionsRead (s : List ℕ) (n : Net) (start : ℕ) (uses guards arcs : List ℕ) (count space next : ℕ) : Type 0 where
+  pub transitions : List Transition
+  pub read : fine transitions next ≡ whole s (transitionPart s n) [] start
+  pub are : length transitions ≡ count
+  pub few : count ≤ 32
+  pub wide : bindingSpace n transitions ≡ space
+  pub bounded : space ≤ 65536
+  pub holds : TransitionsHold s n transitions uses guards arcs
+
+abbrev pub TransitionsTold : List ℕ → Net → ℕ → List ℕ → List ℕ → List ℕ → Passed → Type 0
+TransitionsTold s n start uses guards arcs (passed.Whole count space next) = TransitionsRead s n start uses guards arcs count space next
+TransitionsTold s n start uses guards arcs (passed.Fault number place) = fault number place ≡ whole s (transitionPart s n) [] start

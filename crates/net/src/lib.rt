@@ -5,6 +5,7 @@ mod expression;
 mod place;
 mod token;
 mod transition;
+mod transitions;
 
 pub use expression::read_expression;
 ghost use mathlib.Core.Path.{_≡_};
