@@ -6,3 +6,4 @@ pub mod Appending
 pub mod Loads
 pub mod Drawn
 pub mod Effects
+pub mod Tabled

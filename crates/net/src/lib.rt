@@ -1,10 +1,10 @@
 // Reads net files. The meanings of this crate stand in specs/.
-mod evaluate;
-mod expression;
-mod table;
 mod arc;
 mod clear;
+mod evaluate;
+mod expression;
 mod place;
+mod table;
 mod token;
 mod transition;
 mod transitions;
