@@ -9,9 +9,10 @@ use Rattle.net.specs.Net.{Place, single, pair, Net, net, coloursOf, placeAt, fl
 use Rattle.net.specs.Reader.{readExpression}
 use Rattle.net.specs.Values.{weight}
 use Rattle.net.specs.Evaluated.{bound, placeBy, isPair}
+use Rattle.net.specs.Tables.{Slot}
 use Rattle.net.proofs.Alike.{weight-alike}
 use Rattle.coloured.specs.Effect.{transitionAt, arcWeight}
-use Rattle.coloured.specs.Drawing.{rankArcs, startOf, placeArcs, kindArcs, Appended, Slot, Drawing}
+use Rattle.coloured.specs.Drawing.{rankArcs, startOf, placeArcs, kindArcs, Appended, Drawing}
 use Rattle.coloured.specs.Loading.{ArcLoaded, PlaceLoaded, KindLoaded}
 use Rattle.coloured.proofs.Split.{start-next, start-low, kind-more, kind-few, place-none}
 use Rattle.coloured.proofs.Appending.{append-none, append-join}

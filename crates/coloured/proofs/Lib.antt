@@ -17,3 +17,4 @@ pub mod Turning
 pub mod Searching
 pub mod Gathering
 pub mod Calling
+pub mod Tabled

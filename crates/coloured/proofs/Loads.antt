@@ -12,10 +12,11 @@ use Rattle.net.specs.Net.{Guard, Expression, Place, Net, net}
 use Rattle.net.specs.Reader.{readGuard, readExpression}
 use Rattle.net.specs.Values.{holds, weight}
 use Rattle.net.specs.Evaluated.{bound, placeBy, Held, Skips, Weighs}
+use Rattle.net.specs.Tables.{GuardHolds}
 use Rattle.net.specs.declared.evaluate.Ranked.{Ranked}
 use Rattle.net.specs.declared.evaluate.Weighed.{Weighed}
 use Rattle.net.specs.declared.evaluate.Tested.{Tested}
-use Rattle.coloured.specs.Drawing.{ranksFrom, rankArcs, Appended, GuardSlot}
+use Rattle.coloured.specs.Drawing.{ranksFrom, rankArcs, Appended}
 use Rattle.coloured.specs.Loading.{oneArc, ArcLoaded}
 use Rattle.coloured.proofs.Split.{ranks-pass, ranks-few}
 use Rattle.coloured.proofs.Appending.{append-none, append-one, append-join}
@@ -141,7 +142,7 @@ module _ {s sizes vars env : List ℕ} {paired : Bool} {start count at : ℕ} {p
         loading-ends start count (λ rank. weight (net sizes vars known [] []) (bound env) rank e) places₀ amounts₀ used places amounts end rank (l .each known first second next e reads a b) h
 
 -- ---- guards
-module _ (s : List ℕ) (n : Net) (env : List ℕ) (g : Guard) (at : ℕ) (slot : GuardSlot (readGuard s n 16) g at) where
+module _ (s : List ℕ) (n : Net) (env : List ℕ) (g : Guard) (at : ℕ) (slot : GuardHolds s n g at) where
   -- no guard stands there, or one does
   pub guard-none : at < 1 → true ≡ holds n (bound env) g
   unfolding holds
