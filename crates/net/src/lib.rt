@@ -9,6 +9,8 @@ mod transition;
 mod transitions;
 
 pub use expression::read_expression;
+pub use file::NetRead;
+pub use file::read_net;
 ghost use mathlib.Core.Path.{_≡_};
 ghost use mathlib.Core.List.{List, [], map};
 ghost use Prim.Native.Nat.{ℕ, _≤_, _<_, _^_};
