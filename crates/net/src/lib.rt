@@ -21,6 +21,8 @@ pub use evaluate::eval_guard_if;
 pub use evaluate::eval_weight;
 pub use evaluate::next_rank;
 pub use expression::read_expression;
+pub use file::NetRead;
+pub use file::read_net;
 pub use space::bindings_of;
 pub use space::count_of;
 pub use table::width;
