@@ -39,12 +39,14 @@ arcs-kept places amounts places' amounts' a b p q =
     same l' l i e h = sym (getD-take b l' i 0 h) ∙ ap (λ l. getD l i 0) e ∙ getD-take b l i 0 h
 
 -- ---- appending
+-- nothing
 pub append-none : (places amounts : List ℕ) (used : ℕ) → Appended [] places amounts used places amounts used
 unfolding arcsIn numbersFrom
 append-none places amounts used =
     let e : used - used ≡ 0 = omega arith in
     record { front = refl; fronts = refl; are = rw e; end = omega arith; size = refl; sizes = refl }
 
+-- one arc, stored in both lists
 pub append-one : (places amounts : List ℕ) (used p w : ℕ) → used < length places → used < length amounts
     → Appended (record { place = p; weight = w } ∷ []) places amounts used (set places used p) (set amounts used w) (used + 1)
 unfolding arcsIn numbersFrom

@@ -22,6 +22,7 @@ place-by : (q : Place) → (first : ℕ) × (second : ℕ) × (placeBy (isPair q
 place-by (single a) = (a, 0, refl)
 place-by (pair a b) = (a, b, refl)
 
+-- the same arcs from equal parts
 rank-same : (start start' count count' : ℕ) (w w' : ℕ → ℕ) → start ≡ start' → count ≡ count' → ((r : ℕ) → w r ≡ w' r) → rankArcs start count w ≡ rankArcs start' count' w'
 rank-same start start' count count' w w' e f h = ap (λ x. rankArcs x count w) e ∙ ap (λ x. rankArcs start' x w) f ∙ ap (rankArcs start' count') (fun-ext h)
 
@@ -38,6 +39,7 @@ module _ {s : List ℕ} {n : Net} {sizes vars seconds starts guards arcs : List 
   ends : getD starts (p + 1) 0 ≡ startOf n p + coloursOf n (placeAt n p)
   ends = d .begin (p + 1) (omega arith) ∙ start-next n p hp
 
+  -- what the code tests of them never fails
   pub in-order : (start end : ℕ) → start ≡ getD starts p 0 → end ≡ getD starts (p + 1) 0 → end < start → ⊥
   in-order start end e f h = omega (arith, begins, ends)
 
@@ -45,6 +47,7 @@ module _ {s : List ℕ} {n : Net} {sizes vars seconds starts guards arcs : List 
   in-bounds end f h = omega (arith, d .begin (p + 1) (omega arith), start-low n (p + 1), d .few)
 
   module _ (places amounts : List ℕ) (used : ℕ) where
+    -- no expression stands there
     pub place-empty : (at : ℕ) → at ≡ getD arcs (base + p) 0 → at < 1 → Appended (placeArcs n (transitionAt n t) (bound env) (0x16 + k) p) places amounts used places amounts used
     place-empty at e h = go (arcOn (transitionAt n t .arcs) (0x16 + k) p) refl slot
       where
@@ -54,6 +57,7 @@ module _ {s : List ℕ} {n : Net} {sizes vars seconds starts guards arcs : List 
         go none q sl = rw (place-none n (transitionAt n t) (bound env) (0x16 + k) p q) (append-none places amounts used)
         go (some a) q sl = absurd (omega (arith, sl .0))
 
+    -- the expression that stands there was loaded
     pub place-loads : (places' amounts' : List ℕ) (start end at r : ℕ) (paired : Bool) → at ≡ getD arcs (base + p) 0 → 1 ≤ at → start ≡ getD starts p 0 → end ≡ getD starts (p + 1) 0
         → paired ≡ not (eqb (getD seconds p 0) 255)
         → ArcLoaded s sizes vars env paired start (end - start) at places amounts used places' amounts' r
@@ -88,6 +92,7 @@ pub record KindLoading (s sizes vars env seconds starts arcs : List ℕ) (base c
       → Appended (kindArcs n (transitionAt n t) (bound env) (0x16 + k) p) places₀ amounts₀ used places amounts end
 
 module _ {s sizes vars env seconds starts arcs : List ℕ} {base count : ℕ} {places₀ amounts₀ : List ℕ} {used : ℕ} where
+  -- no place, one more place, all places
   pub kind-begins : KindLoading s sizes vars env seconds starts arcs base count places₀ amounts₀ used places₀ amounts₀ used 0
   unfolding flatMap numbersFrom
   kind-begins = record { each = λ n guards t k d ht hk hb hc x y. append-none places₀ amounts₀ used }

@@ -21,6 +21,7 @@ use Rattle.coloured.specs.Loading.{KindLoaded, GuardTold, binding}
 use Rattle.coloured.proofs.Split.{split, start-low, kind-few}
 use Rattle.coloured.proofs.Appending.{arcs-kept}
 
+-- ---- what stands somewhere
 or-left : (a b : Bool) → a ≡ true → a || b ≡ true
 or-left a b e = rw e
 
@@ -38,6 +39,7 @@ found-in test (b ∷ l) a e = go (test b) (found-in test l a) e
     go true ih q = let z : b ≡ a = cc in subst (λ x. In x (b ∷ l)) z here
     go false ih q = there (ih q)
 
+-- a test that an element passes, some element passes
 in-any : (test : net.Arc → Bool) (l : List net.Arc) (a : net.Arc) → In a l → test a ≡ true → any test l ≡ true
 unfolding any
 in-any test [] a m e = absurd (List·Memᴰ·not-nil m)
@@ -45,6 +47,7 @@ in-any test (b ∷ l) a m e = in-cases (λ q. or-left (test b) _ (ap test (sym q
 
 -- ---- colours of a binding
 module _ (n : Net) (t : Transition) (env other : ℕ → ℕ) (same : (v : ℕ) → standsIn v t ≡ true → env v ≡ other v) where
+  -- the guard, and each arc's weights
   guard-as : holds n env (t .guard) ≡ holds n other (t .guard)
   guard-as = holds-bound n env other (t .guard) (λ v e. same v (or-left _ (any (λ a. inExpression v (a .expression)) (t .arcs)) e))
 
@@ -72,6 +75,7 @@ not-false false e = sym e
 module _ {s : List ℕ} {n : Net} {sizes vars seconds starts guards arcs : List ℕ} (env : List ℕ) (d : Drawing s n sizes vars seconds starts guards arcs)
     (t : ℕ) (ht : t < length (n .transitions)) (colours : List ℕ) (binds : Binds n (binding t colours) env)
     {at : ℕ} (r : Bool) (slot : at ≡ getD guards t 0) (told : GuardTold s sizes vars env at r) where
+  -- what the code says of the guard
   guard-is : r ≡ holds n (standsFor (variablesOf n (transitionAt n t)) colours) (transitionAt n t .guard)
   guard-is =
       told (n .places) (transitionAt n t .guard) (rw slot (d .guard t ht))
@@ -129,6 +133,7 @@ module _ {n : Net} {b : Binding} {places amounts : List ℕ} {takes puts hinders
   pub loaded-proper : Proper (length m) (rowIn places amounts takes puts hinders)
   loaded-proper = rw (l .row, sized) (row-proper (flatPlaceCount n) (l .weighs))
 
+  -- the row's weights fire as the effect's
   pub loaded-fires : fire (weights (rowIn places amounts takes puts hinders)) m ≡ fire (l .weighs) m
   loaded-fires = ap (λ r. fire (weights r) m) (l .row) ∙ fire-same (weights (rowOf (flatPlaceCount n) (l .weighs))) (l .weighs) m (rw sized (row-agrees (flatPlaceCount n) (l .weighs)))
 
