@@ -18,3 +18,4 @@ pub mod Searching
 pub mod Gathering
 pub mod Calling
 pub mod Tabled
+pub mod Accepted
