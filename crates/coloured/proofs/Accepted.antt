@@ -12,13 +12,13 @@ use Rattle.net.specs.declared.file.NetRead.the-variants.{Whole, Refused}
 use Rattle.coloured.specs.Ready.{Ready}
 use Rattle.coloured.proofs.Tabled.{drawing}
 
-module _ (s sizes vars firsts seconds starts uses guards arcs initial : List ℕ) {r : NetRead} where
+module _ (s sizes vars firsts seconds starts uses guards arcs initial : List ℕ) where
   -- what was read
-  pub the-refusal : {number place : ℕ} → r ≡ Refused number place → NetTold s sizes vars firsts seconds starts uses guards arcs initial r → readNet s ≡ refused number place
+  pub the-refusal : {r : NetRead} {number place : ℕ} → r ≡ Refused number place → NetTold s sizes vars firsts seconds starts uses guards arcs initial r → readNet s ≡ refused number place
   the-refusal e told = subst (NetTold s sizes vars firsts seconds starts uses guards arcs initial) e told
 
   module _ {sets variables places total transitions space : ℕ} where
-    pub the-net : r ≡ Whole sets variables places total transitions space → NetTold s sizes vars firsts seconds starts uses guards arcs initial r
+    pub the-net : {r : NetRead} → r ≡ Whole sets variables places total transitions space → NetTold s sizes vars firsts seconds starts uses guards arcs initial r
         → NetHeld s sizes vars firsts seconds starts uses guards arcs initial sets variables places total transitions space
     the-net e told = subst (NetTold s sizes vars firsts seconds starts uses guards arcs initial) e told
 
