@@ -49,7 +49,7 @@ choices-apart (size ∷ sizes) =
     cc)
 
 -- the same number over and over
-same-each : (k a n : ℕ) → sum (map (λ i. k) (numbersFrom a n)) ≡ n * k
+pub same-each : (k a n : ℕ) → sum (map (λ i. k) (numbersFrom a n)) ≡ n * k
 unfolding numbersFrom
 same-each k a zero = sym (zero-mul k)
 same-each k a (suc n) = let e = same-each k (a + 1) n in omega (arith, suc-mul n k)

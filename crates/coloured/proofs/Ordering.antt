@@ -1,0 +1,117 @@
+-- What an order names, from what the code tells of it; and the trees of a transition under a binding's slots. Assumes nothing.
+use mathlib.Core.Path.{_≡_, refl, sym, ap, _∙_}
+use mathlib.Core.List.{List·Memᴰ·not-nil}
+use Prim.Native.Nat.{_≤_, _<_}
+use native.Mathlib.Omega.{arith}
+use borrow.Author.Tests.{lt-ltb, le-ltb, eq-eqb, ne-eqb}
+use lib.Seq.{drop-drop, getD-take, getD-drop}
+use Rattle.reading.specs.Basics.{ℕ, _+_, Bool, true, false, _&&_, _||_, List, [], _∷_, none, some, length, take, drop, eqb, if_then_else_, byteAt, product, any, getD}
+use Rattle.reading.proofs.Lists.{In, in-cases}
+use Rattle.net.specs.Net.{Arc, Transition, Net, inGuard, inExpression, variablesOf, sizesOf}
+use Rattle.net.specs.Limits.{Limits}
+use Rattle.net.proofs.Spaces.{standsIn}
+use Rattle.net.specs.Values.{holds, weight}
+use Rattle.net.proofs.Alike.{holds-bound, weight-bound}
+use Rattle.coloured.specs.Effect.{transitionAt, standsFor}
+use Rattle.coloured.specs.Orders.{fits, named}
+use Rattle.coloured.specs.Numbers.{digits, number, those, sizesOver, Coloured, Bound, numberOf}
+use Rattle.coloured.specs.declared.binding.Numbered.{Numbered}
+use Rattle.coloured.specs.declared.binding.Numbered.the-variants.{At, Nothing}
+use Rattle.coloured.proofs.Bindings.{bound}
+use Rattle.coloured.proofs.Digits.{number-below, digits-number, number-front}
+use Rattle.coloured.proofs.Named.{fits-padded}
+use Rattle.coloured.proofs.Numbering.{drop-take}
+
+-- ---- of a net that keeps to its limits, and of its transitions
+pub limits-coloured : (n : Net) → Limits n → Coloured n
+limits-coloured n l v lt = l .sizes (getD (n .variables) v 0) (l .variable-sets v lt) .0
+
+pub transition-numbered : (n : Net) (t : Transition) (colours : List ℕ) {r : Numbered} → r ≡ numberOf (sizesOver n (those n (standsIn (t .guard) (t .arcs)))) colours → r ≡ numberOf (sizesOf n t) colours
+unfolding variablesOf
+transition-numbered n t colours e = e
+
+-- ---- the colours of an order
+-- a number of colours that fit
+pub numbered-at : (sizes colours : List ℕ) {index : ℕ} → At index ≡ numberOf sizes colours
+    → (fits sizes colours ≡ true) × (index < product sizes) × (digits sizes index ≡ take (length sizes) colours)
+numbered-at sizes colours {index} e = go (fits sizes colours) refl e
+  where
+    go : (t : Bool) → fits sizes colours ≡ t → At index ≡ (if t then At (number sizes colours) else Nothing)
+        → (fits sizes colours ≡ true) × (index < product sizes) × (digits sizes index ≡ take (length sizes) colours)
+    go true p q =
+        let is : index ≡ number sizes colours = cc in
+        let fit = fits-padded sizes colours (length colours) p (omega arith) .0 in
+        let front = number-front sizes colours in
+        (p, rw (is, ← front) (number-below fit), rw (is, ← front) (digits-number fit))
+    go false p q = let z : _≡_ {A = ℕ} 0 1 = cc in absurd (omega arith)
+
+pub numbered-nothing : (sizes colours : List ℕ) → Nothing ≡ numberOf sizes colours → fits sizes colours ≡ false
+numbered-nothing sizes colours e = go (fits sizes colours) e
+  where
+    go : (t : Bool) → Nothing ≡ (if t then At (number sizes colours) else Nothing) → t ≡ false
+    go true q = let z : _≡_ {A = ℕ} 0 1 = cc in absurd (omega arith)
+    go false q = refl
+
+-- ---- the binding that an order names
+and-false : (t : Bool) → t && false ≡ false
+and-false true = refl
+and-false false = refl
+
+module _ (n : Net) (order : List ℕ) where
+  -- its command is another, it has no such transition, or its colours name none
+  pub named-other : (byteAt order 0 ≡ 0x60 → ⊥) → named n order ≡ none
+  unfolding named
+  named-other ne = rw (ne-eqb (byteAt order 0) 0x60 ne)
+
+  pub named-past : length (n .transitions) ≤ byteAt order 1 → named n order ≡ none
+  unfolding named
+  named-past le = rw (le-ltb (byteAt order 1) (length (n .transitions)) le, and-false (eqb (byteAt order 0) 0x60))
+
+  module _ (opens : byteAt order 0 ≡ 0x60) (lt : byteAt order 1 < length (n .transitions)) where
+    pub named-nothing : Nothing ≡ numberOf (sizesOf n (transitionAt n (byteAt order 1))) (drop 2 order) → named n order ≡ none
+    unfolding named
+    named-nothing e = rw (opens, lt-ltb (byteAt order 1) (length (n .transitions)) lt, numbered-nothing (sizesOf n (transitionAt n (byteAt order 1))) (drop 2 order) e)
+
+    pub named-at : {index : ℕ} → At index ≡ numberOf (sizesOf n (transitionAt n (byteAt order 1))) (drop 2 order)
+        → named n order ≡ some (bound (byteAt order 1) (digits (sizesOf n (transitionAt n (byteAt order 1))) index))
+    unfolding named
+    named-at e =
+        let (fit, small, is) = numbered-at (sizesOf n (transitionAt n (byteAt order 1))) (drop 2 order) e in
+        rw (opens, lt-ltb (byteAt order 1) (length (n .transitions)) lt, fit) (ap (λ colours. some (bound (byteAt order 1) colours)) (sym is))
+
+-- the colours of an order that stands among others, six bytes each
+pub order-colours : (orders : List ℕ) (at : ℕ) → drop 2 (take 6 (drop at orders)) ≡ take 4 (drop (at + 2) orders)
+order-colours orders at = drop-take 2 6 (drop at orders) ∙ ap (take 4) (drop-drop 2 at orders)
+
+pub order-byte : (orders : List ℕ) (at k : ℕ) → k < 6 → byteAt (take 6 (drop at orders)) k ≡ byteAt orders (at + k)
+order-byte orders at k lt = getD-take 6 (drop at orders) k 0 lt ∙ getD-drop at orders k 0
+
+either-left : (a b : Bool) → a ≡ true → a || b ≡ true
+either-left a b e = rw e
+
+either-right : (a b : Bool) → b ≡ true → a || b ≡ true
+either-right true b e = refl
+either-right false b e = e
+
+-- ---- the slots of the code are the binding's colours, in the guard and in each arc
+in-any : {A : Type 0} (test : A → Bool) (l : List A) {a : A} → In a l → test a ≡ true → any test l ≡ true
+unfolding any
+in-any test [] m e = absurd (List·Memᴰ·not-nil m)
+in-any test (b ∷ l) m e = in-cases (λ q. either-left (test b) (any test l) (ap test (sym q) ∙ e)) (λ k. either-right (test b) (any test l) (in-any test l k e)) m
+
+module _ (n : Net) (t : Transition) (i : ℕ) (env : List ℕ) (inside : (v : ℕ) → standsIn (t .guard) (t .arcs) v ≡ true → v < length (n .variables))
+    (given : Bound n (standsIn (t .guard) (t .arcs)) i env) where
+  agrees : (v : ℕ) → standsIn (t .guard) (t .arcs) v ≡ true → getD env v 0 ≡ standsFor (variablesOf n t) (digits (sizesOf n t) i) v
+  unfolding variablesOf
+  agrees v e = given v (inside v e) e
+
+  pub guard-bound : holds n (λ v. getD env v 0) (t .guard) ≡ holds n (standsFor (variablesOf n t) (digits (sizesOf n t) i)) (t .guard)
+  guard-bound =
+      holds-bound n (λ v. getD env v 0) (standsFor (variablesOf n t) (digits (sizesOf n t) i)) (t .guard)
+      (λ v e. agrees v (either-left (inGuard v (t .guard)) (any (λ a. inExpression v (a .expression)) (t .arcs)) e))
+
+  pub arc-bound : (rank : ℕ) {a : Arc} → In a (t .arcs)
+      → weight n (λ v. getD env v 0) rank (a .expression) ≡ weight n (standsFor (variablesOf n t) (digits (sizesOf n t) i)) rank (a .expression)
+  arc-bound rank {a} m =
+      weight-bound n (λ v. getD env v 0) (standsFor (variablesOf n t) (digits (sizesOf n t) i)) rank (a .expression)
+      (λ v e. agrees v (either-right (inGuard v (t .guard)) (any (λ a. inExpression v (a .expression)) (t .arcs)) (in-any (λ a. inExpression v (a .expression)) (t .arcs) m e)))
