@@ -1,1 +1,2 @@
 // The meanings of this crate stand in specs/.
+mod write;
