@@ -38,9 +38,12 @@ append-then {a = a} {b = b} x y = record {
   is = λ written old e n. rw (← append-assoc) (y .is (written ++ a) old (x .is written old e n) (omega (arith, x .next-is, length-append written a)));
 }
 
--- a whole call: the bytes stand over the front
+-- a whole call: the bytes stand over the front, and the next place is how many there are
 pub append-all : {entry exit : List ℕ} {next : ℕ} {bytes : List ℕ} → Appended entry exit 0 next bytes → exit ≡ over bytes entry
 append-all {entry} x = x .is [] entry refl refl
+
+pub append-count : {entry exit : List ℕ} {next : ℕ} {bytes : List ℕ} → Appended entry exit 0 next bytes → next ≡ length bytes
+append-count x = omega (arith, x .next-is)
 
 -- ---- a list written piece by piece
 -- to write the rest is to write the whole list
@@ -62,20 +65,29 @@ module _ {A : Type 0} (f : A → List ℕ) where
     unfolding flatMap
     go-end e = here .goes out at (rw e (append-none out at))
 
--- ---- what is left of the first so many of a list
+-- the bytes of a list, one by one
+pub flatMap-one : (l : List ℕ) → flatMap (λ b. b ∷ []) l ≡ l
+unfolding flatMap
+flatMap-one [] = refl
+flatMap-one (b ∷ l) = ap (λ (m : List ℕ). b ∷ m) (flatMap-one l)
+
+-- ---- what is left of a list, and of the first so many
+pub drop-more : (l : List ℕ) (i : ℕ) → i < length l → drop i l ≡ getD l i 0 ∷ drop (i + 1) l
+drop-more l i h = rw (add-one, drop-cons l i 0 h)
+
+pub drop-none : (l : List ℕ) (i : ℕ) → length l ≤ i → drop i l ≡ []
+drop-none [] zero h = refl
+drop-none [] (suc i) h = refl
+drop-none (x ∷ l) zero h = absurd (omega arith)
+drop-none (x ∷ l) (suc i) h = drop-none l i (omega arith)
+
 pub take-more : (l : List ℕ) (n i : ℕ) → i < n → n ≤ length l → drop i (take n l) ≡ getD l i 0 ∷ drop (i + 1) (take n l)
 take-more l n i h k =
     let e = length-take-le n l k in
     rw (add-one, drop-cons (take n l) i 0 (omega arith), getD-take n l i 0 h)
 
 pub take-none : (l : List ℕ) (n i : ℕ) → n ≤ i → drop i (take n l) ≡ []
-take-none l n i h = drop-past (take n l) i (omega (arith, length-take n l))
-  where
-    drop-past : (s : List ℕ) (i : ℕ) → length s ≤ i → drop i s ≡ []
-    drop-past [] zero h = refl
-    drop-past [] (suc i) h = refl
-    drop-past (x ∷ s) zero h = absurd (omega arith)
-    drop-past (x ∷ s) (suc i) h = drop-past s i (omega arith)
+take-none l n i h = drop-none (take n l) i (omega (arith, length-take n l))
 
 -- ---- lengths
 numbers-length : (a n : ℕ) → length (numbersFrom a n) ≡ n

@@ -24,6 +24,20 @@ pub fn put_byte(out: &mut [u8], at: usize, b: u8) -> usize
     at + 1
 }
 
+// The bytes of a list.
+pub fn put_bytes(s: &[u8], out: &mut [u8], at: usize) -> usize
+    requires { ⌜ at + length (now s) ≤ length (now out) ⌝ }
+    ensures { λ r. ⌜ Appended (now (out .entry)) (now (out .exit)) at r (now (s .entry)) ⌝ }
+{
+    let mut next = at;
+    let mut i = 0;
+    while i < s.len() {
+        next = put_byte(out, next, s[i]);
+        i += 1;
+    }
+    next
+}
+
 fn put_word(out: &mut [u8], at: usize, w: u16) -> usize
     requires { ⌜ at + 2 ≤ length (now out) ⌝ }
     ensures { λ r. ⌜ Appended (now (out .entry)) (now (out .exit)) at r (word w) ⌝ }
