@@ -1,16 +1,21 @@
 -- What the walk over all bindings tells: the rows among the first so many, and a table of row numbers.
 use mathlib.Core.Path.{_≡_}
 use Prim.Native.Nat.{_≤_, _<_}
-use Rattle.reading.specs.Basics.{ℕ, _+_, Bool, true, _||_, List, [], _∷_, filterMap, Option·map, some, length, take, getD, getElem?, any}
+use Rattle.reading.specs.Basics.{ℕ, _+_, Bool, true, _||_, List, [], _∷_, filterMap, Option·map, none, some, length, take, getD, getElem?, any, product}
 use Rattle.reading.specs.Reading.{Answer, fine}
-use Rattle.net.specs.Net.{Guard, always, Transition, Net, net, inGuard, inExpression}
+use Rattle.net.specs.Net.{Guard, always, Transition, Net, net, inGuard, inExpression, sizesOf}
 use Rattle.net.specs.Limits.{Limits}
 use Rattle.net.specs.Reader.{readGuard}
 use Rattle.net.specs.Told.{bits}
 use Rattle.coloured.specs.Effect.{Binding, transitionAt, bindings, effect}
 use Rattle.coloured.specs.Orders.{orderOf}
-use Rattle.coloured.specs.Numbers.{before}
-use Rattle.unfolding.specs.Unfolding.{Rowed, rowNumber}
+use Rattle.coloured.specs.Numbers.{digits, before}
+use Rattle.unfolding.specs.Unfolding.{Rowed, rowNumber, orderOfRow}
+use Rattle.unfolding.specs.declared.order.Order.{Order}
+use Rattle.unfolding.specs.declared.seek.Sought.{Sought}
+use Rattle.unfolding.specs.declared.seek.Sought.the-variants as sought
+use Rattle.unfolding.specs.declared.seek.Located.{Located}
+use Rattle.unfolding.specs.declared.seek.Located.the-variants as located
 
 -- ---- the rows of the first so many bindings, and their number
 abbrev pub rowsAmong : Net → ℕ → List Rowed
@@ -50,3 +55,30 @@ pub record Tables (s : List ℕ) (n : Net) (sizes vars uses guards : List ℕ) (
   pub limits : Limits n
   pub are : length (n .transitions) ≡ count
   pub each : (t : ℕ) → t < count → Listed s n sizes vars (transitionAt n t) (getD uses t 0) (getD guards t 0)
+
+-- ---- what the search for a row tells
+-- the order of binding number i of a transition
+abbrev pub orderAt : Net → ℕ → ℕ → List ℕ
+orderAt n t i = orderOf (record { transition = t; colours = digits (sizesOf n (transitionAt n t)) i })
+
+-- among the bindings of a transition, of which there are so many: the row is one of them, or it comes after them
+abbrev pub SoughtTold : Net → ℕ → ℕ → ℕ → Sought → Type 0
+SoughtTold n t size row (sought.At index) = orderOfRow n row ≡ some (orderAt n t index)
+SoughtTold n t size row (sought.Past count) = (count ≡ passed n (before n t + size)) × (count ≤ row)
+
+abbrev pub SoughtRoom : ℕ → ℕ → Sought → Type 0
+SoughtRoom size count (sought.At index) = index < size
+SoughtRoom size count (sought.Past more) = more ≤ count + size
+
+-- among all
+abbrev pub LocatedTold : Net → ℕ → Located → Type 0
+LocatedTold n row (located.At t index) = orderOfRow n row ≡ some (orderAt n t index)
+LocatedTold n row located.Nowhere = orderOfRow n row ≡ none
+
+abbrev pub LocatedRoom : ℕ → Located → Type 0
+LocatedRoom transitions (located.At t index) = t < transitions
+LocatedRoom transitions located.Nowhere = Unit {0}
+
+-- an order's bytes
+abbrev pub bytesOf : Order → List ℕ
+bytesOf o = 0x60 ∷ o .transition ∷ o .first ∷ o .second ∷ o .third ∷ o .fourth ∷ []
