@@ -8,11 +8,12 @@ use native.Mathlib.Numerals.{add-one}
 use borrow.Author.Tests.{ltb-true, ltb-false}
 use lib.ListN.{set, length-set}
 use lib.Seq.{getD-set-same, getD-set-other}
-use Rattle.reading.specs.Basics.{ℕ, _+_, _*_, Bool, true, false, ltb, _||_, List, [], some, length, getD, getElem?, any, product}
+use Rattle.reading.specs.Basics.{ℕ, _+_, _*_, Bool, true, false, ltb, _||_, List, [], map, some, length, getD, getElem?, keep, below, any, product}
 use Rattle.reading.specs.Reading.{fine}
 use Rattle.reading.proofs.Lists.{below-at}
-use Rattle.net.specs.Net.{always, Transition, Net, net, inGuard, inExpression, variablesOf, sizesOf, bindingSpace}
+use Rattle.net.specs.Net.{always, Transition, Net, net, inGuard, inExpression, sizeOf, variablesOf, sizesOf}
 use Rattle.net.specs.Reader.{readGuard}
+use Rattle.net.specs.Told.{bits}
 use Rattle.net.specs.Values.{holds}
 use Rattle.net.specs.Evaluated.{Held}
 use Rattle.net.specs.Limits.{Limits}
@@ -133,3 +134,28 @@ module _ (n : Net) where
       let k : t ≡ length (n .transitions) = omega arith in
       let all : base ≡ length (bindings n) = here .begin ∙ ap (before n) k ∙ before-all n in
       (rw (← e) (here .starts), rw (← all) (here .held))
+
+-- ---- as the code goes
+-- one binding more of a transition whose bindings begin at base
+pub number-turn : (n : Net) (t : ℕ) → Limits n → t < length (n .transitions) → {size base i count next x : ℕ} {numbers after : List ℕ} → i < size
+    → size ≡ product (sizesOf n (transitionAt n t)) → base ≡ before n t → (count ≡ passed n (base + i)) × Numbers n numbers (base + i)
+    → (i < product (sizesOf n (transitionAt n t)) → count ≡ passed n (before n t + i) → next ≡ passed n (before n t + i + 1))
+    → (count < next → count < 65536 → x ≡ count) → (next ≤ count → x ≡ 4294967295) → length numbers ≡ 65536 → after ≡ set numbers (base + i) x
+    → (next ≡ passed n (base + (i + 1))) × Numbers n after (base + (i + 1))
+number-turn n t limits lt {size} {base} {i} {count} {next} {x} {numbers} {after} less is b here more row none len e =
+    let inside : i < product (sizesOf n (transitionAt n t)) = omega arith in
+    let at : base + i ≡ before n t + i = omega arith in
+    let end : base + (i + 1) ≡ before n t + i + 1 = omega arith in
+    let was : count ≡ passed n (before n t + i) = here .0 ∙ ap (passed n) at in
+    let is : next ≡ passed n (before n t + i + 1) = more inside was in
+    rw (end, e, at) (is, number-stored n t i limits lt inside was is row none len (rw at at (here .1)))
+
+-- how many bindings a transition has
+pub size-told : {s sizes vars uses guards : List ℕ} {n : Net} {k : ℕ} → Tables s n sizes vars uses guards k → (t : ℕ) → t < k → {size : ℕ}
+    → ((m : Net) (p : ℕ → Bool) → m .sets ≡ sizes → m .variables ≡ vars → length (m .variables) ≤ 32 → getD uses t 0 ≡ bits p 32
+    → length (keep p (below (length (m .variables)))) ≤ 4 → size ≡ product (map (λ v. sizeOf m (getD (m .variables) v 0)) (keep p (below (length (m .variables))))))
+    → size ≡ product (sizesOf n (transitionAt n t))
+unfolding variablesOf
+size-told {n = n} tables t lt told =
+    let l = tables .each t lt in
+    told n (stands (transitionAt n t)) (l .sets) (l .variables) (tables .limits .variables) (l .used) (tables .limits .few-variables t (omega (arith, tables .are)))

@@ -1,3 +1,5 @@
+use mathlib.Core.Path.{sym}
+use lib.Seq.{set-out}
 use borrow.Author.Needs.{needs}
 use Rattle.unfolding.proofs.walk.store.Statement.{statement}
 use Rattle.unfolding.proofs.walk.store.Tie as tie
@@ -22,7 +24,7 @@ returns c = search needs
 
 -- src/walk.rt:64:1
 returns-2 : tie.Need-returns-2
-returns-2 c = ?
+returns-2 c = sym (set-out (c .before .args .numbers .now) (c .before .args .at) (c .before .args .number) (c .if1 .left))
 
 pub store-spec : {M : Type 1} → statement M
 store-spec = tie.close (tie.spec mul-numbers slice-write-numbers same-length returns returns-2)
