@@ -6,13 +6,13 @@ use native.Mathlib.Omega.{arith}
 use native.Mathlib.Nat.{add-zero}
 use native.Mathlib.Numerals.{add-one}
 use lib.ListN.{set, length-append, length-drop, length-map, length-take}
-use lib.Seq.{drop-cons, getD-take, length-take-le}
+use lib.Seq.{drop-cons, take-append-seam, getD-take, length-take-le}
 use Rattle.reading.specs.Basics.{ℕ, zero, suc, _+_, _*_, _-_, List, [], _∷_, _++_, flatMap, length, getD, take, drop, over, numbersFrom}
 use Rattle.firing.specs.Arcs.{arcsIn, rowIn}
 use Rattle.firing.specs.Steps.{arcAt}
 use Rattle.firing.proofs.Running.{over-set}
 use Rattle.flat.specs.Flat.{arcBytes, rowBytes}
-use Rattle.flat.proofs.Written.{length-row, length-arcs}
+use Rattle.flat.proofs.Written.{placeBytes, length-places, length-row, length-arcs}
 use Rattle.unfolding.specs.Out.{Appended}
 
 -- nothing
@@ -44,6 +44,10 @@ append-all {entry} x = x .is [] entry refl refl
 
 pub append-count : {entry exit : List ℕ} {next : ℕ} {bytes : List ℕ} → Appended entry exit 0 next bytes → next ≡ length bytes
 append-count x = omega (arith, x .next-is)
+
+-- the front of what is left
+pub front : (bytes lent : List ℕ) → take (length bytes) (over bytes lent) ≡ bytes
+front bytes lent = take-append-seam bytes (drop (length bytes) lent)
 
 -- ---- a list written piece by piece
 -- to write the rest is to write the whole list
@@ -112,4 +116,14 @@ length-row-in places weights takes puts hinders h k =
     let t = length-arcs-in places weights 0 takes in
     let p = length-arcs-in places weights takes puts in
     let q = length-arcs-in places weights puts hinders in
-    length-row (rowIn places weights takes puts hinders) ∙ (let z : _ ≡ _ = omega arith in z)
+    omega (arith, length-row (rowIn places weights takes puts hinders))
+
+-- the place behind a row
+pub next-row : (places weights : List ℕ) (takes puts hinders : ℕ) {entry exit : List ℕ} {at next : ℕ} → takes ≤ puts → puts ≤ hinders
+    → Appended entry exit at next (rowBytes (rowIn places weights takes puts hinders)) → next ≡ at + (1 + 5 * hinders)
+next-row places weights takes puts hinders h k x = omega (arith, x .next-is, length-row-in places weights takes puts hinders h k)
+
+-- the place behind the first so many places' counts
+pub next-places : (initial : List ℕ) (count : ℕ) {entry exit : List ℕ} {at next : ℕ} → count ≤ length initial
+    → Appended entry exit at next (flatMap placeBytes (take count initial)) → next ≡ at + 3 * count
+next-places initial count h x = omega (arith, x .next-is, length-places (take count initial), length-take-le count initial h)
