@@ -1,8 +1,14 @@
 // Reads net files. The meanings of this crate stand in specs/.
+mod arc;
+mod clear;
 mod evaluate;
 mod expression;
+mod place;
 mod space;
 mod table;
+mod token;
+mod transition;
+mod transitions;
 
 pub use evaluate::Ranked;
 pub use evaluate::Tested;
@@ -26,6 +32,7 @@ ghost use Rattle.reading.specs.Reading.{whole};
 ghost use Rattle.net.specs.Net.{net, Place, coloursOf, equal, less};
 ghost use Rattle.net.specs.Reader.{readColour, readGuard, readGuardIf, comparison, setPart, variablePart, placePart};
 ghost use Rattle.net.specs.Told.{colourTold, guardTold, setStep, setsRead, Room, RoomFor, declaredRead, declaring, Few, placeStep};
+ghost use Rattle.net.specs.Tables.{PlaceRoom};
 
 // A whole expression: the place after it, its set and its variables; or the first fault.
 pub enum Read {
@@ -512,9 +519,10 @@ pub enum PlaceStep {
 // The place command at a place, after so many places with so many colours together.
 pub fn place_at(s: &[u8], sets: &[u8], count: usize, total: usize, at: usize) -> PlaceStep
     requires { ⌜ total ≤ 4096 ⌝ }
-    ensures { λ r. ⌜ ((variables : List ℕ) (places : List Place) → length places ≡ count
+    ensures is { λ r. ⌜ ((variables : List ℕ) (places : List Place) → length places ≡ count
         → sum (map (coloursOf (net (now (sets .entry)) variables [] [] [])) places) ≡ total
         → placePart (now (s .entry)) (net (now (sets .entry)) variables [] [] []) places at ≡ placeStep places r) ⌝ }
+    ensures room { λ r. ⌜ PlaceRoom (now (sets .entry)) (length (now (s .entry))) count total at r ⌝ }
 {
     if s.len() <= at {
         return PlaceStep::Done;
