@@ -47,8 +47,7 @@ module _ {s sizes vars : List ℕ} {n : Net} {t : Transition} {uses guard : ℕ}
       → Held (net sizes vars (n .places) [] []) slots r (readGuard s (net sizes vars (n .places) [] []) 16 guard) → r .holds ≡ holds n env (t .guard)
   unfolding variablesOf
   guard-told slots r h given held =
-      let (next, e) = listed .standing .reads (omega arith) in
-      let is = subst (Held (net sizes vars (n .places) [] []) slots r) e held in
+      let is = subst (Held (net sizes vars (n .places) [] []) slots r) (listed .standing .stands (omega arith) .reads) held in
       ap (λ x. x .holds) is
       ∙ sym (holds-alike n (net sizes vars (n .places) [] []) (listed .sets) (listed .variables) (λ v. getD slots v 0) (t .guard))
       ∙ holds-bound n (λ v. getD slots v 0) env (t .guard)

@@ -2,10 +2,9 @@
 use mathlib.Core.Path.{_≡_}
 use Prim.Native.Nat.{_≤_, _<_}
 use Rattle.reading.specs.Basics.{ℕ, _+_, Bool, true, _||_, List, [], _∷_, filterMap, Option·map, none, some, length, take, getD, getElem?, any, product}
-use Rattle.reading.specs.Reading.{Answer, fine}
-use Rattle.net.specs.Net.{Guard, always, Transition, Net, net, inGuard, inExpression, sizesOf}
+use Rattle.net.specs.Net.{Transition, Net, net, inGuard, inExpression, sizesOf}
 use Rattle.net.specs.Limits.{Limits}
-use Rattle.net.specs.Reader.{readGuard}
+use Rattle.net.specs.Tables.{GuardHolds}
 use Rattle.net.specs.Told.{bits}
 use Rattle.coloured.specs.Effect.{Binding, transitionAt, bindings, effect}
 use Rattle.coloured.specs.Orders.{orderOf}
@@ -37,18 +36,13 @@ pub record Bases (n : Net) (bases : List ℕ) (t : ℕ) : Type 0 where
 abbrev pub stands : Transition → ℕ → Bool
 stands t v = inGuard v (t .guard) || any (λ a. inExpression v (a .expression)) (t .arcs)
 
--- a guard by the place where it stands in the file; 0 where there is none
-pub record GuardAt (read : ℕ → Answer Guard) (g : Guard) (at : ℕ) : Type 0 where
-  pub without : at ≡ 0 → g ≡ always
-  pub reads : 0 < at → (next : ℕ) × (read at ≡ fine g next)
-
 -- of one transition: its variables as bits, and where its guard stands
 pub record Listed (s : List ℕ) (n : Net) (sizes vars : List ℕ) (t : Transition) (uses guard : ℕ) : Type 0 where
   pub sets : n .sets ≡ sizes
   pub variables : n .variables ≡ vars
   pub used : uses ≡ bits (stands t) 32
   pub inside : (v : ℕ) → inGuard v (t .guard) ≡ true → v < length (n .variables)
-  pub standing : GuardAt (readGuard s (net sizes vars (n .places) [] []) 16) (t .guard) guard
+  pub standing : GuardHolds s (net sizes vars (n .places) [] []) (t .guard) guard
 
 -- of a net: so many transitions, each with its variables and its guard
 pub record Tables (s : List ℕ) (n : Net) (sizes vars uses guards : List ℕ) (count : ℕ) : Type 0 where
