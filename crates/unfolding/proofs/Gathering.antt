@@ -4,7 +4,7 @@ use Prim.Native.Nat.{_≤_, _<_, _-_}
 use native.Mathlib.Omega.{arith}
 use native.Mathlib.Nat.{div-one, div-div-eq-div-mul, mul-comm}
 use lib.Seq.{take-take}
-use Rattle.reading.specs.Basics.{ℕ, suc, _+_, _*_, _/_, _%_, Bool, true, false, List, [], _∷_, _++_, map, length, take, if_then_else_, keep, numbersFrom, below, product}
+use Rattle.reading.specs.Basics.{ℕ, suc, _+_, _*_, _/_, _%_, Bool, true, false, List, [], _∷_, _++_, map, length, take, keep, numbersFrom, product}
 use Rattle.net.specs.Net.{Net}
 use Rattle.net.specs.Told.{bits}
 use Rattle.net.proofs.Spaces.{keep-bits}
@@ -48,7 +48,7 @@ module _ (p : ℕ → Bool) (size : ℕ → ℕ) (n : ℕ) where
         let l : List ℕ = digits (from (v + 1)) i ++ (0 ∷ 0 ∷ 0 ∷ 0 ∷ []) in
         let three : take 3 l ≡ a ∷ b ∷ c ∷ [] = sym (take-take 3 4 l (omega arith)) ∙ ap (take 3) (here .colours) in
         let x : left / size v ≡ i / (size v * product (from (v + 1))) =
-            ap (λ y. y / size v) (here .rest) ∙ div-div-eq-div-mul i (product (from (v + 1))) (size v) ∙ ap (λ y. i / y) (mul-comm (product (from (v + 1))) (size v)) in
+        ap (λ y. y / size v) (here .rest) ∙ div-div-eq-div-mul i (product (from (v + 1))) (size v) ∙ ap (λ y. i / y) (mul-comm (product (from (v + 1))) (size v)) in
         record {
           rest = rw (from-in v lt e) x;
           colours = rw (from-in v lt e) (ap₂ (λ x l. x ∷ l) (ap (λ y. y % size v) (sym (here .rest))) three);

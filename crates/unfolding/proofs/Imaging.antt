@@ -1,17 +1,16 @@
 -- The row number of an order, by the table; and images, order after order. Assumes nothing.
-use mathlib.Core.Path.{_≡_, refl, sym, ap, _∙_, subst}
+use mathlib.Core.Path.{_≡_, refl, sym, ap, _∙_}
 use Prim.Native.Nat.{_≤_, _<_}
 use native.Mathlib.Omega.{arith}
 use native.Mathlib.Nat.{add-zero}
 use native.Mathlib.Numerals.{add-one}
 use lib.ListN.{length-drop}
 use lib.Seq.{drop-cons, length-take-le}
-use Rattle.reading.specs.Basics.{ℕ, zero, suc, _+_, _*_, _/_, List, [], _∷_, none, some, length, take, drop, getD, flatMap, byteAt, items, over, product}
+use Rattle.reading.specs.Basics.{ℕ, zero, suc, _+_, _*_, _/_, List, [], _∷_, length, take, drop, getD, byteAt, items, over}
 use Rattle.reading.proofs.Lists.{below-at, getD-at}
 use Rattle.firing.proofs.Running.{item-at, length-items}
 use Rattle.net.specs.Net.{Net, variablesOf, sizesOf}
 use Rattle.coloured.specs.Effect.{transitionAt, bindings}
-use Rattle.coloured.specs.Orders.{named}
 use Rattle.coloured.specs.Numbers.{digits, before, those, sizesOver, numberOf}
 use Rattle.coloured.specs.declared.binding.Numbered.{Numbered}
 use Rattle.coloured.specs.declared.binding.Numbered.the-variants.{At, Nothing}

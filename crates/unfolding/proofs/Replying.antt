@@ -1,17 +1,16 @@
 -- The calls for images and for the order of a row, on a net file that is read whole, or refused. Assumes nothing.
-use mathlib.Core.Path.{_≡_, sym, ap, _∙_, subst}
+use mathlib.Core.Path.{_≡_, ap, subst}
 use Prim.Native.Nat.{_≤_, _<_}
 use borrow.Author.Tests.{le-leb, lt-leb, eq-eqb, ne-eqb}
-use native.Mathlib.Omega.{arith}
 use Rattle.reading.specs.Basics.{ℕ, _*_, _/_, _%_, List, none, some, length, over}
 use Rattle.reading.specs.Reading.{Outcome, accepted, refused, failing}
-use Rattle.net.specs.Net.{Net, variablesOf, sizesOf}
+use Rattle.net.specs.Net.{Net, variablesOf}
 use Rattle.net.specs.Reader.{readNet}
 use Rattle.coloured.specs.Effect.{transitionAt}
 use Rattle.coloured.specs.Orders.{orderOf}
 use Rattle.coloured.specs.Numbers.{digits, those, sizesOver}
-use Rattle.unfolding.specs.Unfolding.{WriteCall, images, orderOfRow, imagesCall, orderCall}
-use Rattle.unfolding.specs.Walked.{stands, orderAt, LocatedTold, LocatedRoom, bytesOf}
+use Rattle.unfolding.specs.Unfolding.{WriteCall, images, imagesCall, orderCall}
+use Rattle.unfolding.specs.Walked.{stands, LocatedTold, LocatedRoom, bytesOf}
 use Rattle.unfolding.specs.declared.order.Order.{Order}
 use Rattle.unfolding.specs.declared.seek.Located.{Located}
 use Rattle.unfolding.specs.declared.seek.Located.the-variants.{At, Nowhere}

@@ -1,8 +1,8 @@
 -- The search for the binding of a row. Assumes nothing.
-use mathlib.Core.Path.{_≡_, refl, sym, ap, _∙_, subst}
+use mathlib.Core.Path.{_≡_, sym, ap, _∙_, subst}
 use Prim.Native.Nat.{_≤_, _<_}
 use native.Mathlib.Omega.{arith}
-use Rattle.reading.specs.Basics.{ℕ, _+_, List, none, some, length, product}
+use Rattle.reading.specs.Basics.{ℕ, _+_, none, some, length, product}
 use Rattle.net.specs.Net.{Net, sizesOf}
 use Rattle.coloured.specs.Effect.{transitionAt, bindings}
 use Rattle.coloured.specs.Numbers.{before}

@@ -4,14 +4,12 @@ use mathlib.Core.Logic.{⊎-elim}
 use Prim.Native.Nat.{_≤_, _<_}
 use native.Mathlib.Omega.{arith}
 use native.Mathlib.Nat.{eq-or-lt-of-le}
-use native.Mathlib.Numerals.{add-one}
 use borrow.Author.Tests.{ltb-true, ltb-false}
-use lib.ListN.{set, length-set}
+use lib.ListN.{set}
 use lib.Seq.{getD-set-same, getD-set-other}
-use Rattle.reading.specs.Basics.{ℕ, _+_, _*_, Bool, true, false, ltb, _||_, List, [], map, some, length, getD, getElem?, keep, below, any, product}
-use Rattle.reading.specs.Reading.{fine}
+use Rattle.reading.specs.Basics.{ℕ, _+_, Bool, true, false, ltb, _||_, List, [], map, some, length, getD, getElem?, keep, below, any, product}
 use Rattle.reading.proofs.Lists.{below-at}
-use Rattle.net.specs.Net.{always, Transition, Net, net, inGuard, inExpression, sizeOf, variablesOf, sizesOf}
+use Rattle.net.specs.Net.{Transition, Net, net, inGuard, inExpression, sizeOf, variablesOf, sizesOf}
 use Rattle.net.specs.Reader.{readGuard}
 use Rattle.net.specs.Told.{bits}
 use Rattle.net.specs.Values.{holds}
@@ -88,7 +86,7 @@ module _ (n : Net) (t i : ℕ) (limits : Limits n) (lt : t < length (n .transiti
       → (count < next → count < 65536 → x ≡ count) → (next ≤ count → x ≡ 4294967295) → length numbers ≡ 65536
       → Numbers n numbers (before n t + i) → Numbers n (set numbers (before n t + i) x) (before n t + i + 1)
   number-stored {numbers} {count} {next} {x} is more row none len held = record {
-      number = λ j b below at.
+    number = λ j b below at.
         let le : j ≤ before n t + i = omega arith in
         let room : before n t + i < length numbers = omega (arith, below-at (bindings n) (before n t + i) here, bindings-length n, limits .space) in
         ⊎-elim
@@ -97,7 +95,7 @@ module _ (n : Net) (t i : ℕ) (limits : Limits n) (lt : t < length (n .transiti
         rw (e, ← eq) (getD-set-same numbers (before n t + i) x 0 room ∙ number-is is more row none))
         (λ less. getD-set-other numbers (before n t + i) j x 0 (λ e. omega arith) ∙ held .number j b less at)
         (eq-or-lt-of-le le);
-    }
+  }
 
 -- ---- one transition after another
 -- so many transitions are numbered, with so many bindings and rows
@@ -119,10 +117,12 @@ module _ (n : Net) where
       record {
         begin = e;
         rows = told .0;
-        starts = record { base = λ u below. ⊎-elim
-          (λ q. rw q (getD-set-same bases t base 0 room ∙ here .begin))
-          (λ less. getD-set-other bases t u base 0 (λ q. omega arith) ∙ here .starts .base u less)
-          (eq-or-lt-of-le (let le : u ≤ t = omega arith in le)) };
+        starts = record {
+          base = λ u below. ⊎-elim
+              (λ q. rw q (getD-set-same bases t base 0 room ∙ here .begin))
+              (λ less. getD-set-other bases t u base 0 (λ q. omega arith) ∙ here .starts .base u less)
+              (eq-or-lt-of-le (let le : u ≤ t = omega arith in le));
+        };
         held = told .1;
       }
 

@@ -3,20 +3,19 @@ use mathlib.Core.Path.{_≡_, refl, sym, ap, _∙_}
 use mathlib.Core.List.{append-nil, filterMap-append, filterMap-cons-none, filterMap-cons-some}
 use Prim.Native.Nat.{_≤_, _<_}
 use native.Mathlib.Omega.{arith}
-use native.Mathlib.Numerals.{add-one}
 use lib.ListN.{length-append, length-take}
 use lib.Seq.{take-all}
-use Rattle.reading.specs.Basics.{ℕ, zero, suc, _+_, _%_, Bool, true, false, List, [], _∷_, _++_, filterMap, Option, none, some, Option·map, length, take, drop, getD, getElem?, given, position, same, with}
+use Rattle.reading.specs.Basics.{ℕ, zero, suc, _+_, Bool, true, false, List, [], _∷_, _++_, filterMap, Option, none, some, Option·map, length, take, drop, getElem?, with}
 use Rattle.reading.proofs.Lists.{Apart, at-in, length-filterMap}
 use Rattle.firing.specs.Firing.{Weights}
-use Rattle.firing.proofs.Running.{take-with, split-here, inside}
-use Rattle.net.specs.Net.{Net, variablesOf, sizesOf}
+use Rattle.firing.proofs.Running.{take-with, split-here}
+use Rattle.net.specs.Net.{Net, variablesOf}
 use Rattle.net.specs.Values.{holds}
 use Rattle.net.specs.Limits.{Limits}
 use Rattle.coloured.specs.Effect.{Binding, transitionAt, standsFor, weightsOf, bindings, effect}
 use Rattle.coloured.specs.Orders.{orderOf, named}
 use Rattle.coloured.proofs.Named.{order-names, named-order, orders-apart}
-use Rattle.unfolding.specs.Unfolding.{Rowed, rows, rowNumber, orderOfRow}
+use Rattle.unfolding.specs.Unfolding.{rows, rowNumber, orderOfRow}
 use Rattle.unfolding.specs.Walked.{rowsAmong, passed}
 use Rattle.unfolding.proofs.Numbering.{at-number}
 use Rattle.unfolding.proofs.Rows.{rowed, rowedIf, rowed-is, noRow, absent-row}

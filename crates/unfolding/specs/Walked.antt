@@ -1,7 +1,7 @@
 -- What the walk over all bindings tells: the rows among the first so many, and a table of row numbers.
 use mathlib.Core.Path.{_≡_}
 use Prim.Native.Nat.{_≤_, _<_}
-use Rattle.reading.specs.Basics.{ℕ, _+_, Bool, true, _||_, List, [], _∷_, filterMap, Option·map, none, some, length, take, getD, getElem?, any, product}
+use Rattle.reading.specs.Basics.{ℕ, _+_, Bool, true, _||_, List, [], _∷_, filterMap, Option·map, none, some, length, take, getD, getElem?, any}
 use Rattle.net.specs.Net.{Transition, Net, net, inGuard, inExpression, sizesOf}
 use Rattle.net.specs.Limits.{Limits}
 use Rattle.net.specs.Tables.{GuardHolds}

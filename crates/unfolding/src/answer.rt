@@ -84,16 +84,7 @@ pub fn write_images(
     let mut next: usize = 0;
     let mut i: usize = 0;
     while i < count {
-        let row = row_of(
-            sizes,
-            vars,
-            uses,
-            transitions,
-            bases,
-            numbers,
-            orders,
-            i,
-        );
+        let row = row_of(sizes, vars, uses, transitions, bases, numbers, orders, i);
         next = write_image(row, out, next);
         i += 1;
     }

@@ -33,8 +33,13 @@ struct Gathered {
 fn ahead(uses: u32, sizes: &[u8], vars: &[u8], v: usize, g: Gathered) -> Gathered
     ensures out { λ r. ⌜ (member uses v ≡ false → r ≡ g) ⌝ }
     ensures inside { λ r. ⌜ (member uses v ≡ true → 1 ≤ sizeIn (now (sizes .entry)) (now (vars .entry)) v
-        → r ≡ record { first = g .left % sizeIn (now (sizes .entry)) (now (vars .entry)) v; second = g .first; third = g .second; fourth = g .third;
-        left = g .left / sizeIn (now (sizes .entry)) (now (vars .entry)) v }) ⌝ }
+        → r ≡ record {
+          first = g .left % sizeIn (now (sizes .entry)) (now (vars .entry)) v;
+          second = g .first;
+          third = g .second;
+          fourth = g .third;
+          left = g .left / sizeIn (now (sizes .entry)) (now (vars .entry)) v;
+        }) ⌝ }
 {
     let size = size_of(sizes, vars, v);
     if size < 1 {

@@ -4,13 +4,13 @@ use net::bindings_of;
 use net::eval_guard;
 ghost use mathlib.Core.Path.{_≡_};
 ghost use Prim.Native.Nat.{ℕ, _≤_, _<_, _+_};
-ghost use lib.ListN.{length, getD, set};
+ghost use lib.ListN.{length, set};
 ghost use Rattle.reading.specs.Basics.{product};
 ghost use Rattle.net.specs.Net.{Net, Transition, variablesOf, sizesOf};
 ghost use Rattle.net.specs.Values.{holds};
 ghost use Rattle.net.specs.Limits.{Limits};
 ghost use Rattle.coloured.specs.Effect.{transitionAt, standsFor, bindings};
-ghost use Rattle.coloured.specs.Numbers.{digits, before, Coloured};
+ghost use Rattle.coloured.specs.Numbers.{digits, before};
 ghost use Rattle.unfolding.specs.Walked.{passed, Numbers, Bases, Listed, Tables};
 
 // Whether a transition's guard holds in its binding number i. A guard at 0 is none.
@@ -126,7 +126,17 @@ pub fn number_all(
     while t < transitions {
         bases[t] = base;
         let size = bindings_of(uses[t], sizes, vars);
-        count = number_those(s, sizes, vars, uses[t], guards[t], size, base, count, numbers);
+        count = number_those(
+            s,
+            sizes,
+            vars,
+            uses[t],
+            guards[t],
+            size,
+            base,
+            count,
+            numbers,
+        );
         base += size;
         t += 1;
     }

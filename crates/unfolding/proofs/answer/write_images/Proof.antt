@@ -11,51 +11,14 @@ use Rattle.unfolding.proofs.Appending.{go-begin}
 use Rattle.unfolding.proofs.Imaging.{Imaging, image-next, image-end}
 use Rattle.unfolding.proofs.answer.write_images.Statement.{statement}
 use Rattle.unfolding.proofs.answer.write_images.Tie as tie
-use Rattle.unfolding.proofs.answer.write_images.Reads as reads
-use Rattle.unfolding.proofs.answer.write_images.Lts as lts
-use Rattle.unfolding.proofs.answer.row_of.Reads as row-of-reads
-use Rattle.unfolding.proofs.write.write_image.Reads as write-image-reads
 
 abbrev Inv-loop : tie.InvT-loop
-Inv-loop sizes vars uses transitions bases numbers orders out₀ count next₀ i₀ out next i = 
+Inv-loop sizes vars uses transitions bases numbers orders out₀ count next₀ i₀ out next i =
     (i ≤ count) × (next ≡ i * 5) × (length out ≡ length out₀)
     × ((s guards : List ℕ) (n : Net) → Tables s n sizes vars uses guards transitions → Bases n bases transitions → Numbers n numbers (length (bindings n)) → Imaging n orders out₀ out i next)
 
 abbrev μ-loop : tie.MeasureT-loop
 μ-loop sizes vars uses transitions bases numbers orders out₀ count next₀ i₀ out next i = count - i
-
--- src/answer.rt:86:5
-loop-holds : tie.Need-loop-holds Inv-loop μ-loop
-loop-holds c = (omega arith, omega arith, refl, λ s guards n tables starts held. go-begin _ _ _ _)
-
--- src/answer.rt:87:13
-row-of-requires : tie.Need-row-of-requires Inv-loop μ-loop
-row-of-requires c κs = search needs
-
--- src/answer.rt:97:9
-write-image-requires : tie.Need-write-image-requires Inv-loop μ-loop
-write-image-requires c κs = omega arith
-
--- src/answer.rt:98:9
-add-i : tie.Need-add-i Inv-loop μ-loop
-add-i c = omega arith
-
--- src/answer.rt:86:5
-loop-less : tie.Need-loop-less Inv-loop μ-loop
-loop-less c = omega arith
-
--- src/answer.rt:86:5
-loop-again : tie.Need-loop-again Inv-loop μ-loop
-loop-again c = (omega arith, (let e : c .before .before .write-image .result ≡ c .before .before .before .before .before .before .loop .next + 5 = c .before .before .write-image .ensures .next-is in omega arith), c .before .before .write-image .kept .1 .0 ∙ c .before .before .before .before .before .before .loop .inv .2, λ s guards n tables starts held.
-    image-next n (c .before .before .before .before .before .before .before .before .before .before .before .before .before .before .args .orders .now) (c .before .before .before .before .before .before .loop .inv .3 s guards n tables starts held) (c .before .before .before .before .before .loop-test .taken) (c .before .before .before .before .row-of .ensures s guards n tables starts held) (c .before .before .write-image .ensures))
-
--- src/answer.rt:64:1
-same-length : tie.Need-same-length Inv-loop μ-loop
-same-length c = c .before .loop .inv .2
-
--- src/answer.rt:64:1
-returns : tie.Need-returns Inv-loop μ-loop
-returns c = λ s guards n tables starts held. image-end n (c .before .before .before .before .before .before .before .before .before .args .orders .now) (c .before .loop .inv .3 s guards n tables starts held) (c .loop-test .left)
 
 pub write-images-spec : {M : Type 1} → statement M
 write-images-spec =
@@ -63,11 +26,17 @@ write-images-spec =
     (tie.spec
     Inv-loop
     μ-loop
-    loop-holds
-    row-of-requires
-    write-image-requires
-    add-i
-    loop-less
-    loop-again
-    same-length
-    returns)
+    (λ c. (omega arith, omega arith, refl, λ s guards n tables starts held. go-begin _ _ _ _))
+    (λ c κs. search needs)
+    (λ c κs. omega arith)
+    (λ c. omega arith)
+    (λ c. omega arith)
+    (λ c. (
+      omega arith,
+      (let e : c .before .before .write-image .result ≡ c .before .before .before .before .before .before .loop .next + 5 = c .before .before .write-image .ensures .next-is in omega arith),
+      c .before .before .write-image .kept .1 .0 ∙ c .before .before .before .before .before .before .loop .inv .2,
+      λ s guards n tables starts held.
+          image-next n (c .before .before .before .before .before .before .before .before .before .before .before .before .before .before .args .orders .now) (c .before .before .before .before .before .before .loop .inv .3 s guards n tables starts held) (c .before .before .before .before .before .loop-test .taken) (c .before .before .before .before .row-of .ensures s guards n tables starts held) (c .before .before .write-image .ensures),
+    ))
+    (λ c. c .before .loop .inv .2)
+    (λ c. λ s guards n tables starts held. image-end n (c .before .before .before .before .before .before .before .before .before .args .orders .now) (c .before .loop .inv .3 s guards n tables starts held) (c .loop-test .left)))

@@ -1,7 +1,6 @@
-use borrow.Author.Needs.{needs}
 use native.Mathlib.Omega.{arith}
 use native.Mathlib.Nat.{add-zero}
-use mathlib.Core.Path.{_≡_, refl, subst}
+use mathlib.Core.Path.{_≡_, subst}
 use Prim.Native.Nat.{ℕ, _≤_, _<_, _+_, _-_}
 use lib.ListN.{length}
 use Rattle.reading.specs.Basics.{product}
@@ -13,12 +12,9 @@ use Rattle.unfolding.specs.Walked.{passed, Listed}
 use Rattle.unfolding.proofs.Seeking.{sought-here, sought-next}
 use Rattle.unfolding.proofs.seek.seek_in.Statement.{statement}
 use Rattle.unfolding.proofs.seek.seek_in.Tie as tie
-use Rattle.unfolding.proofs.seek.seek_in.Reads as reads
-use Rattle.unfolding.proofs.seek.seek_in.Lts as lts
-use Rattle.unfolding.proofs.walk.count_one.Reads as count-one-reads
 
 abbrev Inv-loop : tie.InvT-loop
-Inv-loop s sizes vars uses guard size row count total₀ i₀ total i = 
+Inv-loop s sizes vars uses guard size row count total₀ i₀ total i =
     (i ≤ size) × (total ≤ count + i)
     × ((n : Net) (t : ℕ) → Limits n → t < length (n .transitions) → Listed s n sizes vars (transitionAt n t) uses guard → size ≡ product (sizesOf n (transitionAt n t))
     → count ≡ passed n (before n t) → count ≤ row → (total ≡ passed n (before n t + i)) × (total ≤ row))
@@ -26,51 +22,33 @@ Inv-loop s sizes vars uses guard size row count total₀ i₀ total i =
 abbrev μ-loop : tie.MeasureT-loop
 μ-loop s sizes vars uses guard size row count total₀ i₀ total i = size - i
 
--- src/seek.rt:39:5
-loop-holds : tie.Need-loop-holds Inv-loop μ-loop
-loop-holds c = (omega arith, omega arith, λ n t limits lt listed is rows le. (rw add-zero rows, le))
-
--- src/seek.rt:40:13
-count-one-requires : tie.Need-count-one-requires Inv-loop μ-loop
-count-one-requires c κs = omega arith
-
--- src/seek.rt:42:13
-returns : tie.Need-returns Inv-loop μ-loop
-returns c = (λ n t limits lt listed is rows le.
-    let here = c .before .before .before .loop .inv .2 n t limits lt listed is rows le in
-    let inside : c .before .before .before .loop .i < product (sizesOf n (transitionAt n t)) = omega arith in
-    sought-here n t (c .before .before .before .loop .i) lt inside (here .0) (c .before .count-one .ensures .0 n t limits lt listed inside (here .0)) (here .1) (c .if1 .taken), c .before .before .loop-test .taken)
-
--- src/seek.rt:45:9
-add-i : tie.Need-add-i Inv-loop μ-loop
-add-i c = omega arith
-
--- src/seek.rt:39:5
-loop-less : tie.Need-loop-less Inv-loop μ-loop
-loop-less c = omega arith
-
--- src/seek.rt:39:5
-loop-again : tie.Need-loop-again Inv-loop μ-loop
-loop-again c = (omega arith, omega arith, λ n t limits lt listed is rows le.
-    let here = c .before .before .before .loop .inv .2 n t limits lt listed is rows le in
-    (sought-next n t (c .before .before .before .loop .i) (c .before .count-one .ensures .0 n t limits lt listed (omega arith) (here .0)), c .if1 .left))
-
--- src/seek.rt:21:1
-returns-2 : tie.Need-returns-2 Inv-loop μ-loop
-returns-2 c = (λ n t limits lt listed is rows le.
-    let e : c .before .loop .i ≡ c .before .before .before .before .before .args .size = omega arith in
-    subst (λ k. (c .before .loop .total ≡ passed n (before n t + k)) × (c .before .loop .total ≤ c .before .before .before .before .before .args .row)) e (c .before .loop .inv .2 n t limits lt listed is rows le), omega arith)
-
 pub seek-in-spec : {M : Type 1} → statement M
 seek-in-spec =
     tie.close
     (tie.spec
     Inv-loop
     μ-loop
-    loop-holds
-    count-one-requires
-    returns
-    add-i
-    loop-less
-    loop-again
-    returns-2)
+    (λ c. (omega arith, omega arith, λ n t limits lt listed is rows le. (rw add-zero rows, le)))
+    (λ c κs. omega arith)
+    (λ c. (
+      λ n t limits lt listed is rows le.
+          let here = c .before .before .before .loop .inv .2 n t limits lt listed is rows le in
+          let inside : c .before .before .before .loop .i < product (sizesOf n (transitionAt n t)) = omega arith in
+          sought-here n t (c .before .before .before .loop .i) lt inside (here .0) (c .before .count-one .ensures .0 n t limits lt listed inside (here .0)) (here .1) (c .if1 .taken),
+      c .before .before .loop-test .taken,
+    ))
+    (λ c. omega arith)
+    (λ c. omega arith)
+    (λ c. (
+      omega arith,
+      omega arith,
+      λ n t limits lt listed is rows le.
+          let here = c .before .before .before .loop .inv .2 n t limits lt listed is rows le in
+          (sought-next n t (c .before .before .before .loop .i) (c .before .count-one .ensures .0 n t limits lt listed (omega arith) (here .0)), c .if1 .left),
+    ))
+    (λ c. (
+      λ n t limits lt listed is rows le.
+          let e : c .before .loop .i ≡ c .before .before .before .before .before .args .size = omega arith in
+          subst (λ k. (c .before .loop .total ≡ passed n (before n t + k)) × (c .before .loop .total ≤ c .before .before .before .before .before .args .row)) e (c .before .loop .inv .2 n t limits lt listed is rows le),
+      omega arith,
+    )))

@@ -13,14 +13,9 @@ use Rattle.unfolding.specs.Walked.{passed, Numbers, Listed}
 use Rattle.unfolding.proofs.Tabled.{number-turn}
 use Rattle.unfolding.proofs.walk.number_those.Statement.{statement}
 use Rattle.unfolding.proofs.walk.number_those.Tie as tie
-use Rattle.unfolding.proofs.walk.number_those.Reads as reads
-use Rattle.unfolding.proofs.walk.number_those.Lts as lts
-use Rattle.unfolding.proofs.walk.count_one.Reads as count-one-reads
-use Rattle.unfolding.proofs.walk.number_of.Reads as number-of-reads
-use Rattle.unfolding.proofs.walk.store.Reads as store-reads
 
 abbrev Inv-loop : tie.InvT-loop
-Inv-loop s sizes vars uses guard size base count numbers₀ total₀ i₀ numbers total i = 
+Inv-loop s sizes vars uses guard size base count numbers₀ total₀ i₀ numbers total i =
     (i ≤ size) × (total ≤ base + i) × (length numbers ≡ length numbers₀)
     × ((n : Net) (t : ℕ) → Limits n → t < length (n .transitions) → Listed s n sizes vars (transitionAt n t) uses guard → size ≡ product (sizesOf n (transitionAt n t))
     → base ≡ before n t → count ≡ passed n base → Numbers n numbers₀ base → (total ≡ passed n (base + i)) × Numbers n numbers (base + i))
@@ -28,62 +23,30 @@ Inv-loop s sizes vars uses guard size base count numbers₀ total₀ i₀ number
 abbrev μ-loop : tie.MeasureT-loop
 μ-loop s sizes vars uses guard size base count numbers₀ total₀ i₀ numbers total i = size - i
 
--- src/walk.rt:95:5
-loop-holds : tie.Need-loop-holds Inv-loop μ-loop
-loop-holds c = (omega arith, omega arith, refl, λ n t limits lt listed is b rows held. rw add-zero (rows, held))
-
--- src/walk.rt:96:13
-count-one-requires : tie.Need-count-one-requires Inv-loop μ-loop
-count-one-requires c κs = search needs
-
--- src/walk.rt:97:24
-add-store : tie.Need-add-store Inv-loop μ-loop
-add-store c = omega arith
-
--- src/walk.rt:97:34
-number-of-requires : tie.Need-number-of-requires Inv-loop μ-loop
-number-of-requires c κs = search needs
-
--- src/walk.rt:97:9
-store-requires : tie.Need-store-requires Inv-loop μ-loop
-store-requires c κs = search needs
-
--- src/walk.rt:99:9
-add-i : tie.Need-add-i Inv-loop μ-loop
-add-i c = omega arith
-
--- src/walk.rt:95:5
-loop-less : tie.Need-loop-less Inv-loop μ-loop
-loop-less c = omega arith
-
--- src/walk.rt:95:5
-loop-again : tie.Need-loop-again Inv-loop μ-loop
-loop-again c = (omega arith, omega arith, c .before .before .store .kept .0 ∙ c .before .before .before .before .before .before .before .loop .inv .2, λ n t limits lt listed is b rows held.
-    number-turn n t limits lt (c .before .before .before .before .before .before .loop-test .taken) is b (c .before .before .before .before .before .before .before .loop .inv .3 n t limits lt listed is b rows held) (c .before .before .before .before .before .count-one .ensures .0 n t limits lt listed)
-    (c .before .before .before .number-of .ensures .0) (c .before .before .before .number-of .ensures .1) (omega arith) (c .before .before .store .ensures))
-
--- src/walk.rt:73:1
-same-length : tie.Need-same-length Inv-loop μ-loop
-same-length c = c .before .loop .inv .2
-
--- src/walk.rt:73:1
-returns : tie.Need-returns Inv-loop μ-loop
-returns c = (λ n t limits lt listed is b rows held. subst (λ k. (c .before .loop .total ≡ passed n (c .before .before .before .before .before .before .args .base + k)) × Numbers n (c .before .loop .numbers) (c .before .before .before .before .before .before .args .base + k))
-    (let e : c .before .loop .i ≡ c .before .before .before .before .before .before .args .size = omega arith in e) (c .before .loop .inv .3 n t limits lt listed is b rows held), omega arith)
-
 pub number-those-spec : {M : Type 1} → statement M
 number-those-spec =
     tie.close
     (tie.spec
     Inv-loop
     μ-loop
-    loop-holds
-    count-one-requires
-    add-store
-    number-of-requires
-    store-requires
-    add-i
-    loop-less
-    loop-again
-    same-length
-    returns)
+    (λ c. (omega arith, omega arith, refl, λ n t limits lt listed is b rows held. rw add-zero (rows, held)))
+    (λ c κs. search needs)
+    (λ c. omega arith)
+    (λ c κs. search needs)
+    (λ c κs. search needs)
+    (λ c. omega arith)
+    (λ c. omega arith)
+    (λ c. (
+      omega arith,
+      omega arith,
+      c .before .before .store .kept .0 ∙ c .before .before .before .before .before .before .before .loop .inv .2,
+      λ n t limits lt listed is b rows held.
+          number-turn n t limits lt (c .before .before .before .before .before .before .loop-test .taken) is b (c .before .before .before .before .before .before .before .loop .inv .3 n t limits lt listed is b rows held) (c .before .before .before .before .before .count-one .ensures .0 n t limits lt listed)
+          (c .before .before .before .number-of .ensures .0) (c .before .before .before .number-of .ensures .1) (omega arith) (c .before .before .store .ensures),
+    ))
+    (λ c. c .before .loop .inv .2)
+    (λ c. (
+      λ n t limits lt listed is b rows held. subst (λ k. (c .before .loop .total ≡ passed n (c .before .before .before .before .before .before .args .base + k)) × Numbers n (c .before .loop .numbers) (c .before .before .before .before .before .before .args .base + k))
+          (let e : c .before .loop .i ≡ c .before .before .before .before .before .before .args .size = omega arith in e) (c .before .loop .inv .3 n t limits lt listed is b rows held),
+      omega arith,
+    )))
