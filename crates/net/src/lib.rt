@@ -3,6 +3,7 @@ mod arc;
 mod clear;
 mod evaluate;
 mod expression;
+mod file;
 mod place;
 mod space;
 mod table;
@@ -20,6 +21,8 @@ pub use evaluate::eval_guard_if;
 pub use evaluate::eval_weight;
 pub use evaluate::next_rank;
 pub use expression::read_expression;
+pub use file::NetRead;
+pub use file::read_net;
 pub use space::bindings_of;
 pub use space::count_of;
 pub use table::width;
@@ -32,7 +35,7 @@ ghost use Rattle.reading.specs.Reading.{whole};
 ghost use Rattle.net.specs.Net.{net, Place, coloursOf, equal, less};
 ghost use Rattle.net.specs.Reader.{readColour, readGuard, readGuardIf, comparison, setPart, variablePart, placePart};
 ghost use Rattle.net.specs.Told.{colourTold, guardTold, setStep, setsRead, Room, RoomFor, declaredRead, declaring, Few, placeStep};
-ghost use Rattle.net.specs.Tables.{PlaceRoom};
+ghost use Rattle.net.specs.Tables.{PlaceRoom, FewDeclared};
 
 // A whole expression: the place after it, its set and its variables; or the first fault.
 pub enum Read {
@@ -416,7 +419,8 @@ fn variable_at(s: &[u8], sets: &[u8], count: usize, at: usize) -> SetStep
 // The variable part: each variable's set goes into the front of a lent list of 32.
 pub fn read_variables(s: &[u8], sets: &[u8], vars: &mut [u8], start: usize) -> Counted
     requires { ⌜ length (now vars) ≡ 32 ⌝ }
-    ensures { λ r. ⌜ setsRead (now (vars .exit)) r ≡ whole (now (s .entry)) (variablePart (now (s .entry)) (net (now (sets .entry)) [] [] [] [])) [] start ⌝ }
+    ensures few { λ r. ⌜ Few 32 r ⌝ }
+    ensures is { λ r. ⌜ setsRead (now (vars .exit)) r ≡ whole (now (s .entry)) (variablePart (now (s .entry)) (net (now (sets .entry)) [] [] [] [])) [] start ⌝ }
 {
     let mut count: usize = 0;
     let mut at = start;
@@ -454,7 +458,8 @@ pub enum Declared {
 pub fn read_declared(s: &[u8], sizes: &mut [u8], vars: &mut [u8], start: usize) -> Declared
     requires { ⌜ length (now sizes) ≡ 16 ⌝ }
     requires { ⌜ length (now vars) ≡ 32 ⌝ }
-    ensures { λ r. ⌜ declaredRead (now (sizes .exit)) (now (vars .exit)) r ≡ declaring (now (s .entry)) start ⌝ }
+    ensures few { λ r. ⌜ FewDeclared r ⌝ }
+    ensures is { λ r. ⌜ declaredRead (now (sizes .exit)) (now (vars .exit)) r ≡ declaring (now (s .entry)) start ⌝ }
 {
     match read_sets(s, sizes, start) {
         Counted::Fault { number, place } => Declared::Fault { number, place },
