@@ -158,23 +158,23 @@ fn joined(
         (twoOf (readExpression (now (s .entry)) (net (now (sizes .entry)) (now (vars .entry)) places [] []) (placeOf first second) left) (joins less) (at + 1)))) ⌝ }
     ensures small { λ r. ⌜ Small r ⌝ }
 {
-    let a = read_expression(s, sizes, vars, first, second, left, at + 1);
+    let e = read_expression(s, sizes, vars, first, second, left, at + 1);
     let Read::Whole {
         next: more,
         set: one,
         uses,
-    } = a
+    } = e
     else {
-        return a;
+        return e;
     };
-    let b = read_expression(s, sizes, vars, first, second, left, more);
+    let f = read_expression(s, sizes, vars, first, second, left, more);
     let Read::Whole {
         next,
         set: two,
         uses: others,
-    } = b
+    } = f
     else {
-        return b;
+        return f;
     };
     if less {
         return capped(one, next, uses | others, at);

@@ -1,16 +1,28 @@
 // Reads net files. The meanings of this crate stand in specs/.
 mod arc;
 mod clear;
+mod evaluate;
 mod expression;
 mod file;
 mod place;
+mod table;
 mod token;
 mod transition;
 mod transitions;
 
+pub use evaluate::Ranked;
+pub use evaluate::Tested;
+pub use evaluate::Value;
+pub use evaluate::Weighed;
+pub use evaluate::eval_colour;
+pub use evaluate::eval_guard;
+pub use evaluate::eval_guard_if;
+pub use evaluate::eval_weight;
+pub use evaluate::next_rank;
 pub use expression::read_expression;
 pub use file::NetRead;
 pub use file::read_net;
+pub use table::width;
 ghost use mathlib.Core.Path.{_≡_};
 ghost use mathlib.Core.List.{List, [], map};
 ghost use Prim.Native.Nat.{ℕ, _≤_, _<_, _^_};

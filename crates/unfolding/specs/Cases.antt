@@ -7,7 +7,8 @@ use Rattle.firing.specs.Calls.{fireCall, firstCall}
 use Rattle.flat.specs.Flat.{writeFlat}
 use Rattle.net.specs.Net.{constant, Expression, one, all, minus, net, setOf, ceiling, inColour, inGuard, inExpression, variablesOf, bindingSpace}
 use Rattle.net.specs.Reader.{widthOf, readColour, readGuard, readExpression, setPart, variablePart, placePart, readGuardIf, arcPart, transitionPart, tokensPart, readNet}
-use Rattle.coloured.specs.Effect.{choices, bindings, standsFor, colour, holds, weight, flatPlaces, effect}
+use Rattle.net.specs.Values.{colour, holds, weight}
+use Rattle.coloured.specs.Effect.{choices, bindings, standsFor, flatPlaces, effect}
 use Rattle.coloured.specs.Orders.{fits, named, fireOrder, fireOrders, firstOrder}
 use Rattle.unfolding.specs.Unfolding.{rows, unfolded, rowNumber, image, images, imagesCall, decimal, program}
 

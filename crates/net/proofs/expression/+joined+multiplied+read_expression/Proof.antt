@@ -84,12 +84,12 @@ unfolding bits ceiling commands inExpression
     (λ c κs. search needs)
     (λ c. search needs)
     (λ c. search needs)
-    (λ c. let g = c .enum-told2 .given .1 in (λ places. g ∙ joined-second _ _ _ _ _ _ (c .before .before .before .before .before .before .before .before .before .before .args .less) (sym (c .before .before .before .before .a .given .1) ∙ c .before .before .before .before .before .before .read-expression .ensures .0 places) (sym g ∙ c .before .before .read-expression2 .ensures .0 places), rw g tt))
+    (λ c. let g = c .enum-told2 .given .1 in (λ places. g ∙ joined-second _ _ _ _ _ _ (c .before .before .before .before .before .before .before .before .before .before .args .less) (sym (c .before .before .before .before .e .given .1) ∙ c .before .before .before .before .before .before .read-expression .ensures .0 places) (sym g ∙ c .before .before .read-expression2 .ensures .0 places), rw g tt))
     (λ c κs. search needs)
-    (λ c. (λ places. c .capped .ensures .0 ∙ rw (c .before .if1 .taken) (joined-whole _ _ _ _ _ _ true (sym (c .before .before .before .before .before .before .before .a .given .1) ∙ c .before .before .before .before .before .before .before .before .before .read-expression .ensures .0 places) (sym (c .before .before .before .b .given .1) ∙ c .before .before .before .before .before .read-expression2 .ensures .0 places)), c .capped .ensures .1))
-    (λ c. omega (arith, rw (c .before .before .before .before .before .before .a .given .1) at (c .before .before .before .before .before .before .before .before .read-expression .ensures .1), rw (c .before .before .b .given .1) at (c .before .before .before .before .read-expression2 .ensures .1)))
+    (λ c. (λ places. c .capped .ensures .0 ∙ rw (c .before .if1 .taken) (joined-whole _ _ _ _ _ _ true (sym (c .before .before .before .before .before .before .before .e .given .1) ∙ c .before .before .before .before .before .before .before .before .before .read-expression .ensures .0 places) (sym (c .before .before .before .f .given .1) ∙ c .before .before .before .before .before .read-expression2 .ensures .0 places)), c .capped .ensures .1))
+    (λ c. omega (arith, rw (c .before .before .before .before .before .before .e .given .1) at (c .before .before .before .before .before .before .before .before .read-expression .ensures .1), rw (c .before .before .f .given .1) at (c .before .before .before .before .read-expression2 .ensures .1)))
     (λ c κs. search needs)
-    (λ c. (λ places. c .capped2 .ensures .0 ∙ rw (c .before .if1 .left) (joined-whole _ _ _ _ _ _ false (sym (c .before .before .before .before .before .before .before .a .given .1) ∙ c .before .before .before .before .before .before .before .before .before .read-expression .ensures .0 places) (sym (c .before .before .before .b .given .1) ∙ c .before .before .before .before .before .read-expression2 .ensures .0 places)), c .capped2 .ensures .1)))
+    (λ c. (λ places. c .capped2 .ensures .0 ∙ rw (c .before .if1 .left) (joined-whole _ _ _ _ _ _ false (sym (c .before .before .before .before .before .before .before .e .given .1) ∙ c .before .before .before .before .before .before .before .before .before .read-expression .ensures .0 places) (sym (c .before .before .before .f .given .1) ∙ c .before .before .before .before .before .read-expression2 .ensures .0 places)), c .capped2 .ensures .1)))
     (λ t. multiplied-lts.spec (
       word-at-reads.Asked,
       word-at-reads.Learnt,
