@@ -127,6 +127,7 @@ module _ (s : List ℕ) (bytes : (i : ℕ) → byteAt s i < 256) (n : Net) where
 
 -- ---- the rank of a count
 module _ (s : List ℕ) (n : Net) (env : List ℕ) (left next : ℕ) (p : Value) (first : Valued n env p (readColour s n left next)) (set other count at : ℕ) where
+  -- of one colour, and of two
   pub one-ranks : Ranks n env count (record { rank = p .colour; next = p .next }) (amount n (readColour s n left) (single set) count at next)
   unfolding weight
   one-ranks =
@@ -176,6 +177,7 @@ module _ (s : List ℕ) (n : Net) (env : List ℕ) (place : Place) (left at : �
           (rank-weighs n env (wordAt s (at + 1)) k rank (amount n (readColour s n (left - 1)) place (wordAt s (at + 1)) at (at + 3)) h))
 
       module _ (k : Ranked) (count : Ranks n env (wordAt s (at + 1)) k (amount n (readColour s n (left - 1)) place (wordAt s (at + 1)) at (at + 3))) where
+        -- 0x40 at its own rank, and elsewhere
         pub here-weighs : k .rank ≡ rank → byteAt s at ≡ 0x40 → Weighs n env rank (record { weight = wordAt s (at + 1); next = k .next }) (readExpression s n place left at)
         here-weighs i e = rw (eq-eqb (k .rank) rank i) at (amount-weighs k count e)
 
@@ -183,6 +185,7 @@ module _ (s : List ℕ) (n : Net) (env : List ℕ) (place : Place) (left at : �
         elsewhere-weighs i e = rw (ne-eqb (k .rank) rank i) at (amount-weighs k count e)
 
       module _ (p : Weighed) (first : Weighs n env rank p (readExpression s n place (left - 1) (at + 1))) (q : Weighed) (second : Weighs n env rank q (readExpression s n place (left - 1) (p .next))) where
+        -- 0x42 and 0x43
         pub plus-weighs : byteAt s at ≡ 0x42 → Weighs n env rank (record { weight = limit (p .weight + q .weight); next = q .next }) (readExpression s n place left at)
         unfolding commands weight ceiling
         plus-weighs b =
@@ -205,6 +208,7 @@ module _ (s : List ℕ) (n : Net) (env : List ℕ) (place : Place) (left at : �
             let h = rw f at (rw (ap (λ (r : Weighed). r .next) g) at second) in
             rw (g, h))))
 
+      -- 0x44
       pub times-weighs : (p : Weighed) → Weighs n env rank p (readExpression s n place (left - 1) (at + 3)) → byteAt s at ≡ 0x44
           → Weighs n env rank (record { weight = limit (wordAt s (at + 1) * p .weight); next = p .next }) (readExpression s n place left at)
       unfolding commands weight ceiling
@@ -217,6 +221,7 @@ module _ (s : List ℕ) (n : Net) (env : List ℕ) (place : Place) (left at : �
 
   -- ---- the next rank
   module _ (from : ℕ) where
+    -- 0x41 may have a weight at once
     pub all-skips : byteAt s at ≡ 0x41 → Skips n env from (record { rank = from; next = at + 3 }) (readExpression s n place left at)
     unfolding commands
     all-skips e =
@@ -224,6 +229,7 @@ module _ (s : List ℕ) (n : Net) (env : List ℕ) (place : Place) (left at : �
 
     module _ (le : 1 ≤ left) where
       module _ (k : Ranked) (count : Ranks n env (wordAt s (at + 1)) k (amount n (readColour s n (left - 1)) place (wordAt s (at + 1)) at (at + 3))) where
+        -- 0x40 has its one rank, or none where that is past
         pub amount-skips : byteAt s at ≡ 0x40 → Skips n env from k (readExpression s n place left at)
         unfolding commands
         amount-skips e =
@@ -237,6 +243,7 @@ module _ (s : List ℕ) (n : Net) (env : List ℕ) (place : Place) (left at : �
             (rank-past n env (wordAt s (at + 1)) k from far (amount n (readColour s n (left - 1)) place (wordAt s (at + 1)) at (at + 3)) past count))
 
       module _ (p : Ranked) (first : Skips n env from p (readExpression s n place (left - 1) (at + 1))) (q : Ranked) (second : Skips n env from q (readExpression s n place (left - 1) (p .next))) where
+        -- 0x42 has the lesser of both, 0x43 that of its first
         pub plus-skips : (low : ℕ) → low ≤ p .rank → low ≤ q .rank → byteAt s at ≡ 0x42 → Skips n env from (record { rank = low; next = q .next }) (readExpression s n place left at)
         unfolding commands weight
         plus-skips low i j b =
@@ -258,6 +265,7 @@ module _ (s : List ℕ) (n : Net) (env : List ℕ) (place : Place) (left at : �
             (h .0, λ rank l lt. let u = g .1 rank l lt in omega arith))))
 
       module _ (p : Ranked) (first : Skips n env from p (readExpression s n place (left - 1) (at + 3))) where
+        -- 0x44 has that of its expression, none with a factor of 0
         pub times-skips : byteAt s at ≡ 0x44 → Skips n env from p (readExpression s n place left at)
         unfolding commands weight
         times-skips b =
@@ -335,6 +343,7 @@ pub by-place : (Q : Place → Type 0) (paired : Bool) → ((first second : ℕ) 
 by-place Q paired h (single set) e = rw (← e) at h set 0
 by-place Q paired h (pair first second) e = rw (← e) at h first second
 
+-- a place given by its second set is a pair unless that is 255
 pub of-second : (first second : ℕ) → isPair (placeOf first second) ≡ not (eqb second 255)
 of-second first second = go (eqb second 255)
   where
