@@ -55,7 +55,7 @@ module _ (n : Net) (limits : Limits n) where
   rows-few = let h = length-filterMap (rowedIf n) (bindings n) in omega (arith, bindings-length n, limits .space)
 
   -- no order has a number without a row of its binding
-  absent-row : (order : List ℕ) → ((b : Binding) (w : Weights) → named n order ≡ some b → effect n b ≡ some w → ⊥) → rowNumber n order ≡ noRow
+  pub absent-row : (order : List ℕ) → ((b : Binding) (w : Weights) → named n order ≡ some b → effect n b ≡ some w → ⊥) → rowNumber n order ≡ noRow
   unfolding rows rowNumber
   absent-row order h = go (position (λ r. same (r .order) order) (rows n)) refl
     where

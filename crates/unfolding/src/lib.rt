@@ -1,1 +1,222 @@
-// The meanings of this crate stand in specs/.
+// The unfolding: the images of orders, and the order of a row. The meanings of this crate stand in specs/.
+mod answer;
+mod seek;
+mod text;
+mod walk;
+mod write;
+
+use answer::write_images;
+pub use coloured::Order;
+use coloured::order_at;
+use net::NetRead;
+use net::read_net;
+use seek::Located;
+use seek::seek_row;
+use walk::number_all;
+ghost use mathlib.Core.Path.{_≡_};
+ghost use Prim.Native.Nat.{_≤_};
+ghost use lib.ListN.{length, take};
+ghost use Rattle.reading.specs.Reading.{accepted};
+ghost use Rattle.net.specs.Net.{Net};
+ghost use Rattle.net.specs.Reader.{readNet};
+ghost use Rattle.unfolding.specs.Unfolding.{imagesCall, orderCall};
+ghost use Rattle.unfolding.specs.Walked.{Tables};
+ghost use Rattle.unfolding.specs.Replies.{imagesCalled, orderReply};
+
+// The first so many of a list.
+fn front(l: &[u8], n: usize) -> &[u8]
+    ensures { λ r. ⌜ now r ≡ take n (now (l .entry)) ⌝ }
+{
+    if n <= l.len() { &l[..n] } else { l }
+}
+
+// How many orders were answered, or the refusal.
+pub enum ImagesReply {
+    Answered { count: usize },
+    Refused { number: u8, place: usize },
+}
+
+// The images of orders on a net that has been read.
+fn images_of(
+    s: &[u8],
+    sizes: &[u8],
+    vars: &[u8],
+    uses: &[u32],
+    guards: &[u16],
+    transitions: usize,
+    orders: &[u8],
+    out: &mut [u8],
+) -> ImagesReply
+    requires { ⌜ transitions ≤ 32 ⌝ }
+    requires { ⌜ length (now uses) ≡ 32 ⌝ }
+    requires { ⌜ length (now guards) ≡ 32 ⌝ }
+    ensures { λ r. ⌜ ((n : Net) → readNet (now (s .entry)) ≡ accepted n
+        → Tables (now (s .entry)) n (now (sizes .entry)) (now (vars .entry)) (now (uses .entry)) (now (guards .entry)) transitions
+        → imagesCalled r (now (out .exit)) ≡ imagesCall (now (s .entry)) (now (orders .entry)) (now (out .entry))) ⌝ }
+{
+    if orders.len() % 6 != 0 {
+        return ImagesReply::Refused {
+            number: 13,
+            place: 0,
+        };
+    }
+    let count = orders.len() / 6;
+    if out.len() < count * 5 {
+        return ImagesReply::Refused {
+            number: 14,
+            place: 0,
+        };
+    }
+    let mut bases = [0usize; 32];
+    let mut numbers = [0u32; 65536];
+    number_all(
+        s,
+        sizes,
+        vars,
+        uses,
+        guards,
+        transitions,
+        &mut bases,
+        &mut numbers,
+    );
+    write_images(
+        sizes,
+        vars,
+        uses,
+        transitions,
+        &bases,
+        &numbers,
+        orders,
+        out,
+    );
+    ImagesReply::Answered { count }
+}
+
+// Writes the image of each order of a list, 6 bytes each, on a net file. A refusal writes nothing.
+pub fn images(net: &[u8], orders: &[u8], out: &mut [u8]) -> ImagesReply
+    ensures { λ r. ⌜ imagesCalled r (now (out .exit)) ≡ imagesCall (now (net .entry)) (now (orders .entry)) (now (out .entry)) ⌝ }
+{
+    let mut sizes = [0u8; 16];
+    let mut vars = [0u8; 32];
+    let mut firsts = [0u8; 32];
+    let mut seconds = [0u8; 32];
+    let mut starts = [0usize; 33];
+    let mut uses = [0u32; 32];
+    let mut guards = [0u16; 32];
+    let mut arcs = [0u16; 3072];
+    let mut initial = [0u16; 4096];
+    let mut named = [0u8; 4096];
+    let read = read_net(
+        net,
+        &mut sizes,
+        &mut vars,
+        &mut firsts,
+        &mut seconds,
+        &mut starts,
+        &mut uses,
+        &mut guards,
+        &mut arcs,
+        &mut initial,
+        &mut named,
+    );
+    match read {
+        NetRead::Refused { number, place } => ImagesReply::Refused { number, place },
+        NetRead::Whole {
+            sets,
+            variables,
+            places: _,
+            total: _,
+            transitions,
+            space: _,
+        } => images_of(
+            net,
+            front(&sizes, sets),
+            front(&vars, variables),
+            &uses,
+            &guards,
+            transitions,
+            orders,
+            out,
+        ),
+    }
+}
+
+// The order of a row, none where there is no such row, or the refusal.
+pub enum OrderReply {
+    Found { order: Order },
+    NoRow,
+    Refused { number: u8, place: usize },
+}
+
+// The order of a row of a net that has been read.
+fn order_of(
+    s: &[u8],
+    sizes: &[u8],
+    vars: &[u8],
+    uses: &[u32],
+    guards: &[u16],
+    transitions: usize,
+    row: u32,
+) -> OrderReply
+    requires { ⌜ transitions ≤ 32 ⌝ }
+    requires { ⌜ length (now uses) ≡ 32 ⌝ }
+    requires { ⌜ length (now guards) ≡ 32 ⌝ }
+    ensures { λ r. ⌜ ((n : Net) → readNet (now (s .entry)) ≡ accepted n
+        → Tables (now (s .entry)) n (now (sizes .entry)) (now (vars .entry)) (now (uses .entry)) (now (guards .entry)) transitions
+        → orderReply r ≡ orderCall (now (s .entry)) row) ⌝ }
+{
+    match seek_row(s, sizes, vars, uses, guards, transitions, row as usize) {
+        Located::Nowhere => OrderReply::NoRow,
+        Located::At { transition, index } => OrderReply::Found {
+            order: order_at(uses[transition], sizes, vars, transition as u8, index),
+        },
+    }
+}
+
+// The order of a row of a net file's flat net.
+pub fn row_order(net: &[u8], row: u32) -> OrderReply
+    ensures { λ r. ⌜ orderReply r ≡ orderCall (now (net .entry)) row ⌝ }
+{
+    let mut sizes = [0u8; 16];
+    let mut vars = [0u8; 32];
+    let mut firsts = [0u8; 32];
+    let mut seconds = [0u8; 32];
+    let mut starts = [0usize; 33];
+    let mut uses = [0u32; 32];
+    let mut guards = [0u16; 32];
+    let mut arcs = [0u16; 3072];
+    let mut initial = [0u16; 4096];
+    let mut named = [0u8; 4096];
+    let read = read_net(
+        net,
+        &mut sizes,
+        &mut vars,
+        &mut firsts,
+        &mut seconds,
+        &mut starts,
+        &mut uses,
+        &mut guards,
+        &mut arcs,
+        &mut initial,
+        &mut named,
+    );
+    match read {
+        NetRead::Refused { number, place } => OrderReply::Refused { number, place },
+        NetRead::Whole {
+            sets,
+            variables,
+            places: _,
+            total: _,
+            transitions,
+            space: _,
+        } => order_of(
+            net,
+            front(&sizes, sets),
+            front(&vars, variables),
+            &uses,
+            &guards,
+            transitions,
+            row,
+        ),
+    }
+}

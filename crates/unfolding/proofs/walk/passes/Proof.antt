@@ -1,0 +1,17 @@
+use Rattle.coloured.proofs.Ordering.{limits-coloured}
+use Rattle.unfolding.specs.Walked.{stands}
+use Rattle.unfolding.proofs.Tabled.{guard-none, guard-told}
+use borrow.Author.Needs.{needs}
+use Rattle.unfolding.proofs.walk.passes.Statement.{statement}
+use Rattle.unfolding.proofs.walk.passes.Tie as tie
+
+pub passes-spec : {M : Type 1} → statement M
+passes-spec =
+    tie.close
+    (tie.spec
+    (λ c. λ n t limits listed. guard-none listed _ (c .if1 .taken))
+    (λ c. search needs)
+    (λ c κs. search needs)
+    (λ c. search needs)
+    (λ c κs. search needs)
+    (λ c. λ n t limits listed. guard-told listed _ _ _ (c .before .before .before .before .before .if1 .left) (c .before .before .before .set-binding .ensures n (stands t) (listed .sets) (listed .variables) (limits .variables) (listed .used) (limits-coloured n limits) (limits .variables)) (c .eval-guard .ensures (n .places))))

@@ -1,0 +1,89 @@
+// The way back: from a row number to its binding.
+use crate::walk::count_one;
+use net::bindings_of;
+ghost use mathlib.Core.Path.{_≡_};
+ghost use Prim.Native.Nat.{ℕ, _≤_, _<_, _+_};
+ghost use lib.ListN.{length};
+ghost use Rattle.reading.specs.Basics.{product};
+ghost use Rattle.net.specs.Net.{Net, sizesOf};
+ghost use Rattle.net.specs.Limits.{Limits};
+ghost use Rattle.coloured.specs.Effect.{transitionAt};
+ghost use Rattle.coloured.specs.Numbers.{before};
+ghost use Rattle.unfolding.specs.Walked.{passed, Listed, Tables, SoughtTold, SoughtRoom, LocatedTold, LocatedRoom};
+
+// A row among the bindings of one transition, or how many rows there are with them.
+pub enum Sought {
+    At { index: usize },
+    Past { count: usize },
+}
+
+// Seeks a row among the bindings of one transition, after so many rows.
+fn seek_in(
+    s: &[u8],
+    sizes: &[u8],
+    vars: &[u8],
+    uses: u32,
+    guard: u16,
+    size: usize,
+    row: usize,
+    count: usize,
+) -> Sought
+    requires { ⌜ count + size ≤ 1000000000000 ⌝ }
+    ensures is { λ r. ⌜ ((n : Net) (t : ℕ) → Limits n → t < length (n .transitions)
+        → Listed (now (s .entry)) n (now (sizes .entry)) (now (vars .entry)) (transitionAt n t) uses guard
+        → size ≡ product (sizesOf n (transitionAt n t)) → count ≡ passed n (before n t) → count ≤ row → SoughtTold n t size row r) ⌝ }
+    ensures room { λ r. ⌜ SoughtRoom size count r ⌝ }
+{
+    let mut total = count;
+    let mut i: usize = 0;
+    while i < size {
+        let next = count_one(s, sizes, vars, uses, guard, i, total);
+        if row < next {
+            return Sought::At { index: i };
+        }
+        total = next;
+        i += 1;
+    }
+    Sought::Past { count: total }
+}
+
+// A binding by its transition and its number there, or none.
+pub enum Located {
+    At { transition: usize, index: usize },
+    Nowhere,
+}
+
+// The binding of a row.
+pub fn seek_row(
+    s: &[u8],
+    sizes: &[u8],
+    vars: &[u8],
+    uses: &[u32],
+    guards: &[u16],
+    transitions: usize,
+    row: usize,
+) -> Located
+    requires { ⌜ transitions ≤ 32 ⌝ }
+    requires { ⌜ length (now uses) ≡ 32 ⌝ }
+    requires { ⌜ length (now guards) ≡ 32 ⌝ }
+    ensures is { λ r. ⌜ ((n : Net) → Tables (now (s .entry)) n (now (sizes .entry)) (now (vars .entry)) (now (uses .entry)) (now (guards .entry)) transitions
+        → LocatedTold n row r) ⌝ }
+    ensures room { λ r. ⌜ LocatedRoom transitions r ⌝ }
+{
+    let mut count: usize = 0;
+    let mut t: usize = 0;
+    while t < transitions {
+        let size = bindings_of(uses[t], sizes, vars);
+        match seek_in(s, sizes, vars, uses[t], guards[t], size, row, count) {
+            Sought::At { index } => return Located::At {
+                transition: t,
+                index,
+            },
+            Sought::Past { count: more } => {
+                count = more;
+                t += 1;
+            }
+        }
+    }
+    Located::Nowhere
+}
