@@ -20,6 +20,9 @@ module _ (sizes vars : List ℕ) (places : List Place) (few : length vars ≤ 32
   unfolding variablesOf
   variables-are = rw uses (keep-same (λ v. inTransition v t) _ (length vars) (λ v lt. sym (bits-in (λ v. inTransition v t) 32 v (omega arith))))
 
+  pub at-most-four : length (chosen set (length vars)) ≤ 4 → length (variablesOf (net sizes vars places [] []) t) ≤ 4
+  at-most-four le = rw variables-are le
+
   pub product-is : product (sizesOf (net sizes vars places [] []) t) ≡ productOf sizes vars set (length vars)
   product-is = ap (λ l. product (map (sizeFor sizes vars) l)) variables-are
 

@@ -11,7 +11,7 @@ use Rattle.reading.specs.Basics.{ℕ, zero, suc, _+_, _*_, List, [], _∷_, _++
 use Rattle.reading.specs.Reading.{Answer, fine, fault, _andThen_, standing, whole}
 use Rattle.reading.proofs.Commands.{past, end, other, passes, done, fails, standing-past, standing-none, stands-cut, stands-fails, stands-goes}
 use Rattle.reading.proofs.Within.{Ends}
-use Rattle.net.specs.Net.{Guard, always, Arc, Transition, Net, placeAt, arcOn, bindingSpace, inGuard, inExpression}
+use Rattle.net.specs.Net.{Guard, always, Arc, Transition, Net, placeAt, arcOn, variablesOf, bindingSpace, inGuard, inExpression}
 use Rattle.net.specs.Reader.{command, readGuard, readGuardIf, readExpression, arcPart, ended, transitionPart}
 use Rattle.net.specs.Told.{bits, guardTold}
 use Rattle.net.specs.Tables.{Standing, RowHolds, ArcsRead, guardPlace, GuardHolds, TransitionHolds, inTransition, inside, TransitionRead, TransitionTold, TransitionFew}
@@ -87,12 +87,12 @@ module _ (s : List ℕ) (n : Net) (transitions : List Transition) (at : ℕ) whe
       end-faults e = ap some (ends-by ∙ e)
 
       pub transition-read : {space : ℕ} → ended s n transitions at (record { guard = g .value; arcs = a .arcs }) last ≡ fine (with transitions (record { guard = g .value; arcs = a .arcs })) last
-          → bindingSpace n (with transitions (record { guard = g .value; arcs = a .arcs })) ≡ space
+          → bindingSpace n (with transitions (record { guard = g .value; arcs = a .arcs })) ≡ space → length (variablesOf n (record { guard = g .value; arcs = a .arcs })) ≤ 4
           → TransitionRead s n transitions (some (inside s n transitions at)) (λ i. getD row i 0) (guardPlace s (at + 1)) (bitOr used uses) space last
-      transition-read e f = record {
+      transition-read e f h = record {
         transition = record { guard = g .value; arcs = a .arcs };
         goes = ap some (ends-by ∙ e);
-        holds = record { guarded = guard-holds s n (at + 1) (g .value) more (g .is); arced = a .holds; used = variables-joined };
+        holds = record { guarded = guard-holds s n (at + 1) (g .value) more (g .is); arced = a .holds; used = variables-joined; few = h };
         wide = f;
       }
 
@@ -143,7 +143,7 @@ module _ (s : List ℕ) (n : Net) (few : length (n .places) ≤ 32) (f g : ℕ �
   told-same transitions x (More guard uses space next) h = record {
     transition = h .transition;
     goes = h .goes;
-    holds = record { guarded = h .holds .guarded; arced = row-same (h .transition .arcs) (h .holds .arced); used = h .holds .used };
+    holds = record { guarded = h .holds .guarded; arced = row-same (h .transition .arcs) (h .holds .arced); used = h .holds .used; few = h .holds .few };
     wide = h .wide;
   }
   told-same transitions x (Stop number place) h = h
