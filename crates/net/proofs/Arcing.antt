@@ -272,3 +272,19 @@ module _ (s sizes vars f g : List ℕ) (even : length g ≡ length f) (p : ℕ) 
   pub told-place : (at : ℕ) {r : Read} → r ≡ expressionTold (readExpression s (over sizes vars f g) (placeOf (getD f p 0) (getD g p 0)) 16 at)
       → r ≡ expressionTold (readExpression s (over sizes vars f g) (placeAt (over sizes vars f g) p) 16 at)
   told-place at e = rw (place-at f g p lt even) e
+
+-- ---- for callers: what a slot says of the arc of a kind on a place
+pub record ArcThere (s : List ℕ) (n : Net) (arcs : List Arc) (k p at : ℕ) : Type 0 where
+  pub arc : Arc
+  pub is : arcOn arcs (0x16 + k) p ≡ some arc
+  pub stands : Standing (readExpression s n (placeAt n p) 16) (arc .expression) at
+
+-- a slot that is not 0 is where the arc's expression stands
+pub arc-there : (s : List ℕ) (n : Net) (arcs : List Arc) (slot : ℕ → ℕ) → RowHolds s n arcs slot → (k p : ℕ) → k < 3 → p < length (n .places) → 0 < slot (k * 32 + p)
+    → ArcThere s n arcs k p (slot (k * 32 + p))
+arc-there s n arcs slot holds k p of-three known lt = go (arcOn arcs (0x16 + k) p) refl (holds k p of-three known)
+  where
+    go : (o : Option Arc) → arcOn arcs (0x16 + k) p ≡ o → Slot (readExpression s n (placeAt n p) 16) (Option·map (λ a. a .expression) o) (slot (k * 32 + p))
+        → ArcThere s n arcs k p (slot (k * 32 + p))
+    go none e h = absurd (omega arith)
+    go (some a) e h = record { arc = a; is = e; stands = h .1 }
