@@ -7,13 +7,12 @@ use borrow.Author.Tests.{lt-ltb, le-ltb, eq-eqb, ne-eqb, eqb-true, eqb-false}
 use lib.Bits.{bitOr}
 use lib.ListN.{set, length-set}
 use lib.Seq.{getD-set-same, getD-set-other}
-use Rattle.reading.specs.Basics.{ℕ, zero, suc, _+_, _*_, List, [], _∷_, _++_, Option, some, none, Option·map, given, absent, if_then_else_, map, length, getD, with, find, any, eqb, ltb, byteAt}
+use Rattle.reading.specs.Basics.{ℕ, zero, suc, _+_, _*_, List, [], _∷_, Option, some, none, Option·map, absent, length, getD, with, find, any, eqb, ltb, byteAt}
 use Rattle.reading.specs.Reading.{Answer, fine, fault, under, whole}
-use Rattle.reading.proofs.Commands.{Stray, end, other, passes, done, fails, later, standing-past, standing-none, stands-cut, stands-fails, stands-goes, both-hold, first-fails, second-fails}
+use Rattle.reading.proofs.Commands.{end, other, passes, done, fails, later, standing-past, standing-none, stands-cut, stands-fails, stands-goes, both-hold, first-fails, second-fails}
 use Rattle.reading.proofs.Parts.{Reading, begins, goes-on, ends, stops}
-use Rattle.reading.proofs.Within.{Ends}
 use Rattle.net.specs.Net.{Expression, Place, single, Arc, Net, placeAt, arcOn, ceiling, inExpression}
-use Rattle.net.specs.Reader.{arcCommand, arcPart, readExpression}
+use Rattle.net.specs.Reader.{arcPart, readExpression}
 use Rattle.net.specs.Told.{bits, told, placeOf, expressionTold}
 use Rattle.net.specs.Tables.{placesOf, over, Standing, Slot, RowHolds, ArcRead, ArcTold, ArcRoom, ArcsRead}
 use Rattle.net.specs.declared.Read.{Read}

@@ -6,8 +6,8 @@ use native.Mathlib.Omega.{arith}
 use native.Mathlib.Nat.{eq-or-lt-of-le}
 use lib.ListN.{set, length-set, length-append, List·getD-append}
 use lib.Seq.{getD-append-seam, getD-set-same, getD-set-other}
-use Rattle.reading.specs.Basics.{ℕ, zero, suc, _+_, _*_, List, [], _∷_, Option, some, none, length, getD, with}
-use Rattle.reading.specs.Reading.{Answer, fine, fault, whole}
+use Rattle.reading.specs.Basics.{ℕ, _+_, _*_, List, [], _∷_, length, getD, with}
+use Rattle.reading.specs.Reading.{fault, whole}
 use Rattle.reading.proofs.Parts.{Reading, begins, goes-on, ends, stops}
 use Rattle.net.specs.Net.{always, Transition, Net, bindingSpace}
 use Rattle.net.specs.Reader.{transitionPart}

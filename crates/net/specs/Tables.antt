@@ -1,7 +1,7 @@
 -- What the tables of a net hold, that a reading leaves for later calls.
 use mathlib.Core.Path.{_≡_}
 use Prim.Native.Nat.{_<_, _≤_, _^_}
-use Rattle.reading.specs.Basics.{ℕ, zero, suc, _+_, _*_, _/_, _%_, Bool, _||_, List, [], _∷_, Option, none, some, Option·map, given, if_then_else_, with, any, keep, below, map, sum, product, length, getD, take, eqb, byteAt}
+use Rattle.reading.specs.Basics.{ℕ, _+_, _*_, _/_, _%_, Bool, _||_, List, [], _∷_, Option, none, some, Option·map, given, if_then_else_, with, any, keep, below, map, sum, product, length, getD, take, eqb, byteAt}
 use Rattle.reading.specs.Reading.{Answer, fine, fault, _andThen_, whole}
 use Rattle.net.specs.Net.{Guard, always, Expression, Place, Arc, Transition, Tokens, Net, net, coloursOf, placeAt, arcOn, tokensOn, inGuard, inExpression, variablesOf, bindingSpace}
 use Rattle.net.specs.Reader.{readGuard, readGuardIf, readExpression, arcPart, ended, transitionPart, tokensPart}

@@ -1,6 +1,6 @@
 use borrow.Author.Needs.{needs}
 use native.Mathlib.Omega.{arith}
-use mathlib.Core.Path.{_≡_, sym, _∙_}
+use mathlib.Core.Path.{sym, _∙_}
 use Rattle.net.proofs.Closing.{at-most-four, space-is, closes-stray, closes-many, closes-wide, closes}
 use Rattle.net.proofs.transition.close_at.Statement.{statement}
 use Rattle.net.proofs.transition.close_at.Tie as tie
