@@ -7,13 +7,12 @@ use borrow.Author.Tests.{lt-ltb, le-ltb, eq-eqb, ne-eqb, eqb-true, eqb-false}
 use lib.Bits.{bitOr}
 use lib.ListN.{set, length-set}
 use lib.Seq.{getD-set-same, getD-set-other}
-use Rattle.reading.specs.Basics.{ℕ, zero, suc, _+_, _*_, List, [], _∷_, _++_, Option, some, none, Option·map, given, absent, if_then_else_, map, length, getD, with, find, any, eqb, ltb, byteAt}
+use Rattle.reading.specs.Basics.{ℕ, zero, suc, _+_, _*_, List, [], _∷_, Option, some, none, Option·map, absent, length, getD, with, find, any, eqb, ltb, byteAt}
 use Rattle.reading.specs.Reading.{Answer, fine, fault, under, whole}
-use Rattle.reading.proofs.Commands.{Stray, end, other, passes, done, fails, later, standing-past, standing-none, stands-cut, stands-fails, stands-goes, both-hold, first-fails, second-fails}
+use Rattle.reading.proofs.Commands.{end, other, passes, done, fails, later, standing-past, standing-none, stands-cut, stands-fails, stands-goes, both-hold, first-fails, second-fails}
 use Rattle.reading.proofs.Parts.{Reading, begins, goes-on, ends, stops}
-use Rattle.reading.proofs.Within.{Ends}
 use Rattle.net.specs.Net.{Expression, Place, single, Arc, Net, placeAt, arcOn, ceiling, inExpression}
-use Rattle.net.specs.Reader.{arcCommand, arcPart, readExpression}
+use Rattle.net.specs.Reader.{arcPart, readExpression}
 use Rattle.net.specs.Told.{bits, told, placeOf, expressionTold}
 use Rattle.net.specs.Tables.{placesOf, over, Standing, Slot, RowHolds, ArcRead, ArcTold, ArcRoom, ArcsRead}
 use Rattle.net.specs.declared.Read.{Read}
@@ -272,3 +271,19 @@ module _ (s sizes vars f g : List ℕ) (even : length g ≡ length f) (p : ℕ) 
   pub told-place : (at : ℕ) {r : Read} → r ≡ expressionTold (readExpression s (over sizes vars f g) (placeOf (getD f p 0) (getD g p 0)) 16 at)
       → r ≡ expressionTold (readExpression s (over sizes vars f g) (placeAt (over sizes vars f g) p) 16 at)
   told-place at e = rw (place-at f g p lt even) e
+
+-- ---- for callers: what a slot says of the arc of a kind on a place
+pub record ArcThere (s : List ℕ) (n : Net) (arcs : List Arc) (k p at : ℕ) : Type 0 where
+  pub arc : Arc
+  pub is : arcOn arcs (0x16 + k) p ≡ some arc
+  pub stands : Standing (readExpression s n (placeAt n p) 16) (arc .expression) at
+
+-- a slot that is not 0 is where the arc's expression stands
+pub arc-there : (s : List ℕ) (n : Net) (arcs : List Arc) (slot : ℕ → ℕ) → RowHolds s n arcs slot → (k p : ℕ) → k < 3 → p < length (n .places) → 0 < slot (k * 32 + p)
+    → ArcThere s n arcs k p (slot (k * 32 + p))
+arc-there s n arcs slot holds k p of-three known lt = go (arcOn arcs (0x16 + k) p) refl (holds k p of-three known)
+  where
+    go : (o : Option Arc) → arcOn arcs (0x16 + k) p ≡ o → Slot (readExpression s n (placeAt n p) 16) (Option·map (λ a. a .expression) o) (slot (k * 32 + p))
+        → ArcThere s n arcs k p (slot (k * 32 + p))
+    go none e h = absurd (omega arith)
+    go (some a) e h = record { arc = a; is = e; stands = h .1 }

@@ -9,8 +9,7 @@ use native.Mathlib.Nat.{not-suc-le-zero, le-of-suc-le-suc, eq-or-lt-of-le, mul-l
 use lib.Dec.{lit<}
 use lib.Pow.{pow-add, pow-pos, high}
 use lib.ListN.{length-append}
-use borrow.Author.Tests.{eq-eqb, ne-eqb, eqb-true, eqb-false}
-use Rattle.reading.specs.Basics.{ℕ, zero, suc, _+_, _*_, _/_, _%_, List, [], _∷_, _++_, map, length, getD, with, keep, numbersFrom, below, product, eqb, if_then_else_}
+use Rattle.reading.specs.Basics.{ℕ, zero, suc, _+_, _*_, _/_, _%_, List, [], _∷_, map, length, getD, with, keep, numbersFrom, below, product, eqb, if_then_else_}
 use Rattle.net.specs.Told.{bits}
 use Rattle.net.specs.Tables.{inSet, chosen, sizeFor, productOf}
 use Rattle.net.proofs.Answers.{bits-lt}

@@ -1,12 +1,12 @@
 -- How a transition ends: its variables counted, and the binding space with it. Assumes nothing.
-use mathlib.Core.Path.{_≡_, refl, sym, ap, _∙_}
+use mathlib.Core.Path.{_≡_, sym, ap, _∙_}
 use Prim.Native.Nat.{_≤_, _<_}
 use native.Mathlib.Omega.{arith}
 use borrow.Author.Tests.{eq-eqb, ne-eqb, le-leb, lt-leb}
-use Rattle.reading.specs.Basics.{ℕ, _+_, true, false, List, [], _∷_, map, length, getD, with, product, sum, byteAt, eqb, leb}
-use Rattle.reading.specs.Reading.{fine, fault, checked}
+use Rattle.reading.specs.Basics.{ℕ, _+_, true, false, List, [], map, length, with, product, byteAt, leb}
+use Rattle.reading.specs.Reading.{fine, fault}
 use Rattle.reading.proofs.Commands.{passes, done, fails, later}
-use Rattle.net.specs.Net.{Place, Transition, Net, net, variablesOf, sizesOf, bindingSpace}
+use Rattle.net.specs.Net.{Place, Transition, net, variablesOf, sizesOf, bindingSpace}
 use Rattle.net.specs.Reader.{ended}
 use Rattle.net.specs.Told.{bits}
 use Rattle.net.specs.Tables.{chosen, sizeFor, productOf, inTransition}
@@ -19,6 +19,9 @@ module _ (sizes vars : List ℕ) (places : List Place) (few : length vars ≤ 32
   pub variables-are : variablesOf (net sizes vars places [] []) t ≡ chosen set (length vars)
   unfolding variablesOf
   variables-are = rw uses (keep-same (λ v. inTransition v t) _ (length vars) (λ v lt. sym (bits-in (λ v. inTransition v t) 32 v (omega arith))))
+
+  pub at-most-four : length (chosen set (length vars)) ≤ 4 → length (variablesOf (net sizes vars places [] []) t) ≤ 4
+  at-most-four le = rw variables-are le
 
   pub product-is : product (sizesOf (net sizes vars places [] []) t) ≡ productOf sizes vars set (length vars)
   product-is = ap (λ l. product (map (sizeFor sizes vars) l)) variables-are

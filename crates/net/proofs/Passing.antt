@@ -6,8 +6,8 @@ use native.Mathlib.Omega.{arith}
 use native.Mathlib.Nat.{eq-or-lt-of-le}
 use lib.ListN.{set, length-set, length-append, List·getD-append}
 use lib.Seq.{getD-append-seam, getD-set-same, getD-set-other}
-use Rattle.reading.specs.Basics.{ℕ, zero, suc, _+_, _*_, List, [], _∷_, Option, some, none, length, getD, with}
-use Rattle.reading.specs.Reading.{Answer, fine, fault, whole}
+use Rattle.reading.specs.Basics.{ℕ, _+_, _*_, List, [], _∷_, length, getD, with}
+use Rattle.reading.specs.Reading.{fault, whole}
 use Rattle.reading.proofs.Parts.{Reading, begins, goes-on, ends, stops}
 use Rattle.net.specs.Net.{always, Transition, Net, bindingSpace}
 use Rattle.net.specs.Reader.{transitionPart}
@@ -41,6 +41,7 @@ module _ (s : List ℕ) (n : Net) (few : length (n .places) ≤ 32) (uses guards
             guarded = old .guarded;
             arced = row-same s n few (λ i. getD arcs (t * 96 + i) 0) (λ i. getD left (t * 96 + i) 0) (λ i z. sym (kept (t * 96 + i) (omega arith))) _ (old .arced);
             used = old .used;
+            few = old .few;
           })
 
 -- the rows of the transitions so far are as they were
@@ -52,6 +53,7 @@ transitions-kept s n few uses guards arcs left ts count are kept here t lt =
       guarded = old .guarded;
       arced = row-same s n few (λ i. getD arcs (t * 96 + i) 0) (λ i. getD left (t * 96 + i) 0) (λ i z. sym (kept (t * 96 + i) (omega arith))) _ (old .arced);
       used = old .used;
+      few = old .few;
     }
 
 pub record Passing (s : List ℕ) (n : Net) (start : ℕ) (uses guards arcs : List ℕ) (count space at : ℕ) : Type 0 where

@@ -8,10 +8,10 @@ use native.Mathlib.Numerals.{add-one}
 use borrow.Author.Tests.{ne-eqb}
 use lib.ListN.{set, length-set, length-append}
 use lib.Seq.{length-take-le, take-suc-set, take-append-le, take-all, getD-set-same, getD-set-other}
-use Rattle.reading.specs.Basics.{ℕ, zero, suc, _+_, _*_, List, [], _∷_, _++_, Option, some, none, map, sum, length, getD, take, with}
-use Rattle.reading.specs.Reading.{Answer, fine, fault, whole}
+use Rattle.reading.specs.Basics.{ℕ, suc, _+_, _*_, List, [], _∷_, some, map, sum, length, getD, take, with}
+use Rattle.reading.specs.Reading.{fine, fault, whole}
 use Rattle.reading.proofs.Parts.{Reading, begins, goes-on, ends, stops}
-use Rattle.net.specs.Net.{Place, single, pair, Net, net, sizeOf, coloursOf}
+use Rattle.net.specs.Net.{Place, pair, Net, net, coloursOf}
 use Rattle.net.specs.Reader.{placePart}
 use Rattle.net.specs.Told.{placeOf, placeStep}
 use Rattle.net.specs.Tables.{placesOf, startOf, PlaceRoom, Started}

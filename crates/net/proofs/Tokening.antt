@@ -1,17 +1,15 @@
 -- How tokens are read, and where the loop over them stands. Assumes nothing.
 use mathlib.Core.Path.{_≡_, refl, sym, ap, _∙_}
-use mathlib.Core.Logic.{⊎-elim}
 use mathlib.Core.Bool.{Bool, true, false, _&&_}
 use Prim.Native.Nat.{_≤_, _<_, _-_}
 use native.Mathlib.Omega.{arith}
-use native.Mathlib.Nat.{eq-or-lt-of-le}
 use native.Mathlib.Numerals.{add-one}
 use borrow.Author.Tests.{lt-ltb, le-ltb, eq-eqb, ne-eqb, ltb-true, ltb-false, eqb-true, eqb-false}
 use lib.ListN.{set, length-set}
 use lib.Seq.{take-suc, take-add, getD-set-same, getD-set-other}
-use Rattle.reading.specs.Basics.{ℕ, zero, suc, _+_, _*_, List, [], _∷_, _++_, Option, some, none, given, absent, if_then_else_, map, sum, length, getD, take, drop, with, find, eqb, ltb, byteAt, wordAt}
-use Rattle.reading.specs.Reading.{Answer, fine, fault, whole}
-use Rattle.reading.proofs.Commands.{Stray, end, other, passes, done, fails, later, both-hold, first-fails, second-fails, standing-past, standing-none, stands-cut, stands-fails, stands-goes}
+use Rattle.reading.specs.Basics.{ℕ, _+_, List, [], _∷_, _++_, Option, some, none, absent, if_then_else_, map, sum, length, getD, take, drop, with, find, eqb, ltb, byteAt, wordAt}
+use Rattle.reading.specs.Reading.{fine, fault, whole}
+use Rattle.reading.proofs.Commands.{end, other, passes, done, fails, later, both-hold, first-fails, second-fails, standing-past, standing-none, stands-cut, stands-fails, stands-goes}
 use Rattle.reading.proofs.Parts.{Reading, begins, goes-on, ends, stops}
 use Rattle.net.specs.Net.{Place, single, Tokens, Net, coloursOf, placeAt, tokensOn}
 use Rattle.net.specs.Reader.{tokensPart}

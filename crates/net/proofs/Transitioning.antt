@@ -1,23 +1,21 @@
 -- How one transition is read. Assumes nothing.
 use mathlib.Core.Path.{_≡_, refl, sym, ap, _∙_}
-use mathlib.Core.Bool.{Bool, true, false, _||_}
+use mathlib.Core.Bool.{Bool, true, false}
 use Prim.Native.Nat.{_≤_, _<_}
 use native.Mathlib.Omega.{arith}
-use borrow.Author.Tests.{lt-ltb, le-ltb, eq-eqb, ne-eqb, eqb-true, eqb-false, ltb-true, ltb-false}
+use borrow.Author.Tests.{lt-ltb, le-ltb, ne-eqb, eqb-true, eqb-false, ltb-true, ltb-false}
 use lib.Bits.{bitOr}
 use lib.ListN.{length-drop, List·getD-append}
 use lib.Seq.{length-take-le, getD-append-add, getD-take}
-use Rattle.reading.specs.Basics.{ℕ, zero, suc, _+_, _*_, List, [], _∷_, _++_, Option, some, none, Option·map, given, if_then_else_, length, getD, take, drop, with, any, eqb, ltb, byteAt}
-use Rattle.reading.specs.Reading.{Answer, fine, fault, _andThen_, standing, whole}
-use Rattle.reading.proofs.Commands.{past, end, other, passes, done, fails, standing-past, standing-none, stands-cut, stands-fails, stands-goes}
-use Rattle.reading.proofs.Within.{Ends}
-use Rattle.net.specs.Net.{Guard, always, Arc, Transition, Net, placeAt, arcOn, bindingSpace, inGuard, inExpression}
+use Rattle.reading.specs.Basics.{ℕ, _+_, _*_, List, [], _∷_, _++_, Option, some, none, Option·map, given, if_then_else_, length, getD, take, drop, with, any, eqb, ltb, byteAt}
+use Rattle.reading.specs.Reading.{Answer, fine, fault, standing, whole}
+use Rattle.reading.proofs.Commands.{past, end, other, passes, done, fails, standing-past, standing-none, stands-fails, stands-goes}
+use Rattle.net.specs.Net.{Guard, always, Arc, Transition, Net, placeAt, arcOn, variablesOf, bindingSpace, inGuard}
 use Rattle.net.specs.Reader.{command, readGuard, readGuardIf, readExpression, arcPart, ended, transitionPart}
-use Rattle.net.specs.Told.{bits, guardTold}
-use Rattle.net.specs.Tables.{Standing, RowHolds, ArcsRead, guardPlace, GuardHolds, TransitionHolds, inTransition, inside, TransitionRead, TransitionTold, TransitionFew}
+use Rattle.net.specs.Told.{bits}
+use Rattle.net.specs.Tables.{RowHolds, ArcsRead, guardPlace, GuardHolds, inTransition, inside, TransitionRead, TransitionTold, TransitionFew}
 use Rattle.net.specs.declared.transition.TransitionStep.{TransitionStep}
 use Rattle.net.specs.declared.transition.TransitionStep.the-variants.{Done, More, Stop}
-use Rattle.net.specs.declared.Read.{Read}
 use Rattle.net.specs.declared.Read.the-variants as read
 use Rattle.net.proofs.Shut.{commands}
 use Rattle.net.proofs.Answers.{bits-or}
@@ -87,12 +85,12 @@ module _ (s : List ℕ) (n : Net) (transitions : List Transition) (at : ℕ) whe
       end-faults e = ap some (ends-by ∙ e)
 
       pub transition-read : {space : ℕ} → ended s n transitions at (record { guard = g .value; arcs = a .arcs }) last ≡ fine (with transitions (record { guard = g .value; arcs = a .arcs })) last
-          → bindingSpace n (with transitions (record { guard = g .value; arcs = a .arcs })) ≡ space
+          → bindingSpace n (with transitions (record { guard = g .value; arcs = a .arcs })) ≡ space → length (variablesOf n (record { guard = g .value; arcs = a .arcs })) ≤ 4
           → TransitionRead s n transitions (some (inside s n transitions at)) (λ i. getD row i 0) (guardPlace s (at + 1)) (bitOr used uses) space last
-      transition-read e f = record {
+      transition-read e f h = record {
         transition = record { guard = g .value; arcs = a .arcs };
         goes = ap some (ends-by ∙ e);
-        holds = record { guarded = guard-holds s n (at + 1) (g .value) more (g .is); arced = a .holds; used = variables-joined };
+        holds = record { guarded = guard-holds s n (at + 1) (g .value) more (g .is); arced = a .holds; used = variables-joined; few = h };
         wide = f;
       }
 
@@ -143,7 +141,7 @@ module _ (s : List ℕ) (n : Net) (few : length (n .places) ≤ 32) (f g : ℕ �
   told-same transitions x (More guard uses space next) h = record {
     transition = h .transition;
     goes = h .goes;
-    holds = record { guarded = h .holds .guarded; arced = row-same (h .transition .arcs) (h .holds .arced); used = h .holds .used };
+    holds = record { guarded = h .holds .guarded; arced = row-same (h .transition .arcs) (h .holds .arced); used = h .holds .used; few = h .holds .few };
     wide = h .wide;
   }
   told-same transitions x (Stop number place) h = h

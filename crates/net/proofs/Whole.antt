@@ -1,17 +1,17 @@
 -- The whole file: part after part, and the first and the last command. Assumes nothing.
-use mathlib.Core.Path.{_≡_, refl, sym, ap, ap₂, _∙_}
+use mathlib.Core.Path.{_≡_, refl, sym, ap₂, _∙_}
 use Prim.Native.Nat.{_≤_, _<_}
 use native.Mathlib.Omega.{arith}
 use borrow.Author.Tests.{lt-ltb, le-ltb, eq-eqb, ne-eqb}
 use lib.Seq.{length-take-le, getD-take}
-use Rattle.reading.specs.Basics.{ℕ, _+_, List, [], _∷_, length, getD, take, ltb, eqb, if_then_else_, byteAt}
+use Rattle.reading.specs.Basics.{ℕ, _+_, List, [], _∷_, length, getD, take, eqb, byteAt}
 use Rattle.reading.proofs.Commands.{end, other, passes, done, fails, needed-past, needed-stray, needs-cut, needs-fails, needs-goes}
-use Rattle.reading.specs.Reading.{Answer, fine, fault, _andThen_, Outcome, outcome, accepted, refused, _unless_, checked, command, needed, whole, file}
-use Rattle.net.specs.Net.{Place, single, Transition, Tokens, Net, net, placeAt, variablesOf, bindingSpace}
+use Rattle.reading.specs.Reading.{Answer, fine, fault, _andThen_, outcome, accepted, refused, _unless_, checked, command, needed, whole, file}
+use Rattle.net.specs.Net.{Place, single, Transition, Tokens, Net, net, variablesOf, bindingSpace}
 use Rattle.net.specs.Reader.{setPart, variablePart, placePart, transitionPart, tokensPart, content, readNet}
 use Rattle.net.specs.Told.{placeOf, declaring}
 use Rattle.net.specs.Tables.{placesOf, Started, over, TokensRead, TransitionsRead}
-use Rattle.net.specs.Held.{opened, closed, drawing, remaining, drawnOf, DrawnRead, NetHolds, ContentRead, NetHeld}
+use Rattle.net.specs.Held.{opened, closed, drawing, remaining, drawnOf, DrawnRead, ContentRead}
 use Rattle.net.proofs.Shut.{commands}
 use Rattle.net.proofs.Answers.{checked-goes, checked-stops}
 use Rattle.net.proofs.Arcing.{place-at}

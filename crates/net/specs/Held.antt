@@ -1,9 +1,9 @@
 -- What the reading of a whole net file tells, and what its tables hold.
 use mathlib.Core.Path.{_≡_}
 use Prim.Native.Nat.{_≤_, _<_}
-use Rattle.reading.specs.Basics.{ℕ, _+_, List, [], _∷_, length, getD, take, eqb, byteAt}
-use Rattle.reading.specs.Reading.{Answer, fine, fault, _andThen_, Outcome, accepted, refused, _unless_, checked, command, needed, whole}
-use Rattle.net.specs.Net.{Place, Net, net, placeAt, flatPlaceCount, bindingSpace}
+use Rattle.reading.specs.Basics.{ℕ, List, [], _∷_, length, getD, take, eqb, byteAt}
+use Rattle.reading.specs.Reading.{Answer, fine, fault, _andThen_, accepted, refused, _unless_, checked, command, needed, whole}
+use Rattle.net.specs.Net.{Net, net, placeAt, bindingSpace}
 use Rattle.net.specs.Reader.{placePart, transitionPart, tokensPart, content, readNet}
 use Rattle.net.specs.Told.{placeOf, declaring}
 use Rattle.net.specs.Tables.{placesOf, Started, over, Holds, countOf, TransitionsHold}

@@ -1,9 +1,9 @@
 -- What the tables of a net hold, that a reading leaves for later calls.
 use mathlib.Core.Path.{_≡_}
 use Prim.Native.Nat.{_<_, _≤_, _^_}
-use Rattle.reading.specs.Basics.{ℕ, zero, suc, _+_, _*_, _/_, _%_, Bool, _||_, List, [], _∷_, Option, none, some, Option·map, given, if_then_else_, with, any, keep, below, map, sum, product, length, getD, take, eqb, byteAt}
+use Rattle.reading.specs.Basics.{ℕ, _+_, _*_, _/_, _%_, Bool, _||_, List, [], _∷_, Option, none, some, Option·map, given, if_then_else_, with, any, keep, below, map, sum, product, length, getD, take, eqb, byteAt}
 use Rattle.reading.specs.Reading.{Answer, fine, fault, _andThen_, whole}
-use Rattle.net.specs.Net.{Guard, always, Expression, Place, Arc, Transition, Tokens, Net, net, coloursOf, placeAt, arcOn, tokensOn, inGuard, inExpression, bindingSpace}
+use Rattle.net.specs.Net.{Guard, always, Expression, Place, Arc, Transition, Tokens, Net, net, coloursOf, placeAt, arcOn, tokensOn, inGuard, inExpression, variablesOf, bindingSpace}
 use Rattle.net.specs.Reader.{readGuard, readGuardIf, readExpression, arcPart, ended, transitionPart, tokensPart}
 use Rattle.net.specs.Told.{bits, placeOf}
 use Rattle.net.specs.declared.Declared.{Declared}
@@ -203,16 +203,17 @@ pub record GuardHolds (s : List ℕ) (n : Net) (guard : Guard) (at : ℕ) : Type
   pub without : at ≡ 0 → guard ≡ always
   pub stands : 0 < at → Standing (readGuard s n 16) guard at
 
--- what the tables hold of a transition: where its guard and its arcs stand, and its variables
+-- what the tables hold of a transition: where its guard and its arcs stand, and its variables, four at most
 pub record TransitionHolds (s : List ℕ) (n : Net) (t : Transition) (guard uses : ℕ) (slot : ℕ → ℕ) : Type 0 where
   pub guarded : GuardHolds s n (t .guard) guard
   pub arced : RowHolds s n (t .arcs) slot
   pub used : uses ≡ bits (λ v. inTransition v t) 32
+  pub few : length (variablesOf n t) ≤ 4
 
 -- a transition that ends: the binding space with it, or the fault
 abbrev pub ClosedTold : List ℕ → Net → List Transition → ℕ → Transition → ℕ → Closed → Type 0
 ClosedTold s n transitions at t end (closed.Whole space) =
-    (ended s n transitions at t end ≡ fine (with transitions t) end) × (bindingSpace n (with transitions t) ≡ space)
+    (ended s n transitions at t end ≡ fine (with transitions t) end) × (bindingSpace n (with transitions t) ≡ space) × (length (variablesOf n t) ≤ 4)
 ClosedTold s n transitions at t end (closed.Fault number place) = ended s n transitions at t end ≡ fault number place
 
 abbrev pub ClosedRoom : Closed → Type 0

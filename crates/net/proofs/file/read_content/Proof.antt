@@ -1,6 +1,6 @@
 use borrow.Author.Needs.{needs}
 use native.Mathlib.Omega.{arith}
-use mathlib.Core.Path.{_≡_, sym, ap, _∙_}
+use mathlib.Core.Path.{sym, _∙_}
 use Rattle.net.proofs.Tokening.{rising}
 use Rattle.net.proofs.Whole.{drawn-stops, transitions-stop, tokens-stop, contains, before-tokens, before-started, front-sized, front-fits}
 use Rattle.net.proofs.file.read_content.Statement.{statement}

@@ -1,7 +1,6 @@
 use borrow.Author.Needs.{needs}
-use native.Mathlib.Omega.{arith}
 use lib.ListN.{take}
-use mathlib.Core.Path.{_≡_, sym, ap, _∙_}
+use mathlib.Core.Path.{sym, _∙_}
 use Rattle.net.proofs.Whole.{declared-stops, places-stop, draws, front-sized, front-fits}
 use Rattle.net.proofs.file.read_drawn.Statement.{statement}
 use Rattle.net.proofs.file.read_drawn.Tie as tie

@@ -1,6 +1,4 @@
 use borrow.Author.Needs.{needs}
-use native.Mathlib.Omega.{arith}
-use mathlib.Core.Path.{_≡_, sym, ap, _∙_}
 use Rattle.net.specs.Reader.{content}
 use Rattle.net.proofs.Whole.{net-long, opening-stops, content-stops, closing-stops, net-read}
 use Rattle.net.proofs.file.read_net.Statement.{statement}

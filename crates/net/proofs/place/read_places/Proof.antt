@@ -1,8 +1,6 @@
 use borrow.Author.Needs.{needs}
 use native.Mathlib.Omega.{arith}
-use mathlib.Core.Path.{ap, _∙_}
 use Prim.Native.Nat.{_-_}
-use lib.ListN.{length-set}
 use Rattle.net.proofs.Placing.{Placing, placing-begins, placing-one, placing-two, placing-ends, placing-stops}
 use Rattle.net.proofs.place.read_places.Statement.{statement}
 use Rattle.net.proofs.place.read_places.Tie as tie

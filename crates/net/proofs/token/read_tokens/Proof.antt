@@ -1,6 +1,5 @@
 use borrow.Author.Needs.{needs}
 use native.Mathlib.Omega.{arith}
-use mathlib.Core.Path.{ap, sym, _∙_}
 use Prim.Native.Nat.{_-_}
 use lib.ListN.{length}
 use Rattle.net.proofs.Tokening.{TokenLoop, tokening-begins, tokening-goes, tokening-ends, tokening-stops, token-below}

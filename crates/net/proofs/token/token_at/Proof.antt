@@ -1,6 +1,6 @@
 use borrow.Author.Needs.{needs}
 use native.Mathlib.Omega.{arith}
-use mathlib.Core.Path.{_≡_, refl, sym, ap, _∙_}
+use mathlib.Core.Path.{refl}
 use Prim.Native.Nat.{_+_, _<_}
 use lib.ListN.{length, getD}
 use Rattle.net.specs.Net.{coloursOf, placeAt, tokensOn}

@@ -1,9 +1,8 @@
 use borrow.Author.Needs.{needs}
 use native.Mathlib.Omega.{arith}
-use mathlib.Core.Path.{_≡_, sym, ap, _∙_}
-use Prim.Native.Nat.{_-_, _≤_}
+use mathlib.Core.Path.{_≡_}
+use Prim.Native.Nat.{_-_}
 use lib.ListN.{length}
-use Rattle.net.specs.Tables.{productOf}
 use Rattle.net.proofs.Choosing.{Multiplying, multiplying-begins, multiplying-goes, multiplying-fits, product-fits}
 use Rattle.net.proofs.transition.bindings.Statement.{statement}
 use Rattle.net.proofs.transition.bindings.Tie as tie

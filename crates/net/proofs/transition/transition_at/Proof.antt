@@ -2,9 +2,8 @@ use borrow.Author.Needs.{needs}
 use native.Mathlib.Omega.{arith}
 use mathlib.Core.Path.{_≡_, refl, sym, _∙_}
 use Prim.Native.Nat.{_≤_, _<_, _*_, _+_, _-_}
-use lib.ListN.{length, drop, getD}
+use lib.ListN.{length, getD}
 use Rattle.net.specs.Tables.{over, placesOf}
-use Rattle.net.specs.Reader.{transitionPart}
 use Rattle.net.proofs.Placing.{length-places}
 use Rattle.net.proofs.Transitioning.{transitions-past, transitions-other, transitions-full, transitions-go, few-of, part-in, part-before, part-sized, told-same}
 use Rattle.net.proofs.transition.transition_at.Statement.{statement}
