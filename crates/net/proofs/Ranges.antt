@@ -8,6 +8,7 @@ use borrow.Author.Tests.{ltb-true, leb-true, eqb-true, eqb-false}
 use Rattle.reading.specs.Basics.{ℕ, _+_, _-_, _*_, Bool, true, false, _&&_, length, getD, ltb, leb, eqb, every, if_then_else_}
 use Rattle.reading.proofs.Lists.{In, all-in, every-in}
 use Rattle.reading.proofs.Gives.{both-first, both-second}
+use Rattle.net.proofs.Weights.{weight-le}
 use Rattle.net.specs.Net.{Colour, variable, constant, successor, predecessor, Expression, one, two, all, plus, minus, times, Place, single, pair, Arc, Transition, Net, sizeOf, coloursOf, setOf, ceiling}
 use Rattle.net.specs.Values.{colour, pairRank, weight}
 use Rattle.net.specs.Limits.{Limits}
@@ -80,19 +81,6 @@ module _ (n : Net) (env : ℕ → ℕ) (fits : Fitting n env) where
       rw (y .0, mul-one (sizeOf n b)) (pair-below (colour n env k) (colour n env l) (sizeOf n a) (sizeOf n b) (x .1) (y .1))
 
 -- ---- no weight passes the ceiling
-if-le : (t : Bool) (n : ℕ) → (if t then n else 0) ≤ n
-if-le true n = omega arith
-if-le false n = omega arith
-
-pub weight-le : (n : Net) (env : ℕ → ℕ) (rank : ℕ) (e : Expression) → weight n env rank e ≤ ceiling e
-unfolding weight ceiling
-weight-le n env rank (one count k) = if-le (eqb (colour n env k) rank) count
-weight-le n env rank (two count a b) = if-le (eqb (pairRank n env a b) rank) count
-weight-le n env rank (all count) = omega arith
-weight-le n env rank (plus a b) = let i = weight-le n env rank a in let j = weight-le n env rank b in omega arith
-weight-le n env rank (minus a b) = let i = weight-le n env rank a in omega arith
-weight-le n env rank (times factor e) = mul-le-mul-left factor (weight-le n env rank e)
-
 -- of a file of bytes, weights of arcs are u16
 pub weight-word : (n : Net) → Words n → (env : ℕ → ℕ) (rank : ℕ) {t : Transition} {a : Arc} → In t (n .transitions) → In a (t .arcs) → weight n env rank (a .expression) ≤ 65535
 weight-word n w env rank {t} {a} i j =

@@ -19,7 +19,7 @@ use Rattle.net.specs.declared.transition.TransitionStep.the-variants.{Do
 use Rattle.net.specs.declared.Read.the-variants as read
 use Rattle.net.proofs.Shut.{commands}
 use Rattle.net.proofs.Answers.{bits-or}
-use Rattle.net.proofs.Ending.{guard-ends}
+use Rattle.net.proofs.Inside.{guard-ends}
 use Rattle.net.proofs.Arcing.{Heard, slot-is}
 
 -- a byte that is not 0 stands in the file
