@@ -1,1 +1,3 @@
 // The meanings of this crate stand in specs/.
+mod text;
+mod write;
