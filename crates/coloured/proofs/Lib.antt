@@ -12,3 +12,5 @@ pub mod Loads
 pub mod Agreeing
 pub mod Drawn
 pub mod Effects
+pub mod Used
+pub mod Readied

@@ -14,6 +14,8 @@ pub use evaluate::eval_guard_if;
 pub use evaluate::eval_weight;
 pub use evaluate::next_rank;
 pub use expression::read_expression;
+pub use space::bindings_of;
+pub use space::count_of;
 pub use table::width;
 ghost use mathlib.Core.Path.{_≡_};
 ghost use mathlib.Core.List.{List, [], map};

@@ -1,0 +1,49 @@
+-- What the calls know of an accepted net, and what their loops promise.
+use mathlib.Core.Path.{_≡_}
+use Prim.Native.Nat.{_≤_, _<_}
+use Rattle.reading.specs.Basics.{ℕ, _+_, List, map, length, getD, eqb, given, product}
+use Rattle.reading.specs.Reading.{accepted}
+use Rattle.firing.specs.Firing.{Fired, fired, fire, First, found, nothing, first}
+use Rattle.net.specs.Net.{Net, sizesOf, flatPlaceCount}
+use Rattle.net.specs.Reader.{readNet}
+use Rattle.net.specs.Told.{bits}
+use Rattle.coloured.specs.Effect.{Binding, transitionAt, bindings, effect}
+use Rattle.coloured.specs.Orders.{orderOf, fireOrder}
+use Rattle.coloured.specs.Numbers.{digits}
+use Rattle.coloured.specs.Drawing.{Drawing, standsIn}
+use Rattle.coloured.specs.Loading.{binding, EffectTold}
+use Rattle.coloured.specs.declared.effect.Loaded.{Loaded}
+use Rattle.coloured.specs.declared.engine.Searched.{Searched}
+use Rattle.coloured.specs.declared.engine.Searched.the-variants as searched
+
+-- the tables of an accepted net, with each transition's variables as a set of bits
+pub record Ready (s : List ℕ) (n : Net) (sizes vars seconds starts uses guards arcs : List ℕ) (places transitions : ℕ) : Type 0 where
+  pub read : readNet s ≡ accepted n
+  pub drawing : Drawing s n sizes vars seconds starts guards arcs
+  pub used : (t : ℕ) → t < length (n .transitions) → getD uses t 0 ≡ bits (λ v. standsIn v (transitionAt n t)) 32
+  pub places-are : length (n .places) ≡ places
+  pub transitions-are : length (n .transitions) ≡ transitions
+
+-- binding number i of a transition
+abbrev pub numbered : Net → ℕ → ℕ → Binding
+numbered n t i = binding t (digits (sizesOf n (transitionAt n t)) i)
+
+-- its effect was loaded into the lent lists
+abbrev pub BindingLoaded : List ℕ → List ℕ → List ℕ → List ℕ → List ℕ → List ℕ → List ℕ → List ℕ → ℕ → ℕ → ℕ → List ℕ → List ℕ → List ℕ → List ℕ → Loaded → Type 0
+BindingLoaded s sizes vars seconds starts uses guards arcs count t i places amounts places' amounts' r =
+    (n : Net) (transitions : ℕ) → Ready s n sizes vars seconds starts uses guards arcs count transitions → t < transitions
+    → 12288 ≤ length places → 12288 ≤ length amounts → EffectTold n (numbered n t i) places' amounts' r
+
+-- a binding fired on the drawing: 2 where it has no effect
+abbrev pub fireBinding : Net → Binding → List ℕ → Fired
+fireBinding n b m = given (effect n b) (fired 2 m) λ w. fire w m
+
+-- the search among all orders: where it stopped
+abbrev pub searchTold : Net → Searched → First (List ℕ)
+searchTold n (searched.At t i tried) = found (orderOf (numbered n t i)) tried
+searchTold n (searched.Nothing tried) = nothing tried
+
+-- what it found is a binding
+abbrev pub SearchWithin : Net → Searched → Type 0
+SearchWithin n (searched.At t i tried) = (t < length (n .transitions)) × (i < product (sizesOf n (transitionAt n t)))
+SearchWithin n (searched.Nothing tried) = Unit {0}
