@@ -2,7 +2,7 @@
 use mathlib.Core.Path.{_≡_, refl, sym, ap, _∙_}
 use Prim.Native.Nat.{_≤_, _<_}
 use native.Mathlib.Omega.{arith}
-use Rattle.reading.specs.Basics.{ℕ, _+_, Bool, List, map, length, getD, some, getElem?, eqb, below, product}
+use Rattle.reading.specs.Basics.{ℕ, _+_, Bool, List, [], map, length, getD, some, getElem?, eqb, below, product}
 use Rattle.reading.proofs.Lists.{In, at-in, at-below, getD-at, at-map}
 use Rattle.firing.specs.Firing.{Fired, fired, fire, First, found, nothing, first}
 use Rattle.firing.specs.Arcs.{Proper, rowIn, weights}
@@ -39,6 +39,6 @@ module _ {s : List ℕ} {n : Net} {sizes vars seconds starts uses guards arcs : 
   binds t i u env lt e set =
       let inside : t < length (n .transitions) = omega (arith, ready .transitions-are) in
       let it = at-below (n .transitions) t inside in
-      let at = rw (getD-at (n .transitions) t (record { guard = always; arcs = _ }) (it .1)) (at-in (n .transitions) t (it .1)) in
+      let at : In (transitionAt n t) (n .transitions) = rw (getD-at (n .transitions) t (record { guard = always; arcs = [] }) (it .1)) (at-in (n .transitions) t (it .1)) in
       agrees n (transitionAt n t) i env (used-below n (formed s n (ready .read)) (transitionAt n t) at)
       (set n (λ v. standsIn v (transitionAt n t)) (ready .drawing .sets) (ready .drawing .variables) (limited .variables) (e ∙ ready .used t inside) (limits-coloured n limited) (limited .variables))

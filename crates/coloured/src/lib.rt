@@ -5,3 +5,5 @@ mod engine;
 
 pub use effect::Loaded;
 pub use effect::load_effect;
+pub use engine::Searched;
+pub use engine::load_binding;
