@@ -1,3 +1,4 @@
 // The meanings of this crate stand in specs/.
+mod body;
 mod text;
 mod write;
