@@ -22,7 +22,7 @@ use Rattle.coloured.proofs.Bindings.{bound, bindingsOf, choices-length}
 use Rattle.coloured.proofs.Digits.{choices-at}
 use Rattle.unfolding.specs.Unfolding.{Rowed, rows, unfolded}
 use Rattle.unfolding.specs.Pieces.{bindingBytes, transitionBytes}
-use Rattle.unfolding.proofs.Appending.{length-row-in}
+use Rattle.unfolding.proofs.Appending.{length-row-in, Going, go-begin}
 use Rattle.unfolding.proofs.Rows.{rowed, rowedIf}
 
 -- ---- lists
@@ -144,3 +144,7 @@ module _ (f : ℕ → List ℕ) (many start : ℕ) where
     pub measure-ends : many ≤ i → total ≡ start + length (flatMap f (below many))
     unfolding flatMap
     measure-ends h = omega (arith, here .sum, ap length (ap (flatMap f) (left-none many i h)))
+
+-- writing begins with all of them left
+pub write-begins : (f : ℕ → List ℕ) (many : ℕ) (out : List ℕ) (at : ℕ) → Going f (below many) (numbersFrom 0 (many - 0)) out out at at
+write-begins f many out at = let e : many - 0 ≡ many = omega arith in rw e (go-begin f (below many) out at)
