@@ -5,21 +5,24 @@ use Prim.Native.Nat.{_≤_, _<_}
 use native.Mathlib.Omega.{arith}
 use native.Mathlib.Nat.{add-zero}
 use lib.ListN.{length-append}
-use Rattle.reading.specs.Basics.{ℕ, zero, suc, _+_, _*_, _-_, List, [], _∷_, _++_, map, flatMap, filterMap, Option, none, some, Option·map, length, getElem?, given, numbersFrom, below, product}
+use Rattle.reading.specs.Basics.{ℕ, zero, suc, _+_, _*_, _-_, Bool, List, [], _∷_, _++_, map, flatMap, filterMap, Option, none, some, Option·map, length, getD, getElem?, given, keep, numbersFrom, below, product}
+use Rattle.reading.specs.Reading.{Outcome, accepted}
 use Rattle.reading.proofs.Lists.{map-map}
 use Rattle.firing.specs.Firing.{Weights}
 use Rattle.firing.specs.Arcs.{Row, rowIn, rowOf}
 use Rattle.flat.specs.Flat.{rowBytes}
-use Rattle.net.specs.Net.{Net, sizesOf, flatPlaceCount}
+use Rattle.net.specs.Net.{Net, sizeOf, variablesOf, sizesOf, flatPlaceCount}
+use Rattle.net.specs.Told.{bits}
 use Rattle.coloured.specs.Effect.{Binding, transitionAt, choices, bindings, effect}
 use Rattle.coloured.specs.Numbers.{digits}
-use Rattle.coloured.specs.Drawing.{RowLoaded}
+use Rattle.coloured.specs.Drawing.{standsIn, RowLoaded}
 use Rattle.coloured.specs.Loading.{EffectTold}
-use Rattle.coloured.specs.Ready.{numbered}
+use Rattle.coloured.specs.Ready.{Ready, numbered}
 use Rattle.coloured.specs.declared.effect.Loaded.{Loaded}
 use Rattle.coloured.specs.declared.effect.Loaded.the-variants as loaded
 use Rattle.coloured.proofs.Bindings.{bound, bindingsOf, choices-length}
 use Rattle.coloured.proofs.Digits.{choices-at}
+use Rattle.coloured.proofs.Readied.{limited}
 use Rattle.unfolding.specs.Unfolding.{Rowed, rows, unfolded}
 use Rattle.unfolding.specs.Pieces.{bindingBytes, transitionBytes}
 use Rattle.unfolding.proofs.Appending.{length-row-in, Going, go-begin}
@@ -148,3 +151,27 @@ module _ (f : ℕ → List ℕ) (many start : ℕ) where
 -- writing begins with all of them left
 pub write-begins : (f : ℕ → List ℕ) (many : ℕ) (out : List ℕ) (at : ℕ) → Going f (below many) (numbersFrom 0 (many - 0)) out out at at
 write-begins f many out at = let e : many - 0 ≡ many = omega arith in rw e (go-begin f (below many) out at)
+
+-- ---- from one transition to all
+same-accepted : {r : Outcome Net} {n m : Net} → r ≡ accepted n → r ≡ accepted m → n ≡ m
+same-accepted e f = cc
+
+module _ {s : List ℕ} {n : Net} {sizes vars seconds starts uses guards arcs : List ℕ} {count transitions : ℕ}
+    (ready : Ready s n sizes vars seconds starts uses guards arcs count transitions) where
+  -- as many bindings as the code counts are all that a transition has
+  pub all-given : (t : ℕ) → t < transitions → {u many : ℕ} → u ≡ getD uses t 0
+      → ((m : Net) (p : ℕ → Bool) → m .sets ≡ sizes → m .variables ≡ vars → length (m .variables) ≤ 32 → u ≡ bits p 32
+      → length (keep p (below (length (m .variables)))) ≤ 4 → many ≡ product (map (λ v. sizeOf m (getD (m .variables) v 0)) (keep p (below (length (m .variables))))))
+      → flatMap (bindingBytes n t) (below many) ≡ transitionBytes n t
+  unfolding transitionBytes variablesOf
+  all-given t lt e told =
+      let inside : t < length (n .transitions) = omega (arith, ready .transitions-are) in
+      ap (λ k. flatMap (bindingBytes n t) (below k))
+      (told n (λ v. standsIn v (transitionAt n t)) (ready .drawing .sets) (ready .drawing .variables) (limited ready .variables) (e ∙ ready .used t inside) (limited ready .few-variables t inside))
+
+  -- the tables are those of one net
+  pub same-count : {m : Net} {j : ℕ} → Ready s m sizes vars seconds starts uses guards arcs count j → Ready s m sizes vars seconds starts uses guards arcs count transitions
+  same-count {m} {j} other =
+      let e : n ≡ m = same-accepted (ready .read) (other .read) in
+      let q : j ≡ transitions = sym (other .transitions-are) ∙ ap (λ x. length (x .transitions)) (sym e) ∙ ready .transitions-are in
+      subst (λ k. Ready s m sizes vars seconds starts uses guards arcs count k) q other
