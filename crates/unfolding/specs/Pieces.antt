@@ -1,12 +1,13 @@
 -- The bytes of the rows, binding by binding; and what the code that measures and writes them knows of the net.
 use mathlib.Core.Path.{_≡_}
 use Prim.Native.Nat.{_<_}
-use Rattle.reading.specs.Basics.{ℕ, List, [], flatMap, given, below, product}
+use Rattle.reading.specs.Basics.{ℕ, List, [], flatMap, take, given, below, product}
 use Rattle.firing.specs.Arcs.{rowOf}
 use Rattle.flat.specs.Flat.{rowBytes}
 use Rattle.net.specs.Net.{Net, sizesOf, flatPlaceCount}
 use Rattle.coloured.specs.Effect.{transitionAt, effect}
 use Rattle.coloured.specs.Ready.{Ready, numbered}
+use Rattle.unfolding.specs.Unfolding.{unfolded}
 
 -- what binding number i of a transition gives the flat file: its row's bytes, none where it has no effect
 unfoldable pub bindingBytes : Net → ℕ → ℕ → List ℕ
@@ -27,3 +28,9 @@ pub record Known (s sizes vars seconds starts uses guards arcs : List ℕ) (coun
 abbrev pub Of : List ℕ → List ℕ → List ℕ → List ℕ → List ℕ → List ℕ → List ℕ → List ℕ → ℕ → ℕ → (Net → Type 0) → Type 0
 Of s sizes vars seconds starts uses guards arcs count t P =
     (n : Net) (transitions : ℕ) → Ready s n sizes vars seconds starts uses guards arcs count transitions → t < transitions → P n
+
+-- the tables are those of a net, with its initial counts
+pub record Tabled (s sizes vars seconds starts uses guards arcs initial : List ℕ) (count total transitions : ℕ) : Type 0 where
+  pub net : Net
+  pub ready : Ready s net sizes vars seconds starts uses guards arcs count transitions
+  pub counts : take total initial ≡ unfolded net .initial

@@ -1,0 +1,14 @@
+-- What the calls' replies say, in the terms of the meanings: each case's number and values.
+use Rattle.reading.specs.Basics.{ℕ, List}
+use Rattle.reading.specs.Reading.{Outcome, accepted, refused}
+use Rattle.unfolding.specs.Unfolding.{WriteCall}
+use Rattle.unfolding.specs.declared.unfold.UnfoldReply.{UnfoldReply}
+use Rattle.unfolding.specs.declared.unfold.UnfoldReply.the-variants as unfold-reply
+
+abbrev pub unfoldReply : UnfoldReply → Outcome ℕ
+unfoldReply (unfold-reply.Written length) = accepted length
+unfoldReply (unfold-reply.Refused number place) = refused number place
+
+-- with the lent list afterwards
+abbrev pub unfoldCalled : UnfoldReply → List ℕ → WriteCall
+unfoldCalled r out = record { result = unfoldReply r; out = out }
