@@ -30,8 +30,8 @@ use Rattle.unfolding.proofs.Rows.{rowed, rowedIf}
 
 -- ---- lists
 -- pieces of two joined lists, of a list made piece by piece, and of one made element by element
-module _ {B : Type 0} (f : B → List ℕ) where
-  flat-append : (l m : List B) → flatMap f (l ++ m) ≡ flatMap f l ++ flatMap f m
+module _ {B C : Type 0} (f : B → List C) where
+  pub flat-append : (l m : List B) → flatMap f (l ++ m) ≡ flatMap f l ++ flatMap f m
   unfolding flatMap
   flat-append [] m = refl
   flat-append (b ∷ l) m = ap (λ k. f b ++ k) (flat-append l m) ∙ sym (append-assoc (f b) (flatMap f l) (flatMap f m))
