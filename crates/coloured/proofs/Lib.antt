@@ -14,3 +14,4 @@ pub mod Drawn
 pub mod Effects
 pub mod Used
 pub mod Readied
+pub mod Readying

@@ -3,6 +3,13 @@ mod evaluate;
 mod expression;
 mod space;
 mod table;
+mod arc;
+mod clear;
+mod file;
+mod place;
+mod token;
+mod transition;
+mod transitions;
 
 pub use evaluate::Ranked;
 pub use evaluate::Tested;
@@ -26,6 +33,7 @@ ghost use Rattle.reading.specs.Reading.{whole};
 ghost use Rattle.net.specs.Net.{net, Place, coloursOf, equal, less};
 ghost use Rattle.net.specs.Reader.{readColour, readGuard, readGuardIf, comparison, setPart, variablePart, placePart};
 ghost use Rattle.net.specs.Told.{colourTold, guardTold, setStep, setsRead, Room, RoomFor, declaredRead, declaring, Few, placeStep};
+ghost use Rattle.net.specs.Tables.{PlaceRoom, FewDeclared};
 
 // A whole expression: the place after it, its set and its variables; or the first fault.
 pub enum Read {
@@ -409,7 +417,8 @@ fn variable_at(s: &[u8], sets: &[u8], count: usize, at: usize) -> SetStep
 // The variable part: each variable's set goes into the front of a lent list of 32.
 pub fn read_variables(s: &[u8], sets: &[u8], vars: &mut [u8], start: usize) -> Counted
     requires { ⌜ length (now vars) ≡ 32 ⌝ }
-    ensures { λ r. ⌜ setsRead (now (vars .exit)) r ≡ whole (now (s .entry)) (variablePart (now (s .entry)) (net (now (sets .entry)) [] [] [] [])) [] start ⌝ }
+    ensures few { λ r. ⌜ Few 32 r ⌝ }
+    ensures is { λ r. ⌜ setsRead (now (vars .exit)) r ≡ whole (now (s .entry)) (variablePart (now (s .entry)) (net (now (sets .entry)) [] [] [] [])) [] start ⌝ }
 {
     let mut count: usize = 0;
     let mut at = start;
@@ -447,7 +456,8 @@ pub enum Declared {
 pub fn read_declared(s: &[u8], sizes: &mut [u8], vars: &mut [u8], start: usize) -> Declared
     requires { ⌜ length (now sizes) ≡ 16 ⌝ }
     requires { ⌜ length (now vars) ≡ 32 ⌝ }
-    ensures { λ r. ⌜ declaredRead (now (sizes .exit)) (now (vars .exit)) r ≡ declaring (now (s .entry)) start ⌝ }
+    ensures few { λ r. ⌜ FewDeclared r ⌝ }
+    ensures is { λ r. ⌜ declaredRead (now (sizes .exit)) (now (vars .exit)) r ≡ declaring (now (s .entry)) start ⌝ }
 {
     match read_sets(s, sizes, start) {
         Counted::Fault { number, place } => Declared::Fault { number, place },
@@ -512,9 +522,10 @@ pub enum PlaceStep {
 // The place command at a place, after so many places with so many colours together.
 pub fn place_at(s: &[u8], sets: &[u8], count: usize, total: usize, at: usize) -> PlaceStep
     requires { ⌜ total ≤ 4096 ⌝ }
-    ensures { λ r. ⌜ ((variables : List ℕ) (places : List Place) → length places ≡ count
+    ensures is { λ r. ⌜ ((variables : List ℕ) (places : List Place) → length places ≡ count
         → sum (map (coloursOf (net (now (sets .entry)) variables [] [] [])) places) ≡ total
         → placePart (now (s .entry)) (net (now (sets .entry)) variables [] [] []) places at ≡ placeStep places r) ⌝ }
+    ensures room { λ r. ⌜ PlaceRoom (now (sets .entry)) (length (now (s .entry))) count total at r ⌝ }
 {
     if s.len() <= at {
         return PlaceStep::Done;

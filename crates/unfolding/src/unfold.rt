@@ -4,9 +4,11 @@ use crate::body::write_all;
 use crate::write::write_end;
 use crate::write::write_head;
 use crate::write::write_places;
+use net::NetRead;
+use net::read_net;
 ghost use mathlib.Core.Path.{_≡_};
 ghost use Prim.Native.Nat.{_≤_};
-ghost use lib.ListN.{length};
+ghost use lib.ListN.{length, take};
 ghost use Rattle.unfolding.specs.Unfolding.{unfoldCall};
 ghost use Rattle.unfolding.specs.Pieces.{Tabled};
 ghost use Rattle.unfolding.specs.Replies.{unfoldCalled};
@@ -80,4 +82,64 @@ fn write_file(
     );
     write_end(out, next);
     UnfoldReply::Written { length }
+}
+
+// The first `n` of a list; all of it where there are fewer.
+fn front(l: &[u8], n: usize) -> &[u8]
+    ensures { λ r. ⌜ now r ≡ take n (now (l .entry)) ⌝ }
+{
+    if n <= l.len() { &l[..n] } else { l }
+}
+
+// Unfolds a net file: the flat file over the front of `out`, and its length; a refusal changes nothing.
+pub fn unfold(net: &[u8], out: &mut [u8]) -> UnfoldReply
+    ensures { λ r. ⌜ unfoldCalled r (now (out .exit)) ≡ unfoldCall (now (net .entry)) (now (out .entry)) ⌝ }
+{
+    let mut sizes = [0u8; 16];
+    let mut vars = [0u8; 32];
+    let mut firsts = [0u8; 32];
+    let mut seconds = [0u8; 32];
+    let mut starts = [0usize; 33];
+    let mut uses = [0u32; 32];
+    let mut guards = [0u16; 32];
+    let mut arcs = [0u16; 3072];
+    let mut initial = [0u16; 4096];
+    let mut named = [0u8; 4096];
+    match read_net(
+        net,
+        &mut sizes,
+        &mut vars,
+        &mut firsts,
+        &mut seconds,
+        &mut starts,
+        &mut uses,
+        &mut guards,
+        &mut arcs,
+        &mut initial,
+        &mut named,
+    ) {
+        NetRead::Refused { number, place } => UnfoldReply::Refused { number, place },
+        NetRead::Whole {
+            sets,
+            variables,
+            places,
+            total,
+            transitions,
+            ..
+        } => write_file(
+            net,
+            front(&sizes, sets),
+            front(&vars, variables),
+            &seconds,
+            &starts,
+            &uses,
+            &guards,
+            &arcs,
+            &initial,
+            places,
+            total,
+            transitions,
+            out,
+        ),
+    }
 }

@@ -1,0 +1,246 @@
+// One transition: its guard, its arcs, and its end.
+use crate::Read;
+use crate::arc::Gathered;
+use crate::arc::read_arcs;
+use crate::entry;
+use crate::read_guard_if;
+use reading::byte_at;
+ghost use mathlib.Core.Path.{_≡_};
+ghost use mathlib.Core.List.{List, []};
+ghost use Prim.Native.Nat.{ℕ, _≤_, _<_, _+_, _*_, _/_, _%_, _^_};
+ghost use lib.ListN.{length, getD};
+ghost use Rattle.reading.specs.Basics.{if_then_else_};
+ghost use Rattle.net.specs.Net.{net, Place, Transition, bindingSpace};
+ghost use Rattle.net.specs.Told.{bits};
+ghost use Rattle.net.specs.Tables.{over, inSet, chosen, sizeFor, productOf, inTransition, guardPlace, ClosedTold, ClosedRoom, inside, TransitionTold, TransitionRoom, TransitionFew};
+ghost use Rattle.net.specs.Reader.{transitionPart};
+ghost use mathlib.Core.Option.{some};
+
+// 1 where v is in the set, else 0.
+fn bit(set: u32, v: usize) -> usize
+    requires { ⌜ v < 32 ⌝ }
+    ensures { λ r. ⌜ r ≡ set / 2 ^ v % 2 ⌝ }
+{
+    ((set >> (v as u32)) & 1) as usize
+}
+
+// How many numbers below n are in the set.
+fn count_in(set: u32, n: usize) -> usize
+    requires { ⌜ n ≤ 32 ⌝ }
+    ensures { λ r. ⌜ r ≡ length (chosen set n) ⌝ }
+{
+    let mut count: usize = 0;
+    let mut v = 0;
+    while v < n {
+        count += bit(set, v);
+        v += 1;
+    }
+    count
+}
+
+// The size of a variable's set, or 1 where the variable is not in the set of variables.
+fn factor(sizes: &[u8], vars: &[u8], set: u32, v: usize) -> usize
+    requires { ⌜ v < 32 ⌝ }
+    ensures { λ r. ⌜ r ≡ (if inSet set v then sizeFor (now (sizes .entry)) (now (vars .entry)) v else 1) ⌝ }
+{
+    if bit(set, v) == 1 {
+        return entry(sizes, entry(vars, v) as usize) as usize;
+    }
+    1
+}
+
+// The product of the set sizes of at most four variables.
+fn bindings(sizes: &[u8], vars: &[u8], set: u32) -> usize
+    requires { ⌜ length (now vars) ≤ 32 ⌝ }
+    requires { ⌜ length (chosen set (length (now vars))) ≤ 4 ⌝ }
+    ensures is { λ r. ⌜ r ≡ productOf (now (sizes .entry)) (now (vars .entry)) set (length (now (vars .entry))) ⌝ }
+    ensures small { λ r. ⌜ r ≤ 4228250625 ⌝ }
+{
+    let mut product: usize = 1;
+    let mut v = 0;
+    while v < vars.len() {
+        product = product * factor(sizes, vars, set, v);
+        v += 1;
+    }
+    product
+}
+
+// The binding space with a transition that ends, or the fault at its end.
+pub enum Closed {
+    Whole { space: usize },
+    Fault { number: u8, place: usize },
+}
+
+// The end of a transition with these variables, after a binding space.
+fn close_at(
+    s: &[u8],
+    sizes: &[u8],
+    vars: &[u8],
+    set: u32,
+    space: usize,
+    at: usize,
+    end: usize,
+) -> Closed
+    requires { ⌜ length (now vars) ≤ 32 ⌝ }
+    requires { ⌜ space ≤ 65536 ⌝ }
+    ensures is { λ r. ⌜ ((places : List Place) (transitions : List Transition) (t : Transition) → set ≡ bits (λ v. inTransition v t) 32
+        → bindingSpace (net (now (sizes .entry)) (now (vars .entry)) places [] []) transitions ≡ space
+        → ClosedTold (now (s .entry)) (net (now (sizes .entry)) (now (vars .entry)) places [] []) transitions at t end r) ⌝ }
+    ensures room { λ r. ⌜ ClosedRoom r ⌝ }
+{
+    if byte_at(s, end) == 0x15 {
+        return Closed::Fault {
+            number: 3,
+            place: end,
+        };
+    }
+    if 4 < count_in(set, vars.len()) {
+        return Closed::Fault {
+            number: 10,
+            place: at,
+        };
+    }
+    let more = space + bindings(sizes, vars, set);
+    if 65536 < more {
+        return Closed::Fault {
+            number: 11,
+            place: at,
+        };
+    }
+    Closed::Whole { space: more }
+}
+
+// Where a guard stands, or 0 without one.
+fn guard_place(s: &[u8], at: usize) -> u16
+    requires { ⌜ length (now s) ≤ 16384 ⌝ }
+    ensures { λ r. ⌜ r ≡ guardPlace (now (s .entry)) at ⌝ }
+{
+    if s.len() <= at {
+        return 0;
+    }
+    if s[at] == 0x15 {
+        return (at + 1) as u16;
+    }
+    0
+}
+
+// One step of the transition part: where the guard stands, the variables, and the binding space with it.
+pub enum TransitionStep {
+    Done,
+    More {
+        guard: u16,
+        uses: u32,
+        space: usize,
+        next: usize,
+    },
+    Stop {
+        number: u8,
+        place: usize,
+    },
+}
+
+// The transition whose command stands at a place.
+fn transition_in(
+    s: &[u8],
+    sizes: &[u8],
+    vars: &[u8],
+    firsts: &[u8],
+    seconds: &[u8],
+    space: usize,
+    row: &mut [u16],
+    at: usize,
+) -> TransitionStep
+    requires { ⌜ length (now s) ≤ 16384 ⌝ }
+    requires { ⌜ length (now vars) ≤ 32 ⌝ }
+    requires { ⌜ length (now firsts) ≤ 32 ⌝ }
+    requires { ⌜ length (now seconds) ≡ length (now firsts) ⌝ }
+    requires { ⌜ length (now row) ≡ 96 ⌝ }
+    requires { ⌜ space ≤ 65536 ⌝ }
+    requires { ⌜ at < length (now s) ⌝ }
+    ensures is { λ r. ⌜ ((transitions : List Transition) → bindingSpace (over (now (sizes .entry)) (now (vars .entry)) (now (firsts .entry)) (now (seconds .entry))) transitions ≡ space
+        → TransitionTold (now (s .entry)) (over (now (sizes .entry)) (now (vars .entry)) (now (firsts .entry)) (now (seconds .entry))) transitions
+        (some (inside (now (s .entry)) (over (now (sizes .entry)) (now (vars .entry)) (now (firsts .entry)) (now (seconds .entry))) transitions at)) (λ i. getD (now (row .exit)) i 0) r) ⌝ }
+    ensures room { λ r. ⌜ TransitionRoom (length (now (s .entry))) at r ⌝ }
+{
+    match read_guard_if(s, sizes, vars, at + 1) {
+        Read::Fault { number, place } => TransitionStep::Stop { number, place },
+        Read::Whole { next, set: _, uses } => match read_arcs(
+            s,
+            sizes,
+            vars,
+            firsts,
+            seconds,
+            row,
+            next,
+        ) {
+            Gathered::Fault { number, place } => TransitionStep::Stop { number, place },
+            Gathered::Whole {
+                uses: more,
+                next: end,
+            } => {
+                match close_at(s, sizes, vars, uses | more, space, at, end) {
+                    Closed::Fault { number, place } => TransitionStep::Stop { number, place },
+                    Closed::Whole { space } => TransitionStep::More {
+                        guard: guard_place(s, at + 1),
+                        uses: uses | more,
+                        space,
+                        next: end,
+                    },
+                }
+            }
+        },
+    }
+}
+
+// The transition command at a place, after so many transitions with a binding space; its row is the next of the table.
+pub fn transition_at(
+    s: &[u8],
+    sizes: &[u8],
+    vars: &[u8],
+    firsts: &[u8],
+    seconds: &[u8],
+    count: usize,
+    space: usize,
+    arcs: &mut [u16],
+    at: usize,
+) -> TransitionStep
+    requires { ⌜ length (now s) ≤ 16384 ⌝ }
+    requires { ⌜ length (now vars) ≤ 32 ⌝ }
+    requires { ⌜ length (now firsts) ≤ 32 ⌝ }
+    requires { ⌜ length (now seconds) ≡ length (now firsts) ⌝ }
+    requires { ⌜ length (now arcs) ≡ 3072 ⌝ }
+    requires { ⌜ space ≤ 65536 ⌝ }
+    ensures is { λ r. ⌜ ((transitions : List Transition) → length transitions ≡ count
+        → bindingSpace (over (now (sizes .entry)) (now (vars .entry)) (now (firsts .entry)) (now (seconds .entry))) transitions ≡ space
+        → TransitionTold (now (s .entry)) (over (now (sizes .entry)) (now (vars .entry)) (now (firsts .entry)) (now (seconds .entry))) transitions
+        (transitionPart (now (s .entry)) (over (now (sizes .entry)) (now (vars .entry)) (now (firsts .entry)) (now (seconds .entry))) transitions at)
+        (λ i. getD (now (arcs .exit)) (count * 96 + i) 0) r) ⌝ }
+    ensures room { λ r. ⌜ TransitionRoom (length (now (s .entry))) at r ⌝ }
+    ensures few { λ r. ⌜ TransitionFew count r ⌝ }
+    ensures kept { λ r. ⌜ ((i : ℕ) → i < count * 96 → getD (now (arcs .exit)) i 0 ≡ getD (now (arcs .entry)) i 0) ⌝ }
+{
+    if s.len() <= at {
+        return TransitionStep::Done;
+    }
+    if s[at] == 0x14 {
+        if 32 <= count {
+            return TransitionStep::Stop {
+                number: 4,
+                place: at,
+            };
+        }
+        let from = count * 96;
+        let to = from + 96;
+        return transition_in(
+            s,
+            sizes,
+            vars,
+            firsts,
+            seconds,
+            space,
+            &mut arcs[from..to],
+            at,
+        );
+    }
+    TransitionStep::Done
+}
