@@ -229,3 +229,78 @@ pub enum NetRead {
         place: usize,
     },
 }
+
+// The whole net file: what it holds goes into the lent tables; named is for the reading alone.
+pub fn read_net(
+    s: &[u8],
+    sizes: &mut [u8],
+    vars: &mut [u8],
+    firsts: &mut [u8],
+    seconds: &mut [u8],
+    starts: &mut [usize],
+    uses: &mut [u32],
+    guards: &mut [u16],
+    arcs: &mut [u16],
+    initial: &mut [u16],
+    named: &mut [u8],
+) -> NetRead
+    requires { ⌜ length (now sizes) ≡ 16 ⌝ }
+    requires { ⌜ length (now vars) ≡ 32 ⌝ }
+    requires { ⌜ length (now firsts) ≡ 32 ⌝ }
+    requires { ⌜ length (now seconds) ≡ 32 ⌝ }
+    requires { ⌜ length (now starts) ≡ 33 ⌝ }
+    requires { ⌜ length (now uses) ≡ 32 ⌝ }
+    requires { ⌜ length (now guards) ≡ 32 ⌝ }
+    requires { ⌜ length (now arcs) ≡ 3072 ⌝ }
+    requires { ⌜ length (now initial) ≡ 4096 ⌝ }
+    requires { ⌜ length (now named) ≡ 4096 ⌝ }
+    ensures { λ r. ⌜ NetTold (now (s .entry)) (now (sizes .exit)) (now (vars .exit)) (now (firsts .exit)) (now (seconds .exit)) (now (starts .exit))
+        (now (uses .exit)) (now (guards .exit)) (now (arcs .exit)) (now (initial .exit)) r ⌝ }
+{
+    if 16384 < s.len() {
+        return NetRead::Refused {
+            number: 1,
+            place: 16384,
+        };
+    }
+    match read_opening(s) {
+        Ended::Fault { number, place } => NetRead::Refused { number, place },
+        Ended::Whole { next } => {
+            match read_content(
+                s,
+                sizes,
+                vars,
+                firsts,
+                seconds,
+                starts,
+                uses,
+                guards,
+                arcs,
+                initial,
+                named,
+                next,
+            ) {
+                Content::Fault { number, place } => NetRead::Refused { number, place },
+                Content::Whole {
+                    sets,
+                    variables,
+                    places,
+                    total,
+                    transitions,
+                    space,
+                    next: end,
+                } => match read_closing(s, end) {
+                    Ended::Fault { number, place } => NetRead::Refused { number, place },
+                    Ended::Whole { next: _ } => NetRead::Whole {
+                        sets,
+                        variables,
+                        places,
+                        total,
+                        transitions,
+                        space,
+                    },
+                },
+            }
+        }
+    }
+}

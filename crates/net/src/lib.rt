@@ -1,12 +1,12 @@
 // Reads net files. The meanings of this crate stand in specs/.
-mod evaluate;
-mod expression;
-mod space;
-mod table;
 mod arc;
 mod clear;
+mod evaluate;
+mod expression;
 mod file;
 mod place;
+mod space;
+mod table;
 mod token;
 mod transition;
 mod transitions;
@@ -21,6 +21,8 @@ pub use evaluate::eval_guard_if;
 pub use evaluate::eval_weight;
 pub use evaluate::next_rank;
 pub use expression::read_expression;
+pub use file::NetRead;
+pub use file::read_net;
 pub use space::bindings_of;
 pub use space::count_of;
 pub use table::width;
