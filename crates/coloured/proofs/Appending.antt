@@ -1,16 +1,13 @@
 -- Arcs appended to two lent lists. Assumes nothing.
 use mathlib.Core.Path.{_≡_, refl, sym, ap, ap₂, _∙_}
-use mathlib.Core.List.{append-assoc}
 use Prim.Native.Nat.{_≤_, _<_}
 use native.Mathlib.Omega.{arith}
-use native.Mathlib.Numerals.{add-one}
 use lib.ListN.{set, length-set, length-append}
 use lib.Seq.{take-set-le, take-take, getD-take, getD-set-same}
-use Rattle.reading.specs.Basics.{ℕ, zero, suc, _+_, _-_, Bool, true, false, List, [], _∷_, _++_, map, length, getD, take, ltb, if_then_else_, numbersFrom, below}
-use Rattle.reading.proofs.Lists.{In, of-from, map-same}
+use Rattle.reading.specs.Basics.{ℕ, zero, suc, _+_, _-_, List, [], _∷_, _++_, map, length, getD, take, numbersFrom, below}
+use Rattle.reading.proofs.Lists.{of-from, map-same}
 use Rattle.firing.specs.Arcs.{Arc, arcsIn}
-use Rattle.coloured.specs.Drawing.{ranksFrom, rankArcs, Appended}
-use Rattle.coloured.proofs.Split.{ranks-more, ranks-skip, ranks-pass, ranks-few}
+use Rattle.coloured.specs.Drawing.{Appended}
 
 -- ---- arcs in lent lists
 from-join : (a m n : ℕ) → numbersFrom a (m + n) ≡ numbersFrom a m ++ numbersFrom (a + m) n
@@ -42,12 +39,14 @@ arcs-kept places amounts places' amounts' a b p q =
     same l' l i e h = sym (getD-take b l' i 0 h) ∙ ap (λ l. getD l i 0) e ∙ getD-take b l i 0 h
 
 -- ---- appending
+-- nothing
 pub append-none : (places amounts : List ℕ) (used : ℕ) → Appended [] places amounts used places amounts used
 unfolding arcsIn numbersFrom
 append-none places amounts used =
     let e : used - used ≡ 0 = omega arith in
     record { front = refl; fronts = refl; are = rw e; end = omega arith; size = refl; sizes = refl }
 
+-- one arc, stored in both lists
 pub append-one : (places amounts : List ℕ) (used p w : ℕ) → used < length places → used < length amounts
     → Appended (record { place = p; weight = w } ∷ []) places amounts used (set places used p) (set amounts used w) (used + 1)
 unfolding arcsIn numbersFrom

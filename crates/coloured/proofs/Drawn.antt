@@ -2,28 +2,27 @@
 use mathlib.Core.Path.{_≡_, refl, sym, ap, ap₂, subst, fun-ext, _∙_}
 use Prim.Native.Nat.{_≤_, _<_}
 use native.Mathlib.Omega.{arith}
-use native.Mathlib.Numerals.{add-one}
-use lib.ListN.{length-append}
-use Rattle.reading.specs.Basics.{ℕ, zero, suc, _+_, _-_, _*_, Bool, true, false, not, List, [], _∷_, _++_, flatMap, Option, none, some, Option·map, length, getD, ltb, eqb, if_then_else_, given, numbersFrom}
-use Rattle.reading.specs.Reading.{Answer, fine, fault}
+use Rattle.reading.specs.Basics.{ℕ, _+_, _-_, _*_, Bool, not, List, [], flatMap, Option, none, some, Option·map, length, getD, eqb, numbersFrom}
 use Rattle.firing.specs.Arcs.{Arc}
 use Rattle.net.specs.Net as net
-use Rattle.net.specs.Net.{Expression, Place, single, pair, Net, net, coloursOf, placeAt, flatPlaceCount, arcOn}
+use Rattle.net.specs.Net.{Place, single, pair, Net, net, coloursOf, placeAt, flatPlaceCount, arcOn}
 use Rattle.net.specs.Reader.{readExpression}
 use Rattle.net.specs.Values.{weight}
 use Rattle.net.specs.Evaluated.{bound, placeBy, isPair}
+use Rattle.net.specs.Tables.{Slot}
+use Rattle.net.proofs.Alike.{weight-alike}
 use Rattle.coloured.specs.Effect.{transitionAt, arcWeight}
-use Rattle.coloured.specs.Drawing.{rankArcs, startOf, placeArcs, kindArcs, Appended, Slot, Standing, Drawing}
+use Rattle.coloured.specs.Drawing.{rankArcs, startOf, placeArcs, kindArcs, Appended, Drawing}
 use Rattle.coloured.specs.Loading.{ArcLoaded, PlaceLoaded, KindLoaded}
-use Rattle.coloured.proofs.Split.{ranks-few, start-next, start-low, kind-more, kind-few, place-none}
+use Rattle.coloured.proofs.Split.{start-next, start-low, kind-more, kind-few, place-none}
 use Rattle.coloured.proofs.Appending.{append-none, append-join}
-use Rattle.coloured.proofs.Agreeing.{weight-same}
 
 -- a place by whether it is a pair
 place-by : (q : Place) → (first : ℕ) × (second : ℕ) × (placeBy (isPair q) first second ≡ q)
 place-by (single a) = (a, 0, refl)
 place-by (pair a b) = (a, b, refl)
 
+-- the same arcs from equal parts
 rank-same : (start start' count count' : ℕ) (w w' : ℕ → ℕ) → start ≡ start' → count ≡ count' → ((r : ℕ) → w r ≡ w' r) → rankArcs start count w ≡ rankArcs start' count' w'
 rank-same start start' count count' w w' e f h = ap (λ x. rankArcs x count w) e ∙ ap (λ x. rankArcs start' x w) f ∙ ap (rankArcs start' count') (fun-ext h)
 
@@ -31,7 +30,7 @@ rank-same start start' count count' w w' e f h = ap (λ x. rankArcs x count w) e
 module _ {s : List ℕ} {n : Net} {sizes vars seconds starts guards arcs : List ℕ} (env : List ℕ) (d : Drawing s n sizes vars seconds starts guards arcs)
     {t k p base : ℕ} (ht : t < length (n .transitions)) (hk : k < 3) (hb : base ≡ t * 96 + k * 32) (hp : p < length (n .places)) where
   slot : Slot (readExpression s (net sizes vars (n .places) [] []) (placeAt n p) 16) (Option·map (λ a. a .expression) (arcOn (transitionAt n t .arcs) (0x16 + k) p)) (getD arcs (base + p) 0)
-  slot = rw hb (d .arc t k p ht hk hp)
+  slot = let e : base + p ≡ t * 96 + (k * 32 + p) = omega arith in rw e (d .arc t k p ht hk hp)
 
   -- where its flat places begin and end
   begins : getD starts p 0 ≡ startOf n p
@@ -40,6 +39,7 @@ module _ {s : List ℕ} {n : Net} {sizes vars seconds starts guards arcs : List 
   ends : getD starts (p + 1) 0 ≡ startOf n p + coloursOf n (placeAt n p)
   ends = d .begin (p + 1) (omega arith) ∙ start-next n p hp
 
+  -- what the code tests of them never fails
   pub in-order : (start end : ℕ) → start ≡ getD starts p 0 → end ≡ getD starts (p + 1) 0 → end < start → ⊥
   in-order start end e f h = omega (arith, begins, ends)
 
@@ -47,6 +47,7 @@ module _ {s : List ℕ} {n : Net} {sizes vars seconds starts guards arcs : List 
   in-bounds end f h = omega (arith, d .begin (p + 1) (omega arith), start-low n (p + 1), d .few)
 
   module _ (places amounts : List ℕ) (used : ℕ) where
+    -- no expression stands there
     pub place-empty : (at : ℕ) → at ≡ getD arcs (base + p) 0 → at < 1 → Appended (placeArcs n (transitionAt n t) (bound env) (0x16 + k) p) places amounts used places amounts used
     place-empty at e h = go (arcOn (transitionAt n t .arcs) (0x16 + k) p) refl slot
       where
@@ -56,6 +57,7 @@ module _ {s : List ℕ} {n : Net} {sizes vars seconds starts guards arcs : List 
         go none q sl = rw (place-none n (transitionAt n t) (bound env) (0x16 + k) p q) (append-none places amounts used)
         go (some a) q sl = absurd (omega (arith, sl .0))
 
+    -- the expression that stands there was loaded
     pub place-loads : (places' amounts' : List ℕ) (start end at r : ℕ) (paired : Bool) → at ≡ getD arcs (base + p) 0 → 1 ≤ at → start ≡ getD starts p 0 → end ≡ getD starts (p + 1) 0
         → paired ≡ not (eqb (getD seconds p 0) 255)
         → ArcLoaded s sizes vars env paired start (end - start) at places amounts used places' amounts' r
@@ -78,7 +80,7 @@ module _ {s : List ℕ} {n : Net} {sizes vars seconds starts guards arcs : List 
             subst (λ l. Appended l places amounts used places' amounts' r)
             (rank-same start (startOf n p) (end - start) (coloursOf n (placeAt n p)) (λ rank. weight (net sizes vars (n .places) [] []) (bound env) rank (a .expression))
             (λ rank. arcWeight n (transitionAt n t) (bound env) (0x16 + k) (record { place = p; rank = rank })) (f ∙ begins) many
-            (λ rank. weight-same (net sizes vars (n .places) [] []) n (sym (d .sets)) (sym (d .variables)) (bound env) (bound env) rank (a .expression) (λ v z. refl) ∙ rw q refl))
+            (λ rank. weight-alike (net sizes vars (n .places) [] []) n (sym (d .sets)) (sym (d .variables)) (bound env) rank (a .expression) ∙ rw q refl))
             (loaded (n .places) (by .0) (by .1) (sl .1 .next) (a .expression)
             (ap (λ b. readExpression s (net sizes vars (n .places) [] []) (placeBy b (by .0) (by .1)) 16 at) paired-as ∙ ap₂ (λ q i. readExpression s (net sizes vars (n .places) [] []) q 16 i) (by .2) e ∙ sl .1 .reads)
             (omega (arith, many)) (omega (arith, many)))
@@ -90,6 +92,7 @@ pub record KindLoading (s sizes vars env seconds starts arcs : List ℕ) (base c
       → Appended (kindArcs n (transitionAt n t) (bound env) (0x16 + k) p) places₀ amounts₀ used places amounts end
 
 module _ {s sizes vars env seconds starts arcs : List ℕ} {base count : ℕ} {places₀ amounts₀ : List ℕ} {used : ℕ} where
+  -- no place, one more place, all places
   pub kind-begins : KindLoading s sizes vars env seconds starts arcs base count places₀ amounts₀ used places₀ amounts₀ used 0
   unfolding flatMap numbersFrom
   kind-begins = record { each = λ n guards t k d ht hk hb hc x y. append-none places₀ amounts₀ used }

@@ -4,23 +4,30 @@ use mathlib.Core.List.{List·Memᴰ·not-nil}
 use Prim.Native.Nat.{_≤_, _<_}
 use native.Mathlib.Omega.{arith}
 use lib.Seq.{take-take}
-use Rattle.reading.specs.Basics.{ℕ, zero, suc, _+_, _*_, Bool, true, false, not, _&&_, _||_, List, [], _∷_, Option, none, some, length, take, getD, getElem?, eqb, if_then_else_, given, any, find}
+use Rattle.reading.specs.Basics.{ℕ, _+_, _*_, Bool, true, false, not, _||_, List, [], _∷_, Option, none, some, length, take, getD, getElem?, if_then_else_, given, any, find}
 use Rattle.reading.proofs.Lists.{In, here, there, in-cases}
-use Rattle.firing.specs.Firing.{Weights, Fired, fired, fire}
-use Rattle.firing.specs.Arcs.{Arc, arcsIn, arcsOf, row, rowIn, rowOf, weights, Proper}
+use Rattle.firing.specs.Firing.{fired, fire}
+use Rattle.firing.specs.Arcs.{Arc, arcsOf, row, rowIn, rowOf, weights, Proper}
 use Rattle.firing.proofs.Agree.{fire-same}
 use Rattle.firing.proofs.Weighted.{row-agrees, row-proper}
 use Rattle.net.specs.Net as net
-use Rattle.net.specs.Net.{Expression, Transition, Net, net, coloursOf, placeAt, flatPlaceCount, arcOn, variablesOf, inGuard, inExpression}
-use Rattle.net.specs.Reader.{readGuard}
+use Rattle.net.specs.Net.{Transition, Net, net, flatPlaceCount, arcOn, variablesOf, inGuard, inExpression}
 use Rattle.net.specs.Values.{holds, weight}
 use Rattle.net.specs.Evaluated.{bound}
+use Rattle.net.proofs.Alike.{holds-alike, holds-bound, weight-bound}
 use Rattle.coloured.specs.Effect.{Binding, FlatPlace, transitionAt, standsFor, flatPlaces, arcWeight, weightsOf, effect}
 use Rattle.coloured.specs.Drawing.{kindArcs, Appended, Drawing, standsIn, Binds, RowLoaded}
 use Rattle.coloured.specs.Loading.{KindLoaded, GuardTold, binding}
 use Rattle.coloured.proofs.Split.{split, start-low, kind-few}
 use Rattle.coloured.proofs.Appending.{arcs-kept}
-use Rattle.coloured.proofs.Agreeing.{or-left, or-right, holds-same, weight-same}
+
+-- ---- what stands somewhere
+or-left : (a b : Bool) → a ≡ true → a || b ≡ true
+or-left a b e = rw e
+
+or-right : (a b : Bool) → b ≡ true → a || b ≡ true
+or-right true b e = refl
+or-right false b e = e
 
 -- an arc that is found is one of the arcs
 found-in : (test : net.Arc → Bool) (l : List net.Arc) (a : net.Arc) → find test l ≡ some a → In a l
@@ -32,6 +39,7 @@ found-in test (b ∷ l) a e = go (test b) (found-in test l a) e
     go true ih q = let z : b ≡ a = cc in subst (λ x. In x (b ∷ l)) z here
     go false ih q = there (ih q)
 
+-- a test that an element passes, some element passes
 in-any : (test : net.Arc → Bool) (l : List net.Arc) (a : net.Arc) → In a l → test a ≡ true → any test l ≡ true
 unfolding any
 in-any test [] a m e = absurd (List·Memᴰ·not-nil m)
@@ -39,15 +47,16 @@ in-any test (b ∷ l) a m e = in-cases (λ q. or-left (test b) _ (ap test (sym q
 
 -- ---- colours of a binding
 module _ (n : Net) (t : Transition) (env other : ℕ → ℕ) (same : (v : ℕ) → standsIn v t ≡ true → env v ≡ other v) where
+  -- the guard, and each arc's weights
   guard-as : holds n env (t .guard) ≡ holds n other (t .guard)
-  guard-as = holds-same n n refl refl env other (t .guard) (λ v e. same v (or-left _ (any (λ a. inExpression v (a .expression)) (t .arcs)) e))
+  guard-as = holds-bound n env other (t .guard) (λ v e. same v (or-left _ (any (λ a. inExpression v (a .expression)) (t .arcs)) e))
 
   arc-as : (kind : ℕ) (f : FlatPlace) → arcWeight n t env kind f ≡ arcWeight n t other kind f
   arc-as kind f = go (arcOn (t .arcs) kind (f .place)) refl
     where
       go : (o : Option net.Arc) → arcOn (t .arcs) kind (f .place) ≡ o → given o 0 (λ a. weight n env (f .rank) (a .expression)) ≡ given o 0 (λ a. weight n other (f .rank) (a .expression))
       go none q = refl
-      go (some a) q = weight-same n n refl refl env other (f .rank) (a .expression)
+      go (some a) q = weight-bound n env other (f .rank) (a .expression)
           (λ v e. same v (or-right (inGuard v (t .guard)) _ (in-any (λ a. inExpression v (a .expression)) (t .arcs) a (found-in _ (t .arcs) a q) e)))
 
   -- the arcs of a kind, place by place, are the row's
@@ -66,10 +75,11 @@ not-false false e = sym e
 module _ {s : List ℕ} {n : Net} {sizes vars seconds starts guards arcs : List ℕ} (env : List ℕ) (d : Drawing s n sizes vars seconds starts guards arcs)
     (t : ℕ) (ht : t < length (n .transitions)) (colours : List ℕ) (binds : Binds n (binding t colours) env)
     {at : ℕ} (r : Bool) (slot : at ≡ getD guards t 0) (told : GuardTold s sizes vars env at r) where
+  -- what the code says of the guard
   guard-is : r ≡ holds n (standsFor (variablesOf n (transitionAt n t)) colours) (transitionAt n t .guard)
   guard-is =
       told (n .places) (transitionAt n t .guard) (rw slot (d .guard t ht))
-      ∙ holds-same (net sizes vars (n .places) [] []) n (sym (d .sets)) (sym (d .variables)) (bound env) (bound env) (transitionAt n t .guard) (λ v e. refl)
+      ∙ holds-alike (net sizes vars (n .places) [] []) n (sym (d .sets)) (sym (d .variables)) (bound env) (transitionAt n t .guard)
       ∙ guard-as n (transitionAt n t) (bound env) (standsFor (variablesOf n (transitionAt n t)) colours) binds
 
   -- the guard is false
@@ -126,6 +136,7 @@ module _ {n : Net} {b : Binding} {places amounts : List ℕ} {takes puts hinders
   pub loaded-proper : Proper (length m) (rowIn places amounts takes puts hinders)
   loaded-proper = rw (l .row, sized) (row-proper (flatPlaceCount n) (l .weighs))
 
+  -- the row's weights fire as the effect's
   pub loaded-fires : fire (weights (rowIn places amounts takes puts hinders)) m ≡ fire (l .weighs) m
   loaded-fires = ap (λ r. fire (weights r) m) (l .row) ∙ fire-same (weights (rowOf (flatPlaceCount n) (l .weighs))) (l .weighs) m (rw sized (row-agrees (flatPlaceCount n) (l .weighs)))
 

@@ -9,9 +9,13 @@ pub mod Values
 pub mod Split
 pub mod Appending
 pub mod Loads
-pub mod Agreeing
 pub mod Drawn
 pub mod Effects
 pub mod Used
 pub mod Readied
-pub mod Readying
+pub mod Turning
+pub mod Searching
+pub mod Gathering
+pub mod Calling
+pub mod Tabled
+pub mod Accepted

@@ -3,25 +3,27 @@ use mathlib.Core.Path.{_≡_, refl, sym, ap, subst, _∙_}
 use mathlib.Core.List.{append-assoc, append-nil}
 use Prim.Native.Nat.{_≤_, _<_}
 use native.Mathlib.Omega.{arith}
-use borrow.Author.Tests.{ltb-true, ltb-false, leb-true, leb-false, lt-ltb, le-ltb}
+use borrow.Author.Tests.{leb-true, leb-false, lt-ltb, le-ltb}
 use lib.ListN.{set, length-append}
-use Rattle.reading.specs.Basics.{ℕ, zero, suc, _+_, _-_, _*_, Bool, true, false, not, List, [], _∷_, _++_, Option, none, some, Option·map, length, getD, ltb, leb, eqb, if_then_else_, given, keep, numbersFrom}
-use Rattle.reading.specs.Reading.{Answer, fine, fault}
+use Rattle.reading.specs.Basics.{ℕ, suc, _+_, _-_, Bool, true, false, List, [], _∷_, _++_, length, ltb, leb, if_then_else_, keep, numbersFrom}
+use Rattle.reading.specs.Reading.{fine}
 use Rattle.firing.specs.Arcs.{Arc}
 use Rattle.net.specs.Net.{Guard, Expression, Place, Net, net}
 use Rattle.net.specs.Reader.{readGuard, readExpression}
 use Rattle.net.specs.Values.{holds, weight}
 use Rattle.net.specs.Evaluated.{bound, placeBy, Held, Skips, Weighs}
+use Rattle.net.specs.Tables.{GuardHolds}
 use Rattle.net.specs.declared.evaluate.Ranked.{Ranked}
 use Rattle.net.specs.declared.evaluate.Weighed.{Weighed}
 use Rattle.net.specs.declared.evaluate.Tested.{Tested}
-use Rattle.coloured.specs.Drawing.{ranksFrom, rankArcs, Appended, GuardSlot}
+use Rattle.coloured.specs.Drawing.{ranksFrom, rankArcs, Appended}
 use Rattle.coloured.specs.Loading.{oneArc, ArcLoaded}
-use Rattle.coloured.proofs.Split.{ranks-more, ranks-skip, ranks-pass, ranks-few}
+use Rattle.coloured.proofs.Split.{ranks-pass, ranks-few}
 use Rattle.coloured.proofs.Appending.{append-none, append-one, append-join}
 
 -- ---- one arc
 module _ (places amounts : List ℕ) (used p w : ℕ) where
+  -- its weight is 0, or it is stored
   pub one-none : w < 1 → Appended (oneArc p w) places amounts used places amounts used
   one-none h = rw (le-ltb 0 w (omega arith)) (append-none places amounts used)
 
@@ -109,6 +111,7 @@ pub record ArcLoading (s sizes vars env : List ℕ) (paired : Bool) (start count
       → Loading start count (λ rank. weight (net sizes vars known [] []) (bound env) rank e) places₀ amounts₀ used places amounts end rank
 
 module _ {s sizes vars env : List ℕ} {paired : Bool} {start count at : ℕ} {places₀ amounts₀ : List ℕ} {used : ℕ} where
+  -- nothing is appended yet, and the first rank with a weight is known
   pub arc-begins : (r : Ranked)
       → ((known : List Place) (first second : ℕ) → Skips (net sizes vars known [] []) env 0 r (readExpression s (net sizes vars known [] []) (placeBy paired first second) 16 at))
       → ArcLoading s sizes vars env paired start count at places₀ amounts₀ used places₀ amounts₀ used (r .rank)
@@ -119,6 +122,7 @@ module _ {s sizes vars env : List ℕ} {paired : Bool} {start count at : ℕ} {p
   }
 
   module _ {places amounts : List ℕ} {end rank : ℕ} (l : ArcLoading s sizes vars env paired start count at places₀ amounts₀ used places amounts end rank) where
+    -- one rank's arc is appended, and the next rank with a weight is known
     pub arc-goes : {places' amounts' : List ℕ} {end' : ℕ} (r : Ranked) (v : Weighed) → rank < count
         → ((known : List Place) (first second : ℕ) → Weighs (net sizes vars known [] []) env rank v (readExpression s (net sizes vars known [] []) (placeBy paired first second) 16 at))
         → ((0 < v .weight → (end < length places) × (end < length amounts)) → Appended (oneArc (start + rank) (v .weight)) places amounts end places' amounts' end')
@@ -132,15 +136,17 @@ module _ {s sizes vars env : List ℕ} {paired : Bool} {start count at : ℕ} {p
           (subst (Skips (net sizes vars known [] []) env (rank + 1) r) reads (skips known first second) .1);
     }
 
+    -- no rank is left
     pub arc-ends : count ≤ rank → ArcLoaded s sizes vars env paired start count at places₀ amounts₀ used places amounts end
     arc-ends h known first second next e reads a b =
         loading-ends start count (λ rank. weight (net sizes vars known [] []) (bound env) rank e) places₀ amounts₀ used places amounts end rank (l .each known first second next e reads a b) h
 
 -- ---- guards
-module _ (s : List ℕ) (n : Net) (env : List ℕ) (g : Guard) (at : ℕ) (slot : GuardSlot (readGuard s n 16) g at) where
+module _ (s : List ℕ) (n : Net) (env : List ℕ) (g : Guard) (at : ℕ) (slot : GuardHolds s n g at) where
+  -- no guard stands there, or one does
   pub guard-none : at < 1 → true ≡ holds n (bound env) g
   unfolding holds
   guard-none h = sym (ap (holds n (bound env)) (slot .without (omega arith)))
 
   pub guard-told : (r : Tested) → 1 ≤ at → Held n env r (readGuard s n 16 at) → r .holds ≡ holds n (bound env) g
-  guard-told r h held = let st = slot .standing (omega arith) in ap (λ x. x .holds) (subst (Held n env r) (st .reads) held)
+  guard-told r h held = let st = slot .stands (omega arith) in ap (λ x. x .holds) (subst (Held n env r) (st .reads) held)

@@ -28,6 +28,11 @@ pub transition-numbered : (n : Net) (t : Transition) (colours : List ℕ) {r : N
 unfolding variablesOf
 transition-numbered n t colours e = e
 
+-- the sizes of a transition's variables
+pub transition-sizes : (n : Net) (t : Transition) → sizesOver n (those n (standsIn (t .guard) (t .arcs))) ≡ sizesOf n t
+unfolding variablesOf
+transition-sizes n t = refl
+
 -- ---- the colours of an order
 -- a number of colours that fit
 pub numbered-at : (sizes colours : List ℕ) {index : ℕ} → At index ≡ numberOf sizes colours

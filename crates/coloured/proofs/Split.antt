@@ -4,9 +4,9 @@ use mathlib.Core.List.{append-assoc, append-nil}
 use Prim.Native.Nat.{_≤_, _<_}
 use native.Mathlib.Omega.{arith}
 use native.Mathlib.Numerals.{add-one}
-use borrow.Author.Tests.{ltb-true, ltb-false, lt-ltb, le-ltb}
+use borrow.Author.Tests.{lt-ltb, le-ltb}
 use lib.ListN.{length-append, length-map}
-use Rattle.reading.specs.Basics.{ℕ, zero, suc, _+_, _-_, Bool, true, false, List, [], _∷_, _++_, map, flatMap, Option, none, some, length, getD, getElem?, take, ltb, if_then_else_, given, keep, numbersFrom, below, sum}
+use Rattle.reading.specs.Basics.{ℕ, zero, suc, _+_, _-_, Bool, true, false, List, [], _∷_, _++_, map, flatMap, none, length, getD, getElem?, take, ltb, if_then_else_, given, keep, numbersFrom, below, sum}
 use Rattle.reading.proofs.Lists.{map-same, map-from, length-from}
 use Rattle.firing.specs.Arcs.{Arc, arcsOf}
 use Rattle.net.specs.Net.{Transition, Net, single, coloursOf, placeAt, flatPlaceCount, arcOn}
@@ -109,6 +109,7 @@ start-in n [] p h = absurd (omega arith)
 start-in n (a ∷ l) zero h = omega arith
 start-in n (a ∷ l) (suc p) h = let e = start-in n l p (omega arith) in omega arith
 
+-- the same, of a net's places
 pub start-next : (n : Net) (p : ℕ) → p < length (n .places) → startOf n (p + 1) ≡ startOf n p + coloursOf n (placeAt n p)
 start-next n p h = rw (add-one p) (start-in n (n .places) p h)
 
@@ -123,12 +124,14 @@ start-low n p = go (n .places) p
     go (a ∷ l) (suc p) = let h = go l p in omega arith
 
 -- ---- all places of a kind
+-- one more number at the end
 flat-more : (f : ℕ → List Arc) (a p : ℕ) → flatMap f (numbersFrom a (suc p)) ≡ flatMap f (numbersFrom a p) ++ f (a + p)
 unfolding flatMap numbersFrom
 flat-more f a zero = let e : a + 0 ≡ a = omega arith in rw (e, append-nil)
 flat-more f a (suc p) = let e : a + suc p ≡ a + 1 + p = omega arith in rw (flat-more f (a + 1) p, e, append-assoc)
 
 module _ (n : Net) (t : Transition) (env : ℕ → ℕ) (kind : ℕ) where
+  -- the arcs over all flat places are the arcs over each place's ranks, place by place
   pub split : arcsOf (flatPlaceCount n) (λ p. given (getElem? (flatPlaces n) p) 0 (arcWeight n t env kind)) ≡ kindArcs n t env kind (length (n .places))
   unfolding flatPlaces
   split =

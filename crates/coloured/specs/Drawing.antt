@@ -2,12 +2,12 @@
 use mathlib.Core.Path.{_≡_}
 use Prim.Native.Nat.{_≤_, _<_}
 use Rattle.reading.specs.Basics.{ℕ, _+_, _-_, _*_, Bool, true, not, _||_, List, [], map, flatMap, Option, none, some, Option·map, length, getD, take, ltb, eqb, keep, numbersFrom, below, any, sum}
-use Rattle.reading.specs.Reading.{Answer, fine}
 use Rattle.firing.specs.Arcs.{Arc, arcsIn, rowIn, rowOf}
 use Rattle.firing.specs.Firing.{Weights}
-use Rattle.net.specs.Net.{Guard, always, Transition, Net, net, coloursOf, placeAt, flatPlaceCount, arcOn, inGuard, inExpression, variablesOf}
-use Rattle.net.specs.Reader.{readGuard, readExpression}
+use Rattle.net.specs.Net.{Transition, Net, net, coloursOf, placeAt, flatPlaceCount, arcOn, inGuard, inExpression, variablesOf}
+use Rattle.net.specs.Reader.{readExpression}
 use Rattle.net.specs.Evaluated.{isPair}
+use Rattle.net.specs.Tables.{Slot, GuardHolds}
 use Rattle.coloured.specs.Effect.{Binding, transitionAt, standsFor, arcWeight, effect}
 
 -- ---- arcs
@@ -39,21 +39,6 @@ pub record Appended (arcs : List Arc) (places amounts : List ℕ) (used : ℕ) (
   pub sizes : length amounts' ≡ length amounts
 
 -- ---- the tables
--- what stands at a place of the file, by a reading
-pub record Standing {A : Type 0} (read : ℕ → Answer A) (a : A) (at : ℕ) : Type 0 where
-  pub next : ℕ
-  pub reads : read at ≡ fine a next
-
--- a slot that says where a value stands in the file: 0 where there is none
-abbrev pub Slot : {A : Type 0} → (ℕ → Answer A) → Option A → ℕ → Type 0
-Slot read none at = at ≡ 0
-Slot read (some a) at = (0 < at) × Standing read a at
-
--- the slot of a guard: with 0 it is true
-pub record GuardSlot (read : ℕ → Answer Guard) (g : Guard) (at : ℕ) : Type 0 where
-  pub without : at ≡ 0 → g ≡ always
-  pub standing : 0 < at → Standing read g at
-
 -- sets and variables; where each place's flat places begin; which places are pairs; where guards and arc expressions stand
 pub record Drawing (s : List ℕ) (n : Net) (sizes vars seconds starts guards arcs : List ℕ) : Type 0 where
   pub sets : n .sets ≡ sizes
@@ -61,10 +46,10 @@ pub record Drawing (s : List ℕ) (n : Net) (sizes vars seconds starts guards ar
   pub few : flatPlaceCount n ≤ 4096
   pub begin : (p : ℕ) → p ≤ length (n .places) → getD starts p 0 ≡ startOf n p
   pub paired : (p : ℕ) → p < length (n .places) → isPair (placeAt n p) ≡ not (eqb (getD seconds p 0) 255)
-  pub guard : (t : ℕ) → t < length (n .transitions) → GuardSlot (readGuard s (net sizes vars (n .places) [] []) 16) (transitionAt n t .guard) (getD guards t 0)
+  pub guard : (t : ℕ) → t < length (n .transitions) → GuardHolds s (net sizes vars (n .places) [] []) (transitionAt n t .guard) (getD guards t 0)
   pub arc : (t k p : ℕ) → t < length (n .transitions) → k < 3 → p < length (n .places)
       → Slot (readExpression s (net sizes vars (n .places) [] []) (placeAt n p) 16) (Option·map (λ a. a .expression) (arcOn (transitionAt n t .arcs) (0x16 + k) p))
-      (getD arcs (t * 96 + k * 32 + p) 0)
+      (getD arcs (t * 96 + (k * 32 + p)) 0)
 
 -- ---- bindings
 -- a variable stands in a transition

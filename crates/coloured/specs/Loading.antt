@@ -1,15 +1,16 @@
 -- What the code that loads an effect promises.
 use mathlib.Core.Path.{_≡_}
 use Prim.Native.Nat.{_≤_, _<_}
-use Rattle.reading.specs.Basics.{ℕ, _+_, _*_, Bool, List, [], _∷_, Option, none, length, ltb, if_then_else_}
+use Rattle.reading.specs.Basics.{ℕ, _+_, _*_, Bool, List, [], _∷_, none, length, ltb, if_then_else_}
 use Rattle.reading.specs.Reading.{fine}
 use Rattle.firing.specs.Arcs.{Arc}
 use Rattle.net.specs.Net.{Guard, Expression, Place, Net, net, coloursOf, placeAt, flatPlaceCount}
-use Rattle.net.specs.Reader.{readGuard, readExpression}
+use Rattle.net.specs.Reader.{readExpression}
 use Rattle.net.specs.Values.{holds, weight}
 use Rattle.net.specs.Evaluated.{bound, placeBy}
+use Rattle.net.specs.Tables.{GuardHolds}
 use Rattle.coloured.specs.Effect.{Binding, transitionAt, effect}
-use Rattle.coloured.specs.Drawing.{rankArcs, placeArcs, kindArcs, Appended, GuardSlot, Drawing, Binds, RowLoaded}
+use Rattle.coloured.specs.Drawing.{rankArcs, placeArcs, kindArcs, Appended, Drawing, Binds, RowLoaded}
 use Rattle.coloured.specs.declared.effect.Loaded.{Loaded}
 use Rattle.coloured.specs.declared.effect.Loaded.the-variants as loaded
 
@@ -41,7 +42,7 @@ KindLoaded s sizes vars env seconds starts arcs base count places amounts used p
 -- whether the guard of a slot holds
 abbrev pub GuardTold : List ℕ → List ℕ → List ℕ → List ℕ → ℕ → Bool → Type 0
 GuardTold s sizes vars env at r =
-    (known : List Place) (g : Guard) → GuardSlot (readGuard s (net sizes vars known [] []) 16) g at → r ≡ holds (net sizes vars known [] []) (bound env) g
+    (known : List Place) (g : Guard) → GuardHolds s (net sizes vars known [] []) g at → r ≡ holds (net sizes vars known [] []) (bound env) g
 
 -- a transition with colours for its variables
 abbrev pub binding : ℕ → List ℕ → Binding

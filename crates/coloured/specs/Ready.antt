@@ -1,7 +1,7 @@
 -- What the calls know of an accepted net, and what their loops promise.
 use mathlib.Core.Path.{_≡_}
 use Prim.Native.Nat.{_≤_, _<_}
-use Rattle.reading.specs.Basics.{ℕ, _+_, List, map, length, getD, eqb, given, product}
+use Rattle.reading.specs.Basics.{ℕ, _+_, List, [], _∷_, map, length, getD, eqb, given, product}
 use Rattle.reading.specs.Reading.{accepted}
 use Rattle.firing.specs.Firing.{Fired, fired, fire, First, found, nothing, first}
 use Rattle.net.specs.Net.{Net, sizesOf, flatPlaceCount}
@@ -13,6 +13,7 @@ use Rattle.coloured.specs.Numbers.{digits}
 use Rattle.coloured.specs.Drawing.{Drawing, standsIn}
 use Rattle.coloured.specs.Loading.{binding, EffectTold}
 use Rattle.coloured.specs.declared.effect.Loaded.{Loaded}
+use Rattle.coloured.specs.declared.order.Order.{Order}
 use Rattle.coloured.specs.declared.engine.Searched.{Searched}
 use Rattle.coloured.specs.declared.engine.Searched.the-variants as searched
 
@@ -37,6 +38,10 @@ BindingLoaded s sizes vars seconds starts uses guards arcs count t i places amou
 -- a binding fired on the drawing: 2 where it has no effect
 abbrev pub fireBinding : Net → Binding → List ℕ → Fired
 fireBinding n b m = given (effect n b) (fired 2 m) λ w. fire w m
+
+-- an order's bytes
+abbrev pub bytesOf : Order → List ℕ
+bytesOf o = 0x60 ∷ o .transition ∷ o .first ∷ o .second ∷ o .third ∷ o .fourth ∷ []
 
 -- the search among all orders: where it stopped
 abbrev pub searchTold : Net → Searched → First (List ℕ)

@@ -17,7 +17,7 @@ pub enum Numbered {
 }
 
 // Whether a variable is in a set.
-fn has(uses: u32, v: usize) -> bool
+pub fn has(uses: u32, v: usize) -> bool
     ensures { λ r. ⌜ r ≡ member uses v ⌝ }
 {
     if v < 32 {
@@ -27,7 +27,7 @@ fn has(uses: u32, v: usize) -> bool
 }
 
 // The size of a variable's set.
-fn size_of(sizes: &[u8], vars: &[u8], v: usize) -> usize
+pub fn size_of(sizes: &[u8], vars: &[u8], v: usize) -> usize
     ensures { λ r. ⌜ (r ≡ sizeIn (now (sizes .entry)) (now (vars .entry)) v) × (r < 256) ⌝ }
 {
     byte_at(sizes, byte_at(vars, v))

@@ -4,14 +4,14 @@ use Prim.Native.Nat.{_≤_, _<_}
 use native.Mathlib.Omega.{arith}
 use native.Mathlib.Numerals.{add-one}
 use native.Mathlib.Nat.{add-zero, zero-add}
-use borrow.Author.Tests.{le-leb, lt-leb, eq-eqb, ne-eqb}
+use borrow.Author.Tests.{lt-ltb, le-ltb, le-leb, lt-leb, eq-eqb, ne-eqb}
 use lib.ListN.{set, length-append, length-set, length-map}
 use lib.Seq.{drop-cons, take-all, length-take-le, set-at, append-snoc, getD-take, getD-drop}
 use Rattle.reading.specs.Basics.{ℕ, zero, suc, _+_, _*_, _/_, _%_, Bool, true, false, List, [], _∷_, _++_, map, some, none, length, take, drop, getElem?, if_then_else_, with, numbersFrom, below, eqb, byteAt, wordAt, longAt, items, over}
 use Rattle.reading.specs.Reading.{Outcome, accepted, refused, failing}
 use Rattle.firing.specs.Firing.{Fired, fired, run, ending, First, found, nothing, oneMore, first}
 use Rattle.firing.specs.Calls.{FireCall, fireCall, firstCall}
-use Rattle.firing.specs.Loops.{Ran}
+use Rattle.firing.specs.Loops.{Ran, stoppedAt}
 
 -- ---- lists
 -- the first i and the one after them
@@ -262,6 +262,13 @@ module _ {A : Type 0} (test : A → Bool) (l : List A) where
     pub search-none : length l ≤ i → first test l ≡ nothing (length l)
     search-none le = let n : i ≡ length l = omega (arith, here .most) in rw (← n) (rw (take-all i l le) at (here .none))
 
+-- where a search among the numbers below n stopped
+pub stopped-in : (n i : ℕ) → i < n → stoppedAt n i ≡ found i (i + 1)
+stopped-in n i lt = rw (lt-ltb i n lt)
+
+pub stopped-out : (n i : ℕ) → n ≤ i → stoppedAt n i ≡ nothing n
+stopped-out n i le = rw (le-ltb i n le)
+
 -- the same for the numbers below n
 module _ (test : ℕ → Bool) (n : ℕ) {i : ℕ} (here : Searching test (below n) i) where
   pub below-step : i < n → test i ≡ false → Searching test (below n) (i + 1)
@@ -272,6 +279,37 @@ module _ (test : ℕ → Bool) (n : ℕ) {i : ℕ} (here : Searching test (below
 
   pub below-none : n ≤ i → first test (below n) ≡ nothing n
   below-none le = let k = length-below n in search-none test (below n) here (omega arith) ∙ ap nothing k
+
+-- a search within a search: a stretch of the list from number b on, tried by number
+module _ {A : Type 0} (test : A → Bool) (l : List A) (b : ℕ) (f : ℕ → A) (probe : ℕ → Bool) where
+  -- number j of the stretch, and its test
+  pub record Tried (j : ℕ) : Type 0 where
+    pub at : getElem? l (b + j) ≡ some (f j)
+    pub tells : test (f j) ≡ probe j
+
+  -- it found none of the stretch up to a number, or one of it
+  abbrev pub Stretch : ℕ → First ℕ → Type 0
+  Stretch end (found i tried) = first test l ≡ found (f i) (b + i + 1)
+  Stretch end (nothing tried) = Searching test l (b + end)
+
+  pub stretch : (n a : ℕ) → Searching test l (b + a) → ((j : ℕ) → j < a + n → Tried j) → Stretch (a + n) (first probe (numbersFrom a n))
+  unfolding first numbersFrom
+  stretch zero a here are = rw add-zero here
+  stretch (suc n) a here are = go (probe a) refl (λ next. stretch n (a + 1) next (λ j lt. are j (omega arith)))
+    where
+      this : Tried a
+      this = are a (omega arith)
+
+      more : (x : First ℕ) → Stretch (a + 1 + n) x → Stretch (a + suc n) (oneMore x)
+      more (found i tried) s = s
+      more (nothing tried) s = let e : b + (a + 1 + n) ≡ b + (a + suc n) = omega arith in rw e at s
+
+      go : (t : Bool) → probe a ≡ t → (Searching test l (b + (a + 1)) → Stretch (a + 1 + n) (first probe (numbersFrom (a + 1) n)))
+          → Stretch (a + suc n) (if t then found a 1 else oneMore (first probe (numbersFrom (a + 1) n)))
+      go true e later = search-found test l here (f a) (this .at) (this .tells ∙ e)
+      go false e later =
+          let next : Searching test l (b + (a + 1)) = (let q : b + a + 1 ≡ b + (a + 1) = omega arith in rw q at (search-step test l here (f a) (this .at) (this .tells ∙ e))) in
+          more (first probe (numbersFrom (a + 1) n)) (later next)
 
 -- ---- the call for the first that fires
 module _ {Net A : Type 0} (places : Net → ℕ) (candidates : Net → List A) (turn : Net → A → List ℕ → Fired) (read : Outcome Net) (m : List ℕ) where

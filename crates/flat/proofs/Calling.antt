@@ -2,13 +2,12 @@
 use mathlib.Core.Path.{_≡_, refl, sym, ap, _∙_, subst}
 use Prim.Native.Nat.{_≤_, _<_}
 use native.Mathlib.Omega.{arith}
-use borrow.Author.Tests.{lt-ltb, le-ltb}
 use Rattle.reading.specs.Basics.{ℕ, _+_, _/_, _%_, List, length, eqb, below, items}
 use Rattle.reading.specs.Reading.{accepted, refused}
 use Rattle.firing.specs.Firing.{First, found, nothing, first}
 use Rattle.firing.specs.Loops.{Ran, stoppedAt}
 use Rattle.firing.proofs.Running as running
-use Rattle.firing.proofs.Running.{called}
+use Rattle.firing.proofs.Running.{called, stopped-in, stopped-out}
 use Rattle.flat.specs.Flat.{Flat, readFlat, fireRow, fireImage, flatSizes, fireImages, firstRow}
 use Rattle.flat.specs.Told.{Held, Scanned}
 use Rattle.flat.specs.declared.reader.Scan.{Scan}
@@ -20,13 +19,6 @@ the-net s starts e h = subst (Scanned s starts) e h
 
 pub the-refusal : (s starts : List ℕ) {r : Scan} {number place : ℕ} → r ≡ Refused number place → Scanned s starts r → readFlat s ≡ refused number place
 the-refusal s starts e h = subst (Scanned s starts) e h
-
--- where a search stopped
-pub stopped-in : (n i : ℕ) → i < n → stoppedAt n i ≡ found i (i + 1)
-stopped-in n i lt = rw (lt-ltb i n lt)
-
-pub stopped-out : (n i : ℕ) → n ≤ i → stoppedAt n i ≡ nothing n
-stopped-out n i le = rw (le-ltb i n le)
 
 -- ---- refused files
 module _ (s : List ℕ) {number place : ℕ} (is : readFlat s ≡ refused number place) where

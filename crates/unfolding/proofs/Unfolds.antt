@@ -12,7 +12,7 @@ use Rattle.flat.proofs.Written.{placeBytes, length-places}
 use Rattle.net.specs.Net.{Net}
 use Rattle.net.specs.Reader.{readNet}
 use Rattle.net.specs.Held.{NetHeld}
-use Rattle.coloured.proofs.Readying.{begins, ready-held}
+use Rattle.coloured.proofs.Accepted.{ready}
 use Rattle.unfolding.specs.Unfolding.{unfolded, flatFile, WriteCall, unfoldCall, line, program}
 use Rattle.unfolding.specs.Pieces.{transitionBytes, Tabled}
 use Rattle.unfolding.specs.Out.{Appended}
@@ -72,14 +72,15 @@ module _ {s sizes vars seconds starts uses guards arcs initial : List ℕ} {coun
   call-whole out e le w = rw (e, ← w) (unfold-whole s out (t .ready .read) (omega arith))
 
 -- ---- the tables that the reader leaves
-pub tabled : {s sizes vars firsts seconds starts uses guards arcs initial : List ℕ} {sets variables places total transitions space : ℕ}
-    → NetHeld s sizes vars firsts seconds starts uses guards arcs initial sets variables places total transitions space → total ≤ length initial
-    → Tabled s (take sets sizes) (take variables vars) seconds starts uses guards arcs initial places total transitions
-tabled {starts = starts} {initial = initial} held room = record {
-  net = held .value;
-  ready = ready-held (held .holds) (held .read);
-  counts = initial-counted (held .value) starts initial (begins (held .holds)) (held .holds .counts) (omega (arith, held .holds .started .all)) (held .holds .started .all);
-}
+module _ (s sizes vars firsts seconds starts uses guards arcs initial : List ℕ) {sets variables places total transitions space : ℕ} where
+  pub tabled : NetHeld s sizes vars firsts seconds starts uses guards arcs initial sets variables places total transitions space → total ≤ length initial
+      → Tabled s (take sets sizes) (take variables vars) seconds starts uses guards arcs initial places total transitions
+  tabled held room = record {
+    net = held .value;
+    ready = ready s sizes vars firsts seconds starts uses guards arcs initial held;
+    counts = initial-counted (held .value) starts initial (ready s sizes vars firsts seconds starts uses guards arcs initial held .drawing .begin)
+        (held .holds .counts) (omega (arith, held .holds .started .all)) (held .holds .started .all);
+  }
 
 -- ---- the program
 module _ {s out exit : List ℕ} (sized : length out ≡ 65536) where

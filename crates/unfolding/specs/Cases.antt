@@ -6,6 +6,7 @@ use Rattle.firing.specs.Firing.{fire, run, ending, First, found, nothing, first
 use Rattle.firing.specs.Calls.{fireCall, firstCall}
 use Rattle.flat.specs.Flat.{writeFlat}
 use Rattle.net.specs.Net.{constant, Expression, one, all, minus, net, setOf, ceiling, inColour, inGuard, inExpression, variablesOf, bindingSpace}
+use Rattle.net.specs.Examples.{twoGauges}
 use Rattle.net.specs.Reader.{widthOf, readColour, readGuard, readExpression, setPart, variablePart, placePart, readGuardIf, arcPart, transitionPart, tokensPart, readNet}
 use Rattle.net.specs.Values.{colour, holds, weight}
 use Rattle.coloured.specs.Effect.{choices, bindings, standsFor, flatPlaces, effect}
@@ -42,12 +43,7 @@ unfoldable pub meanings : Unit {0}
 unfolding flatMap filterMap Option·elim numbersFrom any every keep find position same failing obey standing needed repeat file fire run ending fireCall first firstCall writeFlat setOf ceiling inColour inGuard inExpression variablesOf widthOf readColour readGuard readExpression setPart variablePart placePart readGuardIf arcPart transitionPart tokensPart readNet choices bindings standsFor colour holds weight flatPlaces effect fits named fireOrder fireOrders firstOrder rows unfolded rowNumber images imagesCall decimal program
 meanings = tt
 
--- the two-gauge net and its flat file
-abbrev pub twoGauges : List ℕ
-twoGauges =
-    0x01 ∷ 0x01 ∷ 0x10 ∷ 0x02 ∷ 0x11 ∷ 0x00 ∷ 0x12 ∷ 0x00 ∷ 0x12 ∷ 0x00 ∷ 0x14 ∷ 0x16 ∷ 0x00 ∷ 0x40 ∷ 0x01 ∷ 0x00 ∷ 0x30 ∷ 0x00 ∷ 0x17 ∷ 0x01
-    ∷ 0x40 ∷ 0x01 ∷ 0x00 ∷ 0x32 ∷ 0x30 ∷ 0x00 ∷ 0x18 ∷ 0x01 ∷ 0x40 ∷ 0x02 ∷ 0x00 ∷ 0x30 ∷ 0x00 ∷ 0x19 ∷ 0x00 ∷ 0x00 ∷ 0x00 ∷ 0x03 ∷ 0x00 ∷ 0x1F ∷ []
-
+-- the two-gauge net's flat file
 abbrev pub twoGaugesFlat : List ℕ
 twoGaugesFlat =
     0x02 ∷ 0x01 ∷ 0x50 ∷ 0x03 ∷ 0x00 ∷ 0x50 ∷ 0x00 ∷ 0x00 ∷ 0x50 ∷ 0x00 ∷ 0x00 ∷ 0x50 ∷ 0x00 ∷ 0x00 ∷ 0x51 ∷ 0x52 ∷ 0x00 ∷ 0x00 ∷ 0x01 ∷ 0x00 ∷ 0x53 ∷ 0x03 ∷ 0x00 ∷ 0x01

@@ -1,4 +1,3 @@
-use native.Mathlib.Omega.{arith}
 use mathlib.Core.Path.{ap}
 use Rattle.reading.specs.Basics.{not, eqb}
 use Rattle.coloured.proofs.Drawn.{in-order, in-bounds, place-empty, place-loads}

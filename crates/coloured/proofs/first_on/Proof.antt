@@ -1,0 +1,23 @@
+use borrow.Author.Needs.{needs}
+use native.Mathlib.Omega.{arith}
+use denote.Ref.{now}
+use mathlib.Core.Path.{sym, _∙_}
+use Rattle.coloured.proofs.Calling.{first-12, first-none, first-found}
+use Rattle.coloured.proofs.first_on.Statement.{statement}
+use Rattle.coloured.proofs.first_on.Tie as tie
+
+pub first-on-spec : {M : Type 1} → statement M
+first-on-spec =
+    tie.close
+    (tie.spec
+    (λ c. λ n ready sized. first-12 ready sized (now (c .before .before .before .before .before .before .before .before .before .before .args .marking)) (c .if1 .taken))
+    (λ c. search needs)
+    (λ c. search needs)
+    (λ c κs. search needs)
+    (λ c. search needs)
+    (λ c. search needs)
+    (λ c κs. search needs)
+    (λ c. search needs)
+    (λ c κs. search needs)
+    (λ c. λ n ready sized. first-none ready sized (now (c .before .before .before .before .before .before .before .before .before .before .before .before .before .before .before .before .before .before .args .marking)) (c .before .before .before .before .before .before .before .before .if1 .left) (c .before .tried .given .1) (c .before .before .before .before .before .search-all .ensures n ready (omega arith) (omega arith) (c .before .before .before .before .before .before .before .before .if1 .left ∙ sym sized) .0))
+    (λ c. λ n ready sized. first-found ready sized (now (c .before .before .before .before .before .before .before .before .before .before .before .before .before .before .before .before .before .before .before .before .args .marking)) (c .before .before .before .before .before .before .before .before .before .before .if1 .left) _ (c .before .before .before .t .given .1) (c .before .uses-at .ensures) (c .before .before .before .before .before .before .before .search-all .ensures n ready (omega arith) (omega arith) (c .before .before .before .before .before .before .before .before .before .before .if1 .left ∙ sym sized)) (c .order-at .ensures)))
