@@ -2,7 +2,7 @@
 use mathlib.Core.Path.{_≡_, refl, sym, ap, _∙_, subst}
 use Prim.Native.Nat.{_≤_, _<_}
 use native.Mathlib.Omega.{arith}
-use borrow.Author.Tests.{le-leb, lt-leb, leb-true}
+use borrow.Author.Tests.{le-leb, lt-leb, leb-true, leb-false}
 use lib.ListN.{length-append, length-take}
 use lib.Seq.{length-take-le}
 use Rattle.reading.specs.Basics.{ℕ, _+_, _*_, Bool, true, false, List, [], _∷_, _++_, flatMap, length, take, leb, below, over}
@@ -17,6 +17,7 @@ use Rattle.unfolding.specs.Unfolding.{unfolded, flatFile, WriteCall, unf
 use Rattle.unfolding.specs.Pieces.{transitionBytes, Tabled}
 use Rattle.unfolding.specs.Out.{Appended}
 use Rattle.unfolding.proofs.Appending.{append-then, append-all, front}
+use Rattle.unfolding.proofs.Decimals.{line-length}
 use Rattle.unfolding.proofs.Pieces.{rows-bytes}
 use Rattle.unfolding.proofs.Initial.{initial-counted}
 
@@ -83,36 +84,58 @@ module _ (s sizes vars firsts seconds starts uses guards arcs initial : List ℕ
   }
 
 -- ---- the program
-module _ {s out exit : List ℕ} (sized : length out ≡ 65536) where
-  -- what the call wrote is what the program writes
-  pub program-writes : {k : ℕ} → record { result = accepted k; out = exit } ≡ unfoldCall s out → (k ≤ 65536) × (take k exit ≡ program s)
-  unfolding unfoldCall program failing
-  program-writes {k} e = by-net (readNet s) refl
+-- what the call gives over 65,536 bytes, and the program with it
+abbrev called : Outcome ℕ → List ℕ → WriteCall
+called result out = record { result = result; out = out }
+
+data Shown (s out : List ℕ) : Type 0 where
+  whole : (n : Net) → length (flatFile n) ≤ 65536 → unfoldCall s out ≡ called (accepted (length (flatFile n))) (over (flatFile n) out) → program s ≡ flatFile n → Shown s out
+  short : (number place : ℕ) → unfoldCall s out ≡ called (refused number place) out → program s ≡ line number place → Shown s out
+
+shown : (s out : List ℕ) → length out ≡ 65536 → Shown s out
+unfolding program failing
+shown s out sized = by-net (readNet s) refl
+  where
+    by-space : (n : Net) → readNet s ≡ accepted n → (t : Bool) → leb (length (flatFile n)) 65536 ≡ t → Shown s out
+    by-space n f true t =
+        let le = leb-true (length (flatFile n)) 65536 t in
+        whole n le (sym (unfold-whole s out f (omega arith))) (rw (f, t))
+    by-space n f false t =
+        let lt = leb-false (length (flatFile n)) 65536 t in
+        short 14 0 (sym (unfold-short s out f (omega arith))) (rw (f, t))
+
+    by-net : (o : Outcome Net) → readNet s ≡ o → Shown s out
+    by-net (accepted n) f = by-space n f (leb (length (flatFile n)) 65536) refl
+    by-net (refused number place) f = short number place (sym (unfold-refused s out f)) (rw f)
+
+module _ (s out exit : List ℕ) (sized : length out ≡ 65536) where
+  -- a file that was written is what the program writes
+  pub program-writes : (k : ℕ) → called (accepted k) exit ≡ unfoldCall s out → (k ≤ 65536) × (take k exit ≡ program s)
+  program-writes k e = go (shown s out sized)
     where
-      wrote : (n : Net) → leb (length (flatFile n)) 65536 ≡ true → record { result = accepted k; out = exit } ≡ record { result = accepted (length (flatFile n)); out = over (flatFile n) out }
-          → (k ≤ 65536) × (take k exit ≡ flatFile n)
-      wrote n t q =
-          let i : k ≡ length (flatFile n) = cc in
-          let j : exit ≡ over (flatFile n) out = cc in
-          (omega (arith, leb-true (length (flatFile n)) 65536 t), rw (i, j) (front (flatFile n) out))
+      go : Shown s out → (k ≤ 65536) × (take k exit ≡ program s)
+      go (whole n le q p) =
+          let i : k ≡ length (flatFile n) = let r : accepted k ≡ accepted (length (flatFile n)) = ap (λ c. c .result) (e ∙ q) in cc in
+          let j : exit ≡ over (flatFile n) out = ap (λ c. c .out) (e ∙ q) in
+          (omega arith, rw (i, j, p) (front (flatFile n) out))
+      go (short number place q p) =
+          let r : accepted k ≡ refused number place = ap (λ c. c .result) (e ∙ q) in let z : _≡_ {A = ℕ} 0 1 = cc in absurd (omega arith)
 
-      by-space : (n : Net) → readNet s ≡ accepted n → (t : Bool) → leb (length (flatFile n)) 65536 ≡ t → (k ≤ 65536) × (take k exit ≡ program s)
-      by-space n f true t = rw (f, t) (wrote n t (rw (f, sized, t) at e))
-      by-space n f false t = let q = rw (f, sized, t) at e in let z : _≡_ {A = ℕ} 0 1 = cc in absurd (omega arith)
-
-      by-net : (o : Outcome Net) → readNet s ≡ o → (k ≤ 65536) × (take k exit ≡ program s)
-      by-net (accepted n) f = by-space n f (leb (length (flatFile n)) 65536) refl
-      by-net (refused number place) f = let q = rw f at e in let z : _≡_ {A = ℕ} 0 1 = cc in absurd (omega arith)
-
-  -- and so is the line of a refusal
-  pub program-refuses : {number place : ℕ} → record { result = refused number place; out = exit } ≡ unfoldCall s out → line number place ≡ program s
-  unfolding unfoldCall program failing
-  program-refuses {number} {place} e = by-net (readNet s) refl
+  -- and so is the line of a refusal, over the list as it was
+  pub program-refuses : (number place : ℕ) → called (refused number place) exit ≡ unfoldCall s out → (exit ≡ out) × (line number place ≡ program s)
+  program-refuses number place e = go (shown s out sized)
     where
-      by-space : (n : Net) → readNet s ≡ accepted n → (t : Bool) → leb (length (flatFile n)) 65536 ≡ t → line number place ≡ program s
-      by-space n f true t = let q = rw (f, sized, t) at e in let z : _≡_ {A = ℕ} 0 1 = cc in absurd (omega arith)
-      by-space n f false t = let q = rw (f, sized, t) at e in rw (f, t) (let i : number ≡ 14 = cc in let j : place ≡ 0 = cc in rw (i, j))
+      go : Shown s out → (exit ≡ out) × (line number place ≡ program s)
+      go (whole n le q p) = let r : refused number place ≡ accepted (length (flatFile n)) = ap (λ c. c .result) (e ∙ q) in let z : _≡_ {A = ℕ} 0 1 = cc in absurd (omega arith)
+      go (short a b q p) =
+          let r : refused number place ≡ refused a b = ap (λ c. c .result) (e ∙ q) in
+          let i : number ≡ a = cc in
+          let j : place ≡ b = cc in
+          (ap (λ c. c .out) (e ∙ q), rw (i, j) (sym p))
 
-      by-net : (o : Outcome Net) → readNet s ≡ o → line number place ≡ program s
-      by-net (accepted n) f = by-space n f (leb (length (flatFile n)) 65536) refl
-      by-net (refused a b) f = let q = rw f at e in rw f (let i : number ≡ a = cc in let j : place ≡ b = cc in rw (i, j))
+  -- the line, written
+  pub program-line : (number place : ℕ) {k : ℕ} {written : List ℕ} → called (refused number place) exit ≡ unfoldCall s out → k ≡ length (line number place)
+      → written ≡ over (line number place) exit → (k ≤ 65536) × (take k written ≡ program s)
+  program-line number place e i j =
+      let p = program-refuses number place e .1 in
+      (omega (arith, line-length number place), rw (i, j) (front (line number place) exit ∙ p))

@@ -2,8 +2,8 @@
 use Rattle.reading.specs.Basics.{ℕ, List}
 use Rattle.reading.specs.Reading.{Outcome, accepted, refused}
 use Rattle.unfolding.specs.Unfolding.{WriteCall}
-use Rattle.unfolding.specs.declared.unfold.UnfoldReply.{UnfoldReply}
-use Rattle.unfolding.specs.declared.unfold.UnfoldReply.the-variants as unfold-reply
+use Rattle.unfolding.specs.declared.call.UnfoldReply.{UnfoldReply}
+use Rattle.unfolding.specs.declared.call.UnfoldReply.the-variants as unfold-reply
 
 abbrev pub unfoldReply : UnfoldReply → Outcome ℕ
 unfoldReply (unfold-reply.Written length) = accepted length

@@ -2,8 +2,8 @@ use native.Mathlib.Omega.{arith}
 use Rattle.unfolding.proofs.Appending.{next-places}
 use Rattle.unfolding.proofs.Unfolds.{file-length, file-written, call-short, call-whole}
 use borrow.Author.Needs.{needs}
-use Rattle.unfolding.proofs.unfold.write_file.Statement.{statement}
-use Rattle.unfolding.proofs.unfold.write_file.Tie as tie
+use Rattle.unfolding.proofs.call.write_file.Statement.{statement}
+use Rattle.unfolding.proofs.call.write_file.Tie as tie
 
 pub write-file-spec : {M : Type 1} → statement M
 write-file-spec =
