@@ -83,6 +83,12 @@ module _ (s sizes vars firsts seconds starts uses guards arcs initial : List ℕ
         (held .holds .counts) (omega (arith, held .holds .started .all)) (held .holds .started .all);
   }
 
+  -- over the fronts of two of them
+  pub tabled-fronts : {fore front : List ℕ} → fore ≡ take sets sizes → front ≡ take variables vars
+      → NetHeld s sizes vars firsts seconds starts uses guards arcs initial sets variables places total transitions space → total ≤ length initial
+      → Tabled s fore front seconds starts uses guards arcs initial places total transitions
+  tabled-fronts e f held room = rw (e, f) (tabled held room)
+
 -- ---- the program
 -- what the call gives over 65,536 bytes, and the program with it
 abbrev called : Outcome ℕ → List ℕ → WriteCall

@@ -5,6 +5,6 @@ mod program;
 mod text;
 mod write;
 
-pub use program::write_reply;
 pub use call::UnfoldReply;
 pub use call::unfold;
+pub use program::write_reply;

@@ -1,7 +1,7 @@
 // What the program writes, into a lent buffer.
-use crate::text::write_line;
 use crate::call::UnfoldReply;
 use crate::call::unfold;
+use crate::text::write_line;
 ghost use mathlib.Core.Path.{_≡_};
 ghost use Prim.Native.Nat.{_≤_};
 ghost use lib.ListN.{length, take};
