@@ -100,6 +100,9 @@ module _ {s : List ℕ} {n : Net} {sizes vars seconds starts guards arcs : List 
         is = rw (sym guard-is ∙ not-false r e);
         row = rows (arcs-kept p2 a2 p3 a3 0 takes (shorter p2 p3 (third .front)) (shorter a2 a3 (third .fronts)) ∙ arcs-kept p1 a1 p2 a2 0 takes (second .front) (second .fronts) ∙ first .are ∙ rows-of 0x16)
             (arcs-kept p2 a2 p3 a3 takes puts (third .front) (third .fronts) ∙ second .are ∙ rows-of 0x17) (third .are ∙ rows-of 0x18);
+        puts-after = omega (arith, second .end);
+        hinders-after = omega (arith, third .end);
+        fits = omega (arith, few 0x16, few 0x17, few 0x18, first .end, second .end, third .end);
       }
     where
       other : ℕ → ℕ

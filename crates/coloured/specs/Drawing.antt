@@ -61,8 +61,11 @@ abbrev pub Binds : Net → Binding → List ℕ → Type 0
 Binds n b env =
     (v : ℕ) → standsIn v (transitionAt n (b .transition)) ≡ true → getD env v 0 ≡ standsFor (variablesOf n (transitionAt n (b .transition))) (b .colours) v
 
--- the row of a binding's effect lies in two lent lists
+-- the row of a binding's effect lies in two lent lists, of which it takes 12,288 slots at most
 pub record RowLoaded (n : Net) (b : Binding) (places amounts : List ℕ) (takes puts hinders : ℕ) : Type 0 where
   pub weighs : Weights
   pub is : effect n b ≡ some weighs
   pub row : rowIn places amounts takes puts hinders ≡ rowOf (flatPlaceCount n) weighs
+  pub puts-after : takes ≤ puts
+  pub hinders-after : puts ≤ hinders
+  pub fits : hinders ≤ 12288

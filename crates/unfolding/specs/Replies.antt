@@ -7,6 +7,16 @@ use Rattle.unfolding.specs.declared.ImagesReply.{ImagesReply}
 use Rattle.unfolding.specs.declared.ImagesReply.the-variants as images-reply
 use Rattle.unfolding.specs.declared.OrderReply.{OrderReply}
 use Rattle.unfolding.specs.declared.OrderReply.the-variants as order-reply
+use Rattle.unfolding.specs.declared.call.UnfoldReply.{UnfoldReply}
+use Rattle.unfolding.specs.declared.call.UnfoldReply.the-variants as unfold-reply
+
+abbrev pub unfoldReply : UnfoldReply → Outcome ℕ
+unfoldReply (unfold-reply.Written length) = accepted length
+unfoldReply (unfold-reply.Refused number place) = refused number place
+
+-- with the lent list afterwards
+abbrev pub unfoldCalled : UnfoldReply → List ℕ → WriteCall
+unfoldCalled r out = record { result = unfoldReply r; out = out }
 
 abbrev pub imagesReply : ImagesReply → Outcome ℕ
 imagesReply (images-reply.Answered count) = accepted count

@@ -1,15 +1,21 @@
-// The unfolding: the images of orders, and the order of a row. The meanings of this crate stand in specs/.
+// The unfolding: net files into flat files, the images of orders, and the order of a row. The meanings of this crate stand in specs/.
 mod answer;
+mod body;
+mod call;
+mod program;
 mod seek;
 mod text;
 mod walk;
 mod write;
 
 use answer::write_images;
+pub use call::UnfoldReply;
+pub use call::unfold;
 pub use coloured::Order;
 use coloured::order_at;
 use net::NetRead;
 use net::read_net;
+pub use program::write_reply;
 use seek::Located;
 use seek::seek_row;
 use walk::number_all;

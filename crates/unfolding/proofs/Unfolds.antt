@@ -1,0 +1,147 @@
+-- What the call that unfolds gives, from what was read, measured and written. Assumes nothing.
+use mathlib.Core.Path.{_≡_, refl, sym, ap, _∙_, subst}
+use Prim.Native.Nat.{_≤_, _<_}
+use native.Mathlib.Omega.{arith}
+use borrow.Author.Tests.{le-leb, lt-leb, leb-true, leb-false}
+use lib.ListN.{length-append, length-take}
+use lib.Seq.{length-take-le}
+use Rattle.reading.specs.Basics.{ℕ, _+_, _*_, Bool, true, false, List, [], _∷_, _++_, flatMap, length, take, leb, below, over}
+use Rattle.reading.specs.Reading.{Outcome, accepted, refused, failing}
+use Rattle.flat.specs.Flat.{rowBytes, writeFlat}
+use Rattle.flat.proofs.Written.{placeBytes, length-places}
+use Rattle.net.specs.Net.{Net}
+use Rattle.net.specs.Reader.{readNet}
+use Rattle.net.specs.Held.{NetHeld}
+use Rattle.coloured.proofs.Accepted.{ready}
+use Rattle.unfolding.specs.Unfolding.{unfolded, flatFile, WriteCall, unfoldCall, line, program}
+use Rattle.unfolding.specs.Pieces.{transitionBytes, Tabled}
+use Rattle.unfolding.specs.Out.{Appended}
+use Rattle.unfolding.proofs.Appending.{append-then, append-all, front}
+use Rattle.unfolding.proofs.Decimals.{line-length}
+use Rattle.unfolding.proofs.Pieces.{rows-bytes}
+use Rattle.unfolding.proofs.Initial.{initial-counted}
+
+-- ---- the call
+module _ (s out : List ℕ) where
+  -- the file is refused
+  pub unfold-refused : {number place : ℕ} → readNet s ≡ refused number place → record { result = refused number place; out = out } ≡ unfoldCall s out
+  unfolding unfoldCall
+  unfold-refused e = rw e
+
+  module _ {n : Net} (read : readNet s ≡ accepted n) where
+    -- there is no space
+    pub unfold-short : length out < length (flatFile n) → record { result = refused 14 0; out = out } ≡ unfoldCall s out
+    unfolding unfoldCall failing
+    unfold-short h = rw (read, lt-leb (length (flatFile n)) (length out) h)
+
+    -- the file is written
+    pub unfold-whole : length (flatFile n) ≤ length out → record { result = accepted (length (flatFile n)); out = over (flatFile n) out } ≡ unfoldCall s out
+    unfolding unfoldCall failing
+    unfold-whole h = rw (read, le-leb (length (flatFile n)) (length out) h)
+
+-- ---- the file by its pieces
+module _ {s sizes vars seconds starts uses guards arcs initial : List ℕ} {count total transitions : ℕ}
+    (t : Tabled s sizes vars seconds starts uses guards arcs initial count total transitions) where
+  abbrev rowsOf : List ℕ
+  rowsOf = flatMap (transitionBytes (t .net)) (below transitions)
+
+  rows-are : rowsOf ≡ flatMap rowBytes (unfolded (t .net) .rows)
+  rows-are = ap (λ k. flatMap (transitionBytes (t .net)) (below k)) (sym (t .ready .transitions-are)) ∙ sym (rows-bytes (t .net))
+
+  pub file-is : (0x02 ∷ 1 ∷ []) ++ flatMap placeBytes (take total initial) ++ rowsOf ++ (0x5F ∷ []) ≡ flatFile (t .net)
+  unfolding writeFlat
+  file-is = rw (t .counts, rows-are)
+
+  -- its length, from that of the rows
+  pub file-length : total ≤ length initial → {rows : ℕ} → rows ≡ length rowsOf → 3 + 3 * total + rows ≡ length (flatFile (t .net))
+  file-length h {rows} e =
+      let places : List ℕ = flatMap placeBytes (take total initial) in
+      omega (arith, ap length file-is, length-append (places ++ rowsOf) (0x5F ∷ []), length-append places rowsOf, length-places (take total initial), length-take-le total initial h)
+
+  -- the pieces written one behind the other are the file
+  pub file-written : {o o1 o2 o3 o4 : List ℕ} {n1 n2 n3 n4 : ℕ} → Appended o o1 0 n1 (0x02 ∷ 1 ∷ []) → Appended o1 o2 n1 n2 (flatMap placeBytes (take total initial))
+      → Appended o2 o3 n2 n3 rowsOf → Appended o3 o4 n3 n4 (0x5F ∷ []) → over (flatFile (t .net)) o ≡ o4
+  file-written {o} head places rows end = sym (append-all (append-then (append-then (append-then head places) rows) end) ∙ ap (λ b. over b o) file-is)
+
+  -- the call's result
+  pub call-short : (out : List ℕ) {rows : ℕ} → total ≤ length initial → rows ≡ length rowsOf → length out < 3 + 3 * total + rows
+      → record { result = refused 14 0; out = out } ≡ unfoldCall s out
+  call-short out h e lt = unfold-short s out (t .ready .read) (omega (arith, file-length h e))
+
+  pub call-whole : (out : List ℕ) {exit : List ℕ} {size : ℕ} → size ≡ length (flatFile (t .net)) → size ≤ length out → over (flatFile (t .net)) out ≡ exit
+      → record { result = accepted size; out = exit } ≡ unfoldCall s out
+  call-whole out e le w = rw (e, ← w) (unfold-whole s out (t .ready .read) (omega arith))
+
+-- ---- the tables that the reader leaves
+module _ (s sizes vars firsts seconds starts uses guards arcs initial : List ℕ) {sets variables places total transitions space : ℕ} where
+  pub tabled : NetHeld s sizes vars firsts seconds starts uses guards arcs initial sets variables places total transitions space → total ≤ length initial
+      → Tabled s (take sets sizes) (take variables vars) seconds starts uses guards arcs initial places total transitions
+  tabled held room = record {
+    net = held .value;
+    ready = ready s sizes vars firsts seconds starts uses guards arcs initial held;
+    counts = initial-counted (held .value) starts initial (ready s sizes vars firsts seconds starts uses guards arcs initial held .drawing .begin)
+        (held .holds .counts) (omega (arith, held .holds .started .all)) (held .holds .started .all);
+  }
+
+  -- over the fronts of two of them
+  pub tabled-fronts : {fore front : List ℕ} → fore ≡ take sets sizes → front ≡ take variables vars
+      → NetHeld s sizes vars firsts seconds starts uses guards arcs initial sets variables places total transitions space → total ≤ length initial
+      → Tabled s fore front seconds starts uses guards arcs initial places total transitions
+  tabled-fronts e f held room = rw (e, f) (tabled held room)
+
+-- ---- the program
+-- what the call gives over 65,536 bytes, and the program with it
+abbrev called : Outcome ℕ → List ℕ → WriteCall
+called result out = record { result = result; out = out }
+
+data Shown (s out : List ℕ) : Type 0 where
+  whole : (n : Net) → length (flatFile n) ≤ 65536 → unfoldCall s out ≡ called (accepted (length (flatFile n))) (over (flatFile n) out) → program s ≡ flatFile n → Shown s out
+  short : (number place : ℕ) → unfoldCall s out ≡ called (refused number place) out → program s ≡ line number place → Shown s out
+
+shown : (s out : List ℕ) → length out ≡ 65536 → Shown s out
+unfolding program failing
+shown s out sized = by-net (readNet s) refl
+  where
+    by-space : (n : Net) → readNet s ≡ accepted n → (t : Bool) → leb (length (flatFile n)) 65536 ≡ t → Shown s out
+    by-space n f true t =
+        let le = leb-true (length (flatFile n)) 65536 t in
+        whole n le (sym (unfold-whole s out f (omega arith))) (rw (f, t))
+    by-space n f false t =
+        let lt = leb-false (length (flatFile n)) 65536 t in
+        short 14 0 (sym (unfold-short s out f (omega arith))) (rw (f, t))
+
+    by-net : (o : Outcome Net) → readNet s ≡ o → Shown s out
+    by-net (accepted n) f = by-space n f (leb (length (flatFile n)) 65536) refl
+    by-net (refused number place) f = short number place (sym (unfold-refused s out f)) (rw f)
+
+module _ (s out exit : List ℕ) (sized : length out ≡ 65536) where
+  -- a file that was written is what the program writes
+  pub program-writes : (k : ℕ) → called (accepted k) exit ≡ unfoldCall s out → (k ≤ 65536) × (take k exit ≡ program s)
+  program-writes k e = go (shown s out sized)
+    where
+      go : Shown s out → (k ≤ 65536) × (take k exit ≡ program s)
+      go (whole n le q p) =
+          let i : k ≡ length (flatFile n) = let r : accepted k ≡ accepted (length (flatFile n)) = ap (λ c. c .result) (e ∙ q) in cc in
+          let j : exit ≡ over (flatFile n) out = ap (λ c. c .out) (e ∙ q) in
+          (omega arith, rw (i, j, p) (front (flatFile n) out))
+      go (short number place q p) =
+          let r : accepted k ≡ refused number place = ap (λ c. c .result) (e ∙ q) in let z : _≡_ {A = ℕ} 0 1 = cc in absurd (omega arith)
+
+  -- and so is the line of a refusal, over the list as it was
+  pub program-refuses : (number place : ℕ) → called (refused number place) exit ≡ unfoldCall s out → (exit ≡ out) × (line number place ≡ program s)
+  program-refuses number place e = go (shown s out sized)
+    where
+      go : Shown s out → (exit ≡ out) × (line number place ≡ program s)
+      go (whole n le q p) = let r : refused number place ≡ accepted (length (flatFile n)) = ap (λ c. c .result) (e ∙ q) in let z : _≡_ {A = ℕ} 0 1 = cc in absurd (omega arith)
+      go (short a b q p) =
+          let r : refused number place ≡ refused a b = ap (λ c. c .result) (e ∙ q) in
+          let i : number ≡ a = cc in
+          let j : place ≡ b = cc in
+          (ap (λ c. c .out) (e ∙ q), rw (i, j) (sym p))
+
+  -- the line, written
+  pub program-line : (number place : ℕ) {k : ℕ} {written : List ℕ} → called (refused number place) exit ≡ unfoldCall s out → k ≡ length (line number place)
+      → written ≡ over (line number place) exit → (k ≤ 65536) × (take k written ≡ program s)
+  program-line number place e i j =
+      let p = program-refuses number place e .1 in
+      (omega (arith, line-length number place), rw (i, j) (front (line number place) exit ∙ p))

@@ -1,0 +1,36 @@
+-- The bytes of the rows, binding by binding; and what the code that measures and writes them knows of the net.
+use mathlib.Core.Path.{_≡_}
+use Prim.Native.Nat.{_<_}
+use Rattle.reading.specs.Basics.{ℕ, List, [], flatMap, take, given, below, product}
+use Rattle.firing.specs.Arcs.{rowOf}
+use Rattle.flat.specs.Flat.{rowBytes}
+use Rattle.net.specs.Net.{Net, sizesOf, flatPlaceCount}
+use Rattle.coloured.specs.Effect.{transitionAt, effect}
+use Rattle.coloured.specs.Ready.{Ready, numbered}
+use Rattle.unfolding.specs.Unfolding.{unfolded}
+
+-- what binding number i of a transition gives the flat file: its row's bytes, none where it has no effect
+unfoldable pub bindingBytes : Net → ℕ → ℕ → List ℕ
+bindingBytes n t i = given (effect n (numbered n t i)) [] λ w. rowBytes (rowOf (flatPlaceCount n) w)
+
+-- what all its bindings give
+unfoldable pub transitionBytes : Net → ℕ → List ℕ
+transitionBytes n t = flatMap (bindingBytes n t) (below (product (sizesOf n (transitionAt n t))))
+
+-- the tables are those of a net, which has transition t
+pub record Known (s sizes vars seconds starts uses guards arcs : List ℕ) (count t : ℕ) : Type 0 where
+  pub net : Net
+  pub transitions : ℕ
+  pub ready : Ready s net sizes vars seconds starts uses guards arcs count transitions
+  pub stands : t < transitions
+
+-- so it is for the net of the tables
+abbrev pub Of : List ℕ → List ℕ → List ℕ → List ℕ → List ℕ → List ℕ → List ℕ → List ℕ → ℕ → ℕ → (Net → Type 0) → Type 0
+Of s sizes vars seconds starts uses guards arcs count t P =
+    (n : Net) (transitions : ℕ) → Ready s n sizes vars seconds starts uses guards arcs count transitions → t < transitions → P n
+
+-- the tables are those of a net, with its initial counts
+pub record Tabled (s sizes vars seconds starts uses guards arcs initial : List ℕ) (count total transitions : ℕ) : Type 0 where
+  pub net : Net
+  pub ready : Ready s net sizes vars seconds starts uses guards arcs count transitions
+  pub counts : take total initial ≡ unfolded net .initial

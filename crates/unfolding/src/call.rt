@@ -1,0 +1,145 @@
+// The call that unfolds a net file into a flat file.
+use crate::body::measure_all;
+use crate::body::write_all;
+use crate::write::write_end;
+use crate::write::write_head;
+use crate::write::write_places;
+use net::NetRead;
+use net::read_net;
+ghost use mathlib.Core.Path.{_≡_};
+ghost use Prim.Native.Nat.{_≤_};
+ghost use lib.ListN.{length, take};
+ghost use Rattle.unfolding.specs.Unfolding.{unfoldCall};
+ghost use Rattle.unfolding.specs.Pieces.{Tabled};
+ghost use Rattle.unfolding.specs.Replies.{unfoldCalled};
+
+// The flat file's length in bytes, or why it was not written.
+pub enum UnfoldReply {
+    Written { length: usize },
+    Refused { number: u8, place: usize },
+}
+
+// Writes the flat file of the net that the tables hold, if there is space for it.
+fn write_file(
+    s: &[u8],
+    sizes: &[u8],
+    vars: &[u8],
+    seconds: &[u8],
+    starts: &[usize],
+    uses: &[u32],
+    guards: &[u16],
+    arcs: &[u16],
+    initial: &[u16],
+    count: usize,
+    total: usize,
+    transitions: usize,
+    out: &mut [u8],
+) -> UnfoldReply
+    requires { ⌜ (count ≤ 32) × (transitions ≤ 32) × (total ≤ 4096) × (total ≤ length (now initial)) ⌝ }
+    requires { ⌜ Tabled (now s) (now sizes) (now vars) (now seconds) (now starts) (now uses) (now guards) (now arcs) (now initial) count total transitions ⌝ }
+    ensures { λ r. ⌜ unfoldCalled r (now (out .exit)) ≡ unfoldCall (now (s .entry)) (now (out .entry)) ⌝ }
+{
+    let mut places = [0u16; 12288];
+    let mut amounts = [0u16; 12288];
+    let rows = measure_all(
+        s,
+        sizes,
+        vars,
+        seconds,
+        starts,
+        uses,
+        guards,
+        arcs,
+        count,
+        transitions,
+        &mut places,
+        &mut amounts,
+    );
+    let length = 3 + 3 * total + rows;
+    if out.len() < length {
+        return UnfoldReply::Refused {
+            number: 14,
+            place: 0,
+        };
+    }
+    let mut next = write_head(out, 0);
+    next = write_places(initial, total, out, next);
+    next = write_all(
+        s,
+        sizes,
+        vars,
+        seconds,
+        starts,
+        uses,
+        guards,
+        arcs,
+        count,
+        transitions,
+        &mut places,
+        &mut amounts,
+        out,
+        next,
+    );
+    write_end(out, next);
+    UnfoldReply::Written { length }
+}
+
+// The first `n` of a list; all of it where there are fewer.
+fn front(l: &[u8], n: usize) -> &[u8]
+    ensures { λ r. ⌜ now r ≡ take n (now (l .entry)) ⌝ }
+{
+    if n <= l.len() { &l[..n] } else { l }
+}
+
+// Unfolds a net file: the flat file over the front of `out`, and its length; a refusal changes nothing.
+pub fn unfold(net: &[u8], out: &mut [u8]) -> UnfoldReply
+    ensures { λ r. ⌜ unfoldCalled r (now (out .exit)) ≡ unfoldCall (now (net .entry)) (now (out .entry)) ⌝ }
+{
+    let mut sizes = [0u8; 16];
+    let mut vars = [0u8; 32];
+    let mut firsts = [0u8; 32];
+    let mut seconds = [0u8; 32];
+    let mut starts = [0usize; 33];
+    let mut uses = [0u32; 32];
+    let mut guards = [0u16; 32];
+    let mut arcs = [0u16; 3072];
+    let mut initial = [0u16; 4096];
+    let mut named = [0u8; 4096];
+    match read_net(
+        net,
+        &mut sizes,
+        &mut vars,
+        &mut firsts,
+        &mut seconds,
+        &mut starts,
+        &mut uses,
+        &mut guards,
+        &mut arcs,
+        &mut initial,
+        &mut named,
+    ) {
+        NetRead::Refused { number, place } => UnfoldReply::Refused { number, place },
+        NetRead::Whole {
+            sets,
+            variables,
+            places,
+            total,
+            transitions,
+            ..
+        } => write_file(
+            net,
+            front(&sizes, sets),
+            front(&vars, variables),
+            &seconds,
+            &starts,
+            &uses,
+            &guards,
+            &arcs,
+            &initial,
+            places,
+            total,
+            transitions,
+            out,
+        ),
+    }
+}
