@@ -50,6 +50,14 @@ fn word(low: u8, high: u8) -> u16 {
     low as u16 + 256 * (high as u16)
 }
 
+// A row number, in a buffer of four bytes.
+pub fn read_row() -> u32 {
+    read_length();
+    let mut b = [0u8; 4];
+    io::read_full(STDIN_FILENO, &mut b);
+    (wide(b[0]) + 256 * (wide(b[1]) + 256 * (wide(b[2]) + 256 * wide(b[3])))) as u32
+}
+
 // Puts the counts that bytes hold at the start of marking, as many as there is space for.
 fn spread(bytes: &[u8], marking: &mut [u16]) -> usize
     ensures { λ r. ⌜ Counts r (now (marking .exit)) ⌝ }

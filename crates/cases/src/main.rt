@@ -2,12 +2,18 @@
 // buffer that was lent for writing. tests/stream.py tells both forms.
 mod flat_calls;
 mod input;
+mod net_calls;
 mod text;
 
 use flat_calls::fire_case;
 use flat_calls::first_case;
 use flat_calls::sizes_case;
 use input::read_call;
+use net_calls::first_order_case;
+use net_calls::images_case;
+use net_calls::order_case;
+use net_calls::orders_case;
+use net_calls::unfold_case;
 use text::say_case;
 
 // Runs one call by its number, and answers whether there is such a call.
@@ -24,6 +30,26 @@ fn run(call: u8, number: u64) -> bool {
         3 => {
             say_case(number, b"fire_images\n");
             fire_case();
+        }
+        4 => {
+            say_case(number, b"unfold\n");
+            unfold_case();
+        }
+        5 => {
+            say_case(number, b"images\n");
+            images_case();
+        }
+        6 => {
+            say_case(number, b"row_order\n");
+            order_case();
+        }
+        7 => {
+            say_case(number, b"fire_orders\n");
+            orders_case();
+        }
+        8 => {
+            say_case(number, b"first_order\n");
+            first_order_case();
         }
         _ => {
             say_case(number, b"of no call\n");

@@ -9,6 +9,13 @@ pub fn say_number(n: u64) {
     io::print_decimal(STDOUT_FILENO, n);
 }
 
+// A line of one number, with its words in front.
+pub fn say_line(words: &[u8], n: usize) {
+    say(words);
+    say_number(n as u64);
+    say(b"\n");
+}
+
 // The line in front of a case; the name has its line end.
 pub fn say_case(number: u64, name: &[u8]) {
     say(b"case ");

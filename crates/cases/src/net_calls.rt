@@ -1,0 +1,114 @@
+// The calls on net files: each reads its buffers, and runs on exactly their lengths.
+use crate::input::read_bytes;
+use crate::input::read_counts;
+use crate::input::read_row;
+use crate::text::say;
+use crate::text::say_bytes;
+use crate::text::say_counts;
+use crate::text::say_line;
+use crate::text::say_number;
+use crate::text::say_refused;
+
+pub fn unfold_case() {
+    let mut file = [0u8; 131072];
+    let n = read_bytes(&mut file);
+    let mut out = [0u8; 131072];
+    let o = read_bytes(&mut out);
+    unfold(&file[..n], &mut out[..o]);
+}
+
+fn unfold(file: &[u8], out: &mut [u8]) {
+    match unfolding::unfold(file, out) {
+        unfolding::UnfoldReply::Written { length } => say_line(b"written ", length),
+        unfolding::UnfoldReply::Refused { number, place } => say_refused(number, place),
+    }
+    say_bytes(b"output", out);
+}
+
+pub fn images_case() {
+    let mut file = [0u8; 131072];
+    let n = read_bytes(&mut file);
+    let mut orders = io::large_buffer();
+    let k = read_bytes(&mut orders);
+    let mut out = io::large_buffer();
+    let o = read_bytes(&mut out);
+    images(&file[..n], &orders[..k], &mut out[..o]);
+}
+
+fn images(file: &[u8], orders: &[u8], out: &mut [u8]) {
+    match unfolding::images(file, orders, out) {
+        unfolding::ImagesReply::Answered { count } => say_line(b"answered ", count),
+        unfolding::ImagesReply::Refused { number, place } => say_refused(number, place),
+    }
+    say_bytes(b"output", out);
+}
+
+// An order's six bytes, after its name.
+fn say_order(name: &[u8], o: coloured::Order) {
+    say(name);
+    say(b"96 ");
+    say_number(o.transition as u64);
+    say(b" ");
+    say_number(o.first as u64);
+    say(b" ");
+    say_number(o.second as u64);
+    say(b" ");
+    say_number(o.third as u64);
+    say(b" ");
+    say_number(o.fourth as u64);
+}
+
+pub fn order_case() {
+    let mut file = [0u8; 131072];
+    let n = read_bytes(&mut file);
+    let row = read_row();
+    match unfolding::row_order(&file[..n], row) {
+        unfolding::OrderReply::Found { order } => {
+            say_order(b"order ", order);
+            say(b"\n");
+        }
+        unfolding::OrderReply::NoRow => say(b"none\n"),
+        unfolding::OrderReply::Refused { number, place } => say_refused(number, place),
+    }
+}
+
+pub fn orders_case() {
+    let mut file = [0u8; 131072];
+    let n = read_bytes(&mut file);
+    let mut marking = [0u16; 8192];
+    let m = read_counts(&mut marking);
+    let mut orders = io::large_buffer();
+    let k = read_bytes(&mut orders);
+    let mut answers = io::large_buffer();
+    let a = read_bytes(&mut answers);
+    fire(
+        &file[..n],
+        &mut marking[..m],
+        &orders[..k],
+        &mut answers[..a],
+    );
+}
+
+fn fire(file: &[u8], marking: &mut [u16], orders: &[u8], answers: &mut [u8]) {
+    match coloured::fire_orders(file, marking, orders, answers) {
+        coloured::FireReply::Answered { count } => say_line(b"answered ", count),
+        coloured::FireReply::Refused { number, place } => say_refused(number, place),
+    }
+    say_counts(b"marking", marking);
+    say_bytes(b"answers", answers);
+}
+
+pub fn first_order_case() {
+    let mut file = [0u8; 131072];
+    let n = read_bytes(&mut file);
+    let mut marking = [0u16; 8192];
+    let m = read_counts(&mut marking);
+    match coloured::first_order(&file[..n], &marking[..m]) {
+        coloured::FirstReply::Found { order, tried } => {
+            say_order(b"found ", order);
+            say_line(b" tried ", tried);
+        }
+        coloured::FirstReply::Nothing { tried } => say_line(b"nothing tried ", tried),
+        coloured::FirstReply::Refused { number, place } => say_refused(number, place),
+    }
+}
