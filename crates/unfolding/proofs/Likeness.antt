@@ -4,7 +4,7 @@ use Prim.Native.Nat.{_<_}
 use native.Mathlib.Omega.{arith}
 use borrow.Author.Tests.{ltb-true}
 use lib.ListN.{length-map}
-use Rattle.reading.specs.Basics.{ℕ, Bool, true, false, List, [], _∷_, map, flatMap, some, length, getD, getElem?, ltb, eqb, if_then_else_, given, items, longAt}
+use Rattle.reading.specs.Basics.{ℕ, Bool, true, false, List, [], _∷_, map, flatMap, Option, none, some, Option·map, length, getD, getElem?, ltb, eqb, if_then_else_, given, items, longAt}
 use Rattle.reading.proofs.Lists.{All, end, also, all-in, in-all, at-below, below-at, at-map, all-map, getD-at, map-flat, flatMap-same, every-in, in-every}
 use Rattle.reading.proofs.Items.{items-joined, of-six, joined-sixes}
 use Rattle.firing.specs.Arcs.{row}
@@ -19,9 +19,9 @@ use Rattle.coloured.specs.Orders.{fireOrder}
 use Rattle.coloured.proofs.FlatPlaces.{flat-places}
 use Rattle.firing.specs.Arcs.{rowOf}
 use Rattle.unfolding.specs.Unfolding.{Rowed, rows, initialAt, unfolded, rowNumber, orderOfRow, image, images}
-use Rattle.unfolding.specs.Demand3.{Orders, guardHolds, RowsHaveOrders, SomeFires, Alike, Demand3}
+use Rattle.unfolding.specs.Demand3.{Orders, guardHolds, RowsHaveOrders, WayBack, SomeFires, Alike, Demand3}
 use Rattle.firing.proofs.Weighted.{row-proper}
-use Rattle.unfolding.proofs.Rows.{Stands, without, within, rows-few, stands, row-order, order-of-number}
+use Rattle.unfolding.proofs.Rows.{Stands, without, within, rows-few, stands, row-order, number-of-order, order-of-number}
 use Rattle.unfolding.proofs.Answers.{image-back, order-answered, row-fires, lists-agree}
 
 -- ---- the flat net keeps to the flat file's limits
@@ -131,6 +131,19 @@ module _ (n : Net) (limits : Limits n) where
           sym (items-joined 5 (omega arith) (λ order. image (rowNumber n order)) (in-all (items 6 others) (λ order m. refl))) ∙ ap (items 5) e ∙ items-joined 5 (omega arith) image (in-all numbers (λ i m. refl)) in
           sym (of-six others whole .1) ∙ ap (flatMap (λ x. x)) (only-orders (items 6 others) small same) ∙ map-flat orderAt (λ x. x) numbers
 
+  -- ---- the way back
+  there : (i : ℕ) (order : List ℕ) → orderOfRow n i ≡ some order → i < length (unfolded n .rows)
+  unfolding orderOfRow
+  there i order e = go (getElem? (rows n) i) refl e
+    where
+      go : (o : Option Rowed) → getElem? (rows n) i ≡ o → Option·map (λ r. r .order) o ≡ some order → i < length (unfolded n .rows)
+      go none q f = let z : _≡_ {A = ℕ} 0 1 = cc in absurd (omega arith)
+      go (some r) q f = omega (arith, below-at (rows n) i q, row-count n)
+
+  pub way-back : WayBack n (unfolded n)
+  way-back i order =
+      (λ e. (there i order e, number-of-order n limits i e .0), λ b. order-of-number n limits i order (b .1) (let lt = b .0 in omega (arith, row-count n)))
+
 -- ---- the demand
 pub alike : (n : Net) → Limits n → Alike n (unfolded n)
 alike n within-limits =
@@ -139,6 +152,7 @@ alike n within-limits =
       exactly = refl;
       lists-agree = lists-agree n within-limits;
       rows-have-orders = rows-have-orders n within-limits;
+      way-back = way-back n within-limits;
       some-fires = some-fires n within-limits;
     }
 

@@ -10,7 +10,7 @@ use Rattle.net.specs.Net.{Net, flatPlaceCount}
 use Rattle.net.specs.Reader.{readNet}
 use Rattle.coloured.specs.Effect.{effect}
 use Rattle.coloured.specs.Orders.{named, fireOrder, fireOrders, firstOrder}
-use Rattle.unfolding.specs.Unfolding.{unfolded, flatFile, image, images, unfoldCall, imagesCall, orderCall}
+use Rattle.unfolding.specs.Unfolding.{unfolded, flatFile, rowNumber, orderOfRow, image, images, unfoldCall, imagesCall, orderCall}
 
 -- a marking of a net: one count for each flat place
 abbrev pub Marking : Net → List ℕ → Type 0
@@ -48,6 +48,10 @@ RowsHaveOrders n f = (numbers : List ℕ) → every (λ i. ltb i (length (f .row
     (orders : List ℕ) × Ordered n numbers orders
     × ((others : List ℕ) → Orders others → images n others ≡ flatMap image numbers → others ≡ orders)
 
+-- the way back and the images are inverse: a row's order is the one that leads to the row, none where there is no such row
+abbrev pub WayBack : Net → Flat → Type 0
+WayBack n f = (i : ℕ) (order : List ℕ) → (orderOfRow n i ≡ some order) ↔ ((i < length (f .rows)) × (rowNumber n order ≡ i))
+
 -- some order is answered 0 exactly when some row is; a row is answered as its image is
 abbrev pub SomeFires : Net → Flat → Type 0
 SomeFires n f = (m : List ℕ) → Marking n m →
@@ -60,6 +64,7 @@ pub record Alike (n : Net) (f : Flat) : Type 0 where
   pub exactly : f ≡ unfolded n
   pub lists-agree : ListsAgree n f
   pub rows-have-orders : RowsHaveOrders n f
+  pub way-back : WayBack n f
   pub some-fires : SomeFires n f
 
 -- so it is for every net file that is accepted
