@@ -2,7 +2,10 @@
 use crate::head::Head;
 use crate::head::head_at;
 use crate::head::next_at;
+use crate::sizes::NetReply;
+use crate::sizes::sizes_of;
 ghost use mathlib.Core.Path.{_≡_};
+ghost use Rattle.net.specs.Calls.{netReply, netSizes};
 ghost use Rattle.net.specs.Heads.{headAt, headTold, nextPlace};
 
 pub struct Reader<'a> {
@@ -38,4 +41,11 @@ pub fn moved<'a>(r: Reader<'a>) -> Reader<'a>
         bytes: r.bytes,
         at: next_at(r.bytes, r.at),
     }
+}
+
+// How large the net of the whole file is, wherever the reader stands.
+pub fn sizes<'a>(r: Reader<'a>) -> NetReply
+    ensures { λ x. ⌜ netReply x ≡ netSizes (now (r .entry .bytes)) ⌝ }
+{
+    sizes_of(r.bytes)
 }
