@@ -26,6 +26,8 @@ pub use evaluate::next_rank;
 pub use expression::read_expression;
 pub use file::NetRead;
 pub use file::read_net;
+pub use head::Head;
+pub use reader::Reader;
 pub use sizes::NetReply;
 pub use sizes::net_sizes;
 pub use space::bindings_of;

@@ -13,39 +13,41 @@ pub struct Reader<'a> {
     pub at: usize,
 }
 
-// At the file's start.
-pub fn start<'a>(bytes: &'a [u8]) -> Reader<'a>
-    ensures { λ r. ⌜ (r .bytes ≡ bytes .entry) × (r .at ≡ 0) ⌝ }
-{
-    Reader { bytes, at: 0 }
-}
-
-pub fn position<'a>(r: Reader<'a>) -> usize
-    ensures { λ n. ⌜ n ≡ r .entry .at ⌝ }
-{
-    r.at
-}
-
-// The command that stands here.
-pub fn head<'a>(r: Reader<'a>) -> Head
-    ensures { λ h. ⌜ headTold h ≡ headAt (now (r .entry .bytes)) (r .entry .at) ⌝ }
-{
-    head_at(r.bytes, r.at)
-}
-
-// Past the command that stands here.
-pub fn moved<'a>(r: Reader<'a>) -> Reader<'a>
-    ensures { λ q. ⌜ (q .bytes ≡ r .entry .bytes) × (q .at ≡ nextPlace (now (r .entry .bytes)) (r .entry .at)) ⌝ }
-{
-    Reader {
-        bytes: r.bytes,
-        at: next_at(r.bytes, r.at),
+impl<'a> Reader<'a> {
+    // At the file's first byte.
+    pub fn start(bytes: &'a [u8]) -> Reader<'a>
+        ensures { λ r. ⌜ (r .bytes ≡ bytes .entry) × (r .at ≡ 0) ⌝ }
+    {
+        Reader { bytes, at: 0 }
     }
-}
 
-// How large the net of the whole file is, wherever the reader stands.
-pub fn sizes<'a>(r: Reader<'a>) -> NetReply
-    ensures { λ x. ⌜ netReply x ≡ netSizes (now (r .entry .bytes)) ⌝ }
-{
-    sizes_of(r.bytes)
+    pub fn position(self) -> usize
+        ensures { λ n. ⌜ n ≡ self .entry .at ⌝ }
+    {
+        self.at
+    }
+
+    // The command that stands here.
+    pub fn head(self) -> Head
+        ensures { λ h. ⌜ headTold h ≡ headAt (now (self .entry .bytes)) (self .entry .at) ⌝ }
+    {
+        head_at(self.bytes, self.at)
+    }
+
+    // Past the command that stands here; at a fault, where it is.
+    pub fn moved(self) -> Reader<'a>
+        ensures { λ q. ⌜ (q .bytes ≡ self .entry .bytes) × (q .at ≡ nextPlace (now (self .entry .bytes)) (self .entry .at)) ⌝ }
+    {
+        Reader {
+            bytes: self.bytes,
+            at: next_at(self.bytes, self.at),
+        }
+    }
+
+    // How large the net of the whole file is, wherever the reader stands.
+    pub fn sizes(self) -> NetReply
+        ensures { λ r. ⌜ netReply r ≡ netSizes (now (self .entry .bytes)) ⌝ }
+    {
+        sizes_of(self.bytes)
+    }
 }

@@ -1,8 +1,7 @@
 // The call that reads a net file and tells how large the net is.
 use crate::file::NetRead;
 use crate::file::read_net;
-use crate::reader::sizes;
-use crate::reader::start;
+use crate::reader::Reader;
 ghost use mathlib.Core.Path.{_≡_};
 ghost use Rattle.net.specs.Calls.{netReply, netSizes};
 
@@ -22,7 +21,7 @@ pub enum NetReply {
 pub fn net_sizes(net: &[u8]) -> NetReply
     ensures { λ r. ⌜ netReply r ≡ netSizes (now (net .entry)) ⌝ }
 {
-    sizes(start(net))
+    Reader::start(net).sizes()
 }
 
 // The work: the file is read into tables of its own.

@@ -45,14 +45,14 @@ use Rattle.net.proofs.reader.Reader as T
 use Rattle.net.proofs.reader.Reader.Laws as T′
 use Rattle.net.proofs.sizes.NetReply as S
 use Rattle.net.proofs.sizes.NetReply.Laws as S′
-use Rattle.net.proofs.reader.start as start
-use Rattle.net.proofs.reader.start.Symbol as start-def
-use Rattle.net.proofs.reader.start.Symbol.{name as #net·reader·start}
-use Rattle.net.proofs.reader.start.Met as start-thm
-use Rattle.net.proofs.reader.sizes as sizes
-use Rattle.net.proofs.reader.sizes.Symbol as sizes-def
-use Rattle.net.proofs.reader.sizes.Symbol.{name as #net·reader·sizes}
-use Rattle.net.proofs.reader.sizes.Met as sizes-thm
+use Rattle.net.proofs.reader.Reader.start as start
+use Rattle.net.proofs.reader.Reader.start.Symbol as start-def
+use Rattle.net.proofs.reader.Reader.start.Symbol.{name as #net·reader·Reader·start}
+use Rattle.net.proofs.reader.Reader.start.Met as start-thm
+use Rattle.net.proofs.reader.Reader.sizes as sizes
+use Rattle.net.proofs.reader.Reader.sizes.Symbol as sizes-def
+use Rattle.net.proofs.reader.Reader.sizes.Symbol.{name as #net·reader·Reader·sizes}
+use Rattle.net.proofs.reader.Reader.sizes.Met as sizes-thm
 use Rattle.net.proofs.sizes.net_sizes.Key.{name as #net·sizes·net-sizes}
 use Rattle.net.proofs.sizes.net_sizes as net-sizes
 use Rattle.net.proofs.sizes.net_sizes.Statement as stated
@@ -120,7 +120,7 @@ module _ {M : Type 1} (𝓤 : URA M) (H : Heap 𝓤) (A : Atoms 𝓤) (W : Given
       suffices ! _ (ends-at 𝓤 H A net-sizes.ended stayed (net-sizes.clauses 𝓤 H A mem run) W (((κ, tt), (q, tt), tt, (s, tt), (v ∷ [], tt)), tt) u t (tt, tt) (tt, tt)) $ says ! e $
       move ! (1 ∷ []) $ frame ! $ nothing ! $ move ! (2 ∷ 0 ∷ []) $ fjoin ! $ frame ! $ done !
 
-  module _ (C : Calls 𝓤 H) (Λ : Loops 𝓤 H) (fm : FmC 𝓤 H (W .laws) C) (known-start : Triple 𝓤 (C #net·reader·start) (Start 𝓤 H A mem run)) (known-sizes : Triple 𝓤 (C #net·reader·sizes) (Sizes 𝓤 H A mem run)) where
+  module _ (C : Calls 𝓤 H) (Λ : Loops 𝓤 H) (fm : FmC 𝓤 H (W .laws) C) (known-start : Triple 𝓤 (C #net·reader·Reader·start) (Start 𝓤 H A mem run)) (known-sizes : Triple 𝓤 (C #net·reader·Reader·sizes) (Sizes 𝓤 H A mem run)) where
     walk : Is (ShrSlice (named 0) κ u8) s (v ∷ []) → ent 𝓤 (onEntry 𝓤 H A net-sizes.signature (κ, tt) (q, tt) (s, tt) (v ∷ [], tt)) (WpFn 𝓤 H C Λ code.function (v ∷ []) Post)
     walk p =
         qed W (raw (onEntry 𝓤 H A net-sizes.signature (κ, tt) (q, tt) (s, tt) (v ∷ [], tt)) ∷ []) ∵ enter ! C Λ code.function (v ∷ []) _ $
@@ -143,13 +143,13 @@ module _ {M : Type 1} (𝓤 : URA M) (H : Heap 𝓤) (A : Atoms 𝓤) (W : Given
         by ! (exits t u′ (e′ ∙ ap (λ (x : RefT (List ℕ)). netSizes (now x)) (e .0))))))))))))))
 
 module _ {M : Type 1} (𝓤 : URA M) (H : Heap 𝓤) (A : Atoms 𝓤) (W : Given 𝓤 H A) (mem : Memory → SProp 𝓤) (run : Routine → Fun 𝓤) where
-  net-sizes-walks : (C : Calls 𝓤 H) (Λ : Loops 𝓤 H) → FmC 𝓤 H (W .laws) C → Triple 𝓤 (C #net·reader·start) (Start 𝓤 H A mem run) → Triple 𝓤 (C #net·reader·sizes) (Sizes 𝓤 H A mem run)
+  net-sizes-walks : (C : Calls 𝓤 H) (Λ : Loops 𝓤 H) → FmC 𝓤 H (W .laws) C → Triple 𝓤 (C #net·reader·Reader·start) (Start 𝓤 H A mem run) → Triple 𝓤 (C #net·reader·Reader·sizes) (Sizes 𝓤 H A mem run)
       → Walks 𝓤 H A net-sizes.ended stayed (WpFn 𝓤 H C Λ code.function) (net-sizes.clauses 𝓤 H A mem run)
   net-sizes-walks C Λ fm known-start known-sizes = walked 𝓤 H A net-sizes.ended stayed (net-sizes.clauses 𝓤 H A mem run) (WpFn 𝓤 H C Λ code.function) (λ κs. (slice-vals, tt)) (λ κs. (shr-slice-tells (named 0) (κs .0) u8, tt))
       (λ κs qs bounds a g are. via 𝓤 _ (fst∗ 𝓤 _ (emp 𝓤)) (walk 𝓤 H A W mem run (κs .0) (qs .0) (a .0) C Λ fm known-start known-sizes (are .0)))
 
 net-sizes-meets : {M : Type 1} (𝓤 : URA M) (H : Heap 𝓤) (A : Atoms 𝓤) (W : Given 𝓤 H A) (mem : Memory → SProp 𝓤) (run : Routine → Fun 𝓤) (𝓣 : Tables 𝓤 H)
-    → Triple 𝓤 (𝓣 .C #net·reader·start) (Start 𝓤 H A mem run) → Triple 𝓤 (𝓣 .C #net·reader·sizes) (Sizes 𝓤 H A mem run)
+    → Triple 𝓤 (𝓣 .C #net·reader·Reader·start) (Start 𝓤 H A mem run) → Triple 𝓤 (𝓣 .C #net·reader·Reader·sizes) (Sizes 𝓤 H A mem run)
     → Meets 𝓤 H A net-sizes.signature (WpFn 𝓤 H (𝓣 .C) (𝓣 .Λ) code.function) (net-sizes.spec 𝓤 H A mem run)
 net-sizes-meets 𝓤 H A W mem run 𝓣 known-start known-sizes = walk-meets 𝓤 H A net-sizes.ended stayed W (goes-none-slice 𝓤 H A W 1 (0 ∷ []) tt (plain (λ _. u8)) yes, tt) (net-sizes.clauses 𝓤 H A mem run) (WpFn 𝓤 H (𝓣 .C) (𝓣 .Λ) code.function) (WpFn-mono 𝓤 H (W .laws) 𝓣 code.function)
     (net-sizes-walks 𝓤 H A W mem run (𝓣 .C) (𝓣 .Λ) (fmOf 𝓤 H (W .laws) 𝓣) known-start known-sizes)
@@ -160,5 +160,5 @@ net-sizes-spec 𝓤 H 𝓜 𝓖 𝓡 =
     entered 𝓤 H (tripleOf 𝓤 H (𝓖 .A) net-sizes.signature (net-sizes.spec 𝓤 H (𝓖 .A) (𝓜 .mem) (𝓡 .run)))
     (tables 𝓤 H 𝓜 𝓡 code.env .C) (tables 𝓤 H 𝓜 𝓡 code.env .Λ) #net·sizes·net-sizes code.function (code.unfolded 𝓤 H 𝓜 𝓡)
     (net-sizes-meets 𝓤 H (𝓖 .A) (givenOf 𝓤 H 𝓜 𝓖) (𝓜 .mem) (𝓡 .run) (tablesOf 𝓤 H 𝓜 (tables 𝓤 H 𝓜 𝓡 code.env))
-    (cited 𝓤 H (Start 𝓤 H (𝓖 .A) (𝓜 .mem) (𝓡 .run)) 𝓜 𝓡 code.env #net·reader·start start-def.routine code.calls-net·reader·start (start-thm.met 𝓤 H 𝓜 𝓖 𝓡))
-    (cited 𝓤 H (Sizes 𝓤 H (𝓖 .A) (𝓜 .mem) (𝓡 .run)) 𝓜 𝓡 code.env #net·reader·sizes sizes-def.routine code.calls-net·reader·sizes (sizes-thm.met 𝓤 H 𝓜 𝓖 𝓡)))
+    (cited 𝓤 H (Start 𝓤 H (𝓖 .A) (𝓜 .mem) (𝓡 .run)) 𝓜 𝓡 code.env #net·reader·Reader·start start-def.routine code.calls-net·reader·Reader·start (start-thm.met 𝓤 H 𝓜 𝓖 𝓡))
+    (cited 𝓤 H (Sizes 𝓤 H (𝓖 .A) (𝓜 .mem) (𝓡 .run)) 𝓜 𝓡 code.env #net·reader·Reader·sizes sizes-def.routine code.calls-net·reader·Reader·sizes (sizes-thm.met 𝓤 H 𝓜 𝓖 𝓡)))

@@ -1,4 +1,4 @@
--- `reader::head` meets its contract: a walk of its MIR, by hand. The struct is taken apart, and `head_at` is called on the slice and the number. All that the proof knows of `head_at` is that it meets its contract.
+-- `Reader::head` meets its contract: a walk of its MIR, by hand. The struct is taken apart, and `head_at` is called on the slice and the number. All that the proof knows of `head_at` is that it meets its contract.
 -- The struct is Copy: what it owns is had twice, one copy is kept whole for the exit, and of the other what bytes owns goes to the callee, beside the lifetime's token, which comes back.
 -- Assumes nothing.
 use mathlib.Core.Path.{_≡_, refl}
@@ -56,10 +56,10 @@ use Rattle.net.proofs.head.head_at as head-at
 use Rattle.net.proofs.head.head_at.Symbol as head-at-def
 use Rattle.net.proofs.head.head_at.Symbol.{name as #net·head·head-at}
 use Rattle.net.proofs.head.head_at.Met as head-at-thm
-use Rattle.net.proofs.reader.head.Key.{name as #net·reader·head}
-use Rattle.net.proofs.reader.head as head
-use Rattle.net.proofs.reader.head.Statement as stated
-use Rattle.net.proofs.reader.head.Code as code
+use Rattle.net.proofs.reader.Reader.head.Key.{name as #net·reader·Reader·head}
+use Rattle.net.proofs.reader.Reader.head as head
+use Rattle.net.proofs.reader.Reader.head.Statement as stated
+use Rattle.net.proofs.reader.Reader.head.Code as code
 
 -- the struct's type, over the signature's lifetimes
 abbrev B : Lfts 1 → RattleType
@@ -163,6 +163,6 @@ pub head-spec : {M : Type 1} → stated.statement M
 unfolding code.routine tablesOf
 head-spec 𝓤 H 𝓜 𝓖 𝓡 =
     entered 𝓤 H (tripleOf 𝓤 H (𝓖 .A) head.signature (head.spec 𝓤 H (𝓖 .A) (𝓜 .mem) (𝓡 .run)))
-    (tables 𝓤 H 𝓜 𝓡 code.env .C) (tables 𝓤 H 𝓜 𝓡 code.env .Λ) #net·reader·head code.function (code.unfolded 𝓤 H 𝓜 𝓡)
+    (tables 𝓤 H 𝓜 𝓡 code.env .C) (tables 𝓤 H 𝓜 𝓡 code.env .Λ) #net·reader·Reader·head code.function (code.unfolded 𝓤 H 𝓜 𝓡)
     (head-meets 𝓤 H (𝓖 .A) (givenOf 𝓤 H 𝓜 𝓖) (𝓜 .mem) (𝓡 .run) (tablesOf 𝓤 H 𝓜 (tables 𝓤 H 𝓜 𝓡 code.env))
     (cited 𝓤 H (HeadAt 𝓤 H (𝓖 .A) (𝓜 .mem) (𝓡 .run)) 𝓜 𝓡 code.env #net·head·head-at head-at-def.routine code.calls-net·head·head-at (head-at-thm.met 𝓤 H 𝓜 𝓖 𝓡)))

@@ -1,4 +1,4 @@
--- `reader::start` meets its contract: a walk of its MIR, by hand. A `Reader` is made of the slice passed and 0, in the result's local.
+-- `Reader::start` meets its contract: a walk of its MIR, by hand. A `Reader` is made of the slice passed and 0, in the result's local.
 -- A `&[u8]` is Copy, so what it owns is had twice: once for bytes at exit, and once inside the result, beside the facts of at.
 -- Assumes nothing.
 use mathlib.Core.Path.{refl}
@@ -38,10 +38,10 @@ use denote.Exit.{yes}
 use Rattle.net.specs.declared.reader.Reader.{Reader}
 use Rattle.net.proofs.reader.Reader as T
 use Rattle.net.proofs.reader.Reader.Laws as T′
-use Rattle.net.proofs.reader.start.Key.{name as #net·reader·start}
-use Rattle.net.proofs.reader.start as start
-use Rattle.net.proofs.reader.start.Statement as stated
-use Rattle.net.proofs.reader.start.Code as code
+use Rattle.net.proofs.reader.Reader.start.Key.{name as #net·reader·Reader·start}
+use Rattle.net.proofs.reader.Reader.start as start
+use Rattle.net.proofs.reader.Reader.start.Statement as stated
+use Rattle.net.proofs.reader.Reader.start.Code as code
 
 abbrev stayed : Stays (start.ended .signature .params) (start.ended .kept)
 stayed = (stay-none-slice (0 ∷ []) tt (plain (λ _. u8)) yes, tt)
@@ -95,5 +95,5 @@ pub start-spec : {M : Type 1} → stated.statement M
 unfolding code.routine tablesOf
 start-spec 𝓤 H 𝓜 𝓖 𝓡 =
     entered 𝓤 H (tripleOf 𝓤 H (𝓖 .A) start.signature (start.spec 𝓤 H (𝓖 .A) (𝓜 .mem) (𝓡 .run)))
-    (tables 𝓤 H 𝓜 𝓡 code.env .C) (tables 𝓤 H 𝓜 𝓡 code.env .Λ) #net·reader·start code.function (code.unfolded 𝓤 H 𝓜 𝓡)
+    (tables 𝓤 H 𝓜 𝓡 code.env .C) (tables 𝓤 H 𝓜 𝓡 code.env .Λ) #net·reader·Reader·start code.function (code.unfolded 𝓤 H 𝓜 𝓡)
     (start-meets 𝓤 H (𝓖 .A) (givenOf 𝓤 H 𝓜 𝓖) (𝓜 .mem) (𝓡 .run) (tablesOf 𝓤 H 𝓜 (tables 𝓤 H 𝓜 𝓡 code.env)))

@@ -1,4 +1,4 @@
--- `reader::moved` meets its contract: a walk of its MIR, by hand. The struct is taken apart, `next_at` is called on the slice and the number, and a struct is made anew of the slice and the number that it returned. All that the proof knows of `next_at` is that it meets its contract.
+-- `Reader::moved` meets its contract: a walk of its MIR, by hand. The struct is taken apart, `next_at` is called on the slice and the number, and a struct is made anew of the slice and the number that it returned. All that the proof knows of `next_at` is that it meets its contract.
 -- The struct is Copy: what it owns is had twice, once for the exit and once for the result, and of another copy what bytes owns goes to the callee, beside the lifetime's token, which comes back.
 -- Assumes nothing.
 use mathlib.Core.Path.{_≡_, refl, ap}
@@ -51,10 +51,10 @@ use Rattle.net.proofs.head.next_at as next-at
 use Rattle.net.proofs.head.next_at.Symbol as next-at-def
 use Rattle.net.proofs.head.next_at.Symbol.{name as #net·head·next-at}
 use Rattle.net.proofs.head.next_at.Met as next-at-thm
-use Rattle.net.proofs.reader.moved.Key.{name as #net·reader·moved}
-use Rattle.net.proofs.reader.moved as moved
-use Rattle.net.proofs.reader.moved.Statement as stated
-use Rattle.net.proofs.reader.moved.Code as code
+use Rattle.net.proofs.reader.Reader.moved.Key.{name as #net·reader·Reader·moved}
+use Rattle.net.proofs.reader.Reader.moved as moved
+use Rattle.net.proofs.reader.Reader.moved.Statement as stated
+use Rattle.net.proofs.reader.Reader.moved.Code as code
 
 -- the struct's type, over the signature's lifetimes
 abbrev B : Lfts 1 → RattleType
@@ -167,6 +167,6 @@ pub moved-spec : {M : Type 1} → stated.statement M
 unfolding code.routine tablesOf
 moved-spec 𝓤 H 𝓜 𝓖 𝓡 =
     entered 𝓤 H (tripleOf 𝓤 H (𝓖 .A) moved.signature (moved.spec 𝓤 H (𝓖 .A) (𝓜 .mem) (𝓡 .run)))
-    (tables 𝓤 H 𝓜 𝓡 code.env .C) (tables 𝓤 H 𝓜 𝓡 code.env .Λ) #net·reader·moved code.function (code.unfolded 𝓤 H 𝓜 𝓡)
+    (tables 𝓤 H 𝓜 𝓡 code.env .C) (tables 𝓤 H 𝓜 𝓡 code.env .Λ) #net·reader·Reader·moved code.function (code.unfolded 𝓤 H 𝓜 𝓡)
     (moved-meets 𝓤 H (𝓖 .A) (givenOf 𝓤 H 𝓜 𝓖) (𝓜 .mem) (𝓡 .run) (tablesOf 𝓤 H 𝓜 (tables 𝓤 H 𝓜 𝓡 code.env))
     (cited 𝓤 H (NextAt 𝓤 H (𝓖 .A) (𝓜 .mem) (𝓡 .run)) 𝓜 𝓡 code.env #net·head·next-at next-at-def.routine code.calls-net·head·next-at (next-at-thm.met 𝓤 H 𝓜 𝓖 𝓡)))

@@ -1,4 +1,4 @@
--- `reader::sizes` meets its contract: a walk of its MIR, by hand. The struct is taken apart, and `sizes_of` is called on the slice. All that the proof knows of `sizes_of` is that it meets its contract.
+-- `Reader::sizes` meets its contract: a walk of its MIR, by hand. The struct is taken apart, and `sizes_of` is called on the slice. All that the proof knows of `sizes_of` is that it meets its contract.
 -- The struct is Copy: what it owns is had twice, one copy is kept whole for the exit, and of the other what bytes owns goes to the callee, beside the lifetime's token, which comes back.
 -- Assumes nothing.
 use mathlib.Core.Path.{_≡_, refl}
@@ -53,10 +53,10 @@ use Rattle.net.proofs.sizes.sizes_of as sizes-of
 use Rattle.net.proofs.sizes.sizes_of.Symbol as sizes-of-def
 use Rattle.net.proofs.sizes.sizes_of.Symbol.{name as #net·sizes·sizes-of}
 use Rattle.net.proofs.sizes.sizes_of.Met as sizes-of-thm
-use Rattle.net.proofs.reader.sizes.Key.{name as #net·reader·sizes}
-use Rattle.net.proofs.reader.sizes as sizes
-use Rattle.net.proofs.reader.sizes.Statement as stated
-use Rattle.net.proofs.reader.sizes.Code as code
+use Rattle.net.proofs.reader.Reader.sizes.Key.{name as #net·reader·Reader·sizes}
+use Rattle.net.proofs.reader.Reader.sizes as sizes
+use Rattle.net.proofs.reader.Reader.sizes.Statement as stated
+use Rattle.net.proofs.reader.Reader.sizes.Code as code
 
 -- the struct's type, over the signature's lifetimes
 abbrev B : Lfts 1 → RattleType
@@ -158,6 +158,6 @@ pub sizes-spec : {M : Type 1} → stated.statement M
 unfolding code.routine tablesOf
 sizes-spec 𝓤 H 𝓜 𝓖 𝓡 =
     entered 𝓤 H (tripleOf 𝓤 H (𝓖 .A) sizes.signature (sizes.spec 𝓤 H (𝓖 .A) (𝓜 .mem) (𝓡 .run)))
-    (tables 𝓤 H 𝓜 𝓡 code.env .C) (tables 𝓤 H 𝓜 𝓡 code.env .Λ) #net·reader·sizes code.function (code.unfolded 𝓤 H 𝓜 𝓡)
+    (tables 𝓤 H 𝓜 𝓡 code.env .C) (tables 𝓤 H 𝓜 𝓡 code.env .Λ) #net·reader·Reader·sizes code.function (code.unfolded 𝓤 H 𝓜 𝓡)
     (sizes-meets 𝓤 H (𝓖 .A) (givenOf 𝓤 H 𝓜 𝓖) (𝓜 .mem) (𝓡 .run) (tablesOf 𝓤 H 𝓜 (tables 𝓤 H 𝓜 𝓡 code.env))
     (cited 𝓤 H (SizesOf 𝓤 H (𝓖 .A) (𝓜 .mem) (𝓡 .run)) 𝓜 𝓡 code.env #net·sizes·sizes-of sizes-of-def.routine code.calls-net·sizes·sizes-of (sizes-of-thm.met 𝓤 H 𝓜 𝓖 𝓡)))

@@ -1,4 +1,4 @@
--- `reader::position` meets its contract: a walk of its MIR, by hand. A number is read from a field of the struct, and the struct is seen at exit as it was passed.
+-- `Reader::position` meets its contract: a walk of its MIR, by hand. A number is read from a field of the struct, and the struct is seen at exit as it was passed.
 -- That the number fits its type is in the struct's relation, at the field's place.
 -- Assumes nothing.
 use mathlib.Core.Path.{refl}
@@ -35,10 +35,10 @@ use denote.Exit.{yes}
 use Rattle.net.specs.declared.reader.Reader.{Reader}
 use Rattle.net.proofs.reader.Reader as T
 use Rattle.net.proofs.reader.Reader.Laws as T′
-use Rattle.net.proofs.reader.position.Key.{name as #net·reader·position}
-use Rattle.net.proofs.reader.position as position
-use Rattle.net.proofs.reader.position.Statement as stated
-use Rattle.net.proofs.reader.position.Code as code
+use Rattle.net.proofs.reader.Reader.position.Key.{name as #net·reader·Reader·position}
+use Rattle.net.proofs.reader.Reader.position as position
+use Rattle.net.proofs.reader.Reader.position.Statement as stated
+use Rattle.net.proofs.reader.Reader.position.Code as code
 
 -- the struct's type, over the signature's lifetimes
 abbrev B : Lfts 1 → RattleType
@@ -82,5 +82,5 @@ pub position-spec : {M : Type 1} → stated.statement M
 unfolding code.routine tablesOf
 position-spec 𝓤 H 𝓜 𝓖 𝓡 =
     entered 𝓤 H (tripleOf 𝓤 H (𝓖 .A) position.signature (position.spec 𝓤 H (𝓖 .A) (𝓜 .mem) (𝓡 .run)))
-    (tables 𝓤 H 𝓜 𝓡 code.env .C) (tables 𝓤 H 𝓜 𝓡 code.env .Λ) #net·reader·position code.function (code.unfolded 𝓤 H 𝓜 𝓡)
+    (tables 𝓤 H 𝓜 𝓡 code.env .C) (tables 𝓤 H 𝓜 𝓡 code.env .Λ) #net·reader·Reader·position code.function (code.unfolded 𝓤 H 𝓜 𝓡)
     (position-meets 𝓤 H (𝓖 .A) (givenOf 𝓤 H 𝓜 𝓖) (𝓜 .mem) (𝓡 .run) (tablesOf 𝓤 H 𝓜 (tables 𝓤 H 𝓜 𝓡 code.env)))
