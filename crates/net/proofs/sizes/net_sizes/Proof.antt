@@ -14,17 +14,16 @@ use prog.Memory.{Memory}
 use prog.Routine.{Routine}
 use prog.Wp.{Heap, Calls, Loops, WpFn, Tables}
 use ghost.Atoms.{Atoms, sem}
-use contract.Lifetimes.{Lfts}
 use contract.Monad.{Fun, fact}
 use contract.Running.{givenOf, tables, tablesOf}
 use types.Kit.{Given, ‵, raw, _⊛_, ⋆, some, later, _$_, _∵_, !, qed, by, move, use1, use2, split, join, pick, fsplit, fjoin, suffices, frame, await, done}
 use types.Run.{look, init, forget, stop, from, load, and-then, no-more, land, returns, enter, alloc1, alloc0, params1, pass1, pass0, free1, free0}
 use sound.WpLaws.{FmC, fmOf, WpFn-mono}
-use denote.RattleType.{RattleType, owns}
+use denote.RattleType.{owns}
 use denote.Laws.{Is, shows}
 use denote.Builtin.{u8}
 use denote.Ref.{RefT, NamedLft, now}
-use denote.Signature.{plain, namedLft}
+use denote.Signature.{plain}
 use denote.Slice.{sliceVal, ShrSlice, slice-vals, shr-slice-tells, shr-slice-lawful, shr-slice-copy}
 use denote.Steps.{peeks, heard, nothing}
 use denote.Enum.Laws as EL
@@ -43,6 +42,7 @@ use Rattle.net.specs.declared.reader.Reader.{Reader}
 use Rattle.net.specs.declared.sizes.NetReply.{NetReply}
 use Rattle.net.proofs.reader.Reader as T
 use Rattle.net.proofs.reader.Reader.Laws as T′
+use Rattle.net.proofs.Readers.{B}
 use Rattle.net.proofs.sizes.NetReply as S
 use Rattle.net.proofs.sizes.NetReply.Laws as S′
 use Rattle.net.proofs.reader.Reader.start as start
@@ -57,10 +57,6 @@ use Rattle.net.proofs.sizes.net_sizes.Key.{name as #net·sizes·net-siz
 use Rattle.net.proofs.sizes.net_sizes as net-sizes
 use Rattle.net.proofs.sizes.net_sizes.Statement as stated
 use Rattle.net.proofs.sizes.net_sizes.Code as code
-
--- the struct's type, over the signature's lifetimes
-abbrev B : Lfts 1 → RattleType
-B κs = T.the-row (namedLft 1 0 tt κs)
 
 abbrev stayed : Stays (net-sizes.ended .signature .params) (net-sizes.ended .kept)
 stayed = (stay-none-slice (0 ∷ []) tt (plain (λ _. u8)) yes, tt)
