@@ -5,7 +5,7 @@ use Rattle.net.specs.Reader.{widthOf}
 use Rattle.net.specs.declared.head.Head.{Head}
 use Rattle.net.specs.declared.head.Head.the-variants as head
 
--- its byte, and the place after its operands; no command is stray (3), a cut one, or none at the file's end, is cut off (2)
+-- its byte, and the place after its operands; a byte that is no command is stray (3), and where the file ends there or within the operands it is cut off (2)
 unfoldable pub headAt : List ℕ → ℕ → Answer ℕ
 headAt s at =
     let byte = byteAt s at in

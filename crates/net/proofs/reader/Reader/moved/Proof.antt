@@ -1,5 +1,5 @@
 -- `Reader::moved` meets its contract: a walk of its MIR, by hand. The struct is taken apart, `next_at` is called on the slice and the number, and a struct is made anew of the slice and the number that it returned. All that the proof knows of `next_at` is that it meets its contract.
--- The struct is Copy: what it owns is had twice, once for the exit and once for the result, and of another copy what bytes owns goes to the callee, beside the lifetime's token, which comes back.
+-- The struct is Copy: what it owns is had twice, once for the exit and once for the result, and of another copy what bytes own goes to the callee, beside the lifetime's token, which comes back.
 -- Assumes nothing.
 use mathlib.Core.Path.{_≡_, refl, ap}
 use Prim.Native.Nat.{ℕ, _<_, _^_}
@@ -106,7 +106,7 @@ module _ {M : Type 1} (𝓤 : URA M) (H : Heap 𝓤) (A : Atoms 𝓤) (W : Given
     walk wt =
         qed W (raw (onEntry 𝓤 H A moved.signature (κ, tt) (q, tt) (d, tt) (machine d ∷ [], tt)) ∷ []) ∵ enter ! C Λ code.function (machine d ∷ []) _ $
         alloc1 ! (λ l₀. alloc1 ! (λ l₁. alloc1 ! (λ l₂. alloc1 ! (λ l₃. alloc1 ! (λ l₄. alloc1 ! (λ l₅. alloc0 ! $ params1 ! $ pass1 ! (init ! 8 refl wt) $ pass0 ! $
-        -- [_5; …; _4; …; _3; …; _2; …; _1; …; room for _0; …; the token and what r owns]
+        -- [_5; …; _4; …; _3; …; _2; …; _1; …; room for _0; …; the token and what self owns]
         assigns ! (of-opd ! (load ! (from ! (fld ! refl (stop !))) (look-in ! 8 (sub ! 0 refl (whole !))))) (from ! (stop !)) (init ! 6 refl (tt, wt .1 .0)) $
         assigns ! (of-opd ! (load ! (from ! (fld ! refl (stop !))) (look-in ! 8 (sub ! 0 refl (whole !))))) (from ! (stop !)) (init ! 2 refl (tt, wt .1 .0)) $
         assigns ! (of-opd ! (load ! (from ! (fld ! refl (stop !))) (look-in ! 8 (sub ! 1 refl (whole !))))) (from ! (stop !)) (init ! 0 refl (tt, wt .1 .1 .0)) $
