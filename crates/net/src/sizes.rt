@@ -1,6 +1,7 @@
 // The call that reads a net file and tells how large the net is.
 use crate::file::NetRead;
 use crate::file::read_net;
+use crate::reader::Reader;
 ghost use mathlib.Core.Path.{_≡_};
 ghost use Rattle.net.specs.Calls.{netReply, netSizes};
 
@@ -18,6 +19,13 @@ pub enum NetReply {
 }
 
 pub fn net_sizes(net: &[u8]) -> NetReply
+    ensures { λ r. ⌜ netReply r ≡ netSizes (now (net .entry)) ⌝ }
+{
+    Reader::start(net).sizes()
+}
+
+// The work: the file is read into tables of its own.
+pub fn sizes_of(net: &[u8]) -> NetReply
     ensures { λ r. ⌜ netReply r ≡ netSizes (now (net .entry)) ⌝ }
 {
     let mut sizes = [0u8; 16];
