@@ -7,8 +7,8 @@ use Rattle.net.specs.Net.{Net, net, placeAt, bindingSpace}
 use Rattle.net.specs.Reader.{placePart, transitionPart, tokensPart, content, readNet}
 use Rattle.net.specs.Told.{placeOf, declaring}
 use Rattle.net.specs.Tables.{placesOf, Started, over, Holds, countOf, TransitionsHold}
-use Rattle.net.specs.declared.token.Ended.{Ended}
-use Rattle.net.specs.declared.token.Ended.the-variants as ended
+use Rattle.net.specs.declared.Part.{Part}
+use Rattle.net.specs.declared.Part.the-variants as part
 use Rattle.net.specs.declared.file.Drawn.{Drawn}
 use Rattle.net.specs.declared.file.Drawn.the-variants as drawn-is
 use Rattle.net.specs.declared.file.Content.{Content}
@@ -20,18 +20,18 @@ use Rattle.net.specs.declared.file.NetRead.the-variants as net-read
 abbrev pub opened : List ℕ → (ℕ → Answer Net) → Answer Net
 opened s content = needed s (command 0x01 1 ((5 unless eqb (byteAt s 1) 1) ∷ []) content ∷ []) 0
 
-abbrev pub openTold : (ℕ → Answer Net) → Ended → Answer Net
-openTold content (ended.Whole next) = content next
-openTold content (ended.Fault number place) = fault number place
+abbrev pub openTold : (ℕ → Answer Net) → Part → Answer Net
+openTold content (part.Whole count total next) = content next
+openTold content (part.Fault number place) = fault number place
 
 abbrev pub closed : List ℕ → Net → ℕ → Answer Net
 closed s n at =
     needed s (command 0x1F 0 [] (fine n) ∷ []) at andThen λ a end.
     checked end ((15 unless eqb end (length s)) ∷ []) a end
 
-abbrev pub closeTold : Net → Ended → Answer Net
-closeTold n (ended.Whole next) = fine n next
-closeTold n (ended.Fault number place) = fault number place
+abbrev pub closeTold : Net → Part → Answer Net
+closeTold n (part.Whole count total next) = fine n next
+closeTold n (part.Fault number place) = fault number place
 
 -- ---- sets, variables and places, with nothing after them yet
 abbrev pub drawing : List ℕ → ℕ → Answer Net

@@ -13,8 +13,8 @@ use Rattle.net.specs.declared.SetStep.{SetStep}
 use Rattle.net.specs.declared.SetStep.the-variants.{Done, More, Stop}
 use Rattle.net.specs.declared.PlaceStep.{PlaceStep}
 use Rattle.net.specs.declared.PlaceStep.the-variants as place-step
-use Rattle.net.specs.declared.Counted.{Counted}
-use Rattle.net.specs.declared.Counted.the-variants as counted
+use Rattle.net.specs.declared.Part.{Part}
+use Rattle.net.specs.declared.Part.the-variants as part
 
 -- the numbers below n that pass a test, a bit for each
 unfoldable pub bits : (ℕ → Bool) → ℕ → ℕ
@@ -57,13 +57,19 @@ abbrev pub Room : ℕ → ℕ → ℕ → SetStep → Type 0
 Room len count at r = RoomFor 16 len count at r
 
 -- the sets are the front of the lent list
-abbrev pub setsRead : List ℕ → Counted → Answer (List ℕ)
-setsRead sizes (counted.Whole count next) = fine (take count sizes) next
-setsRead sizes (counted.Fault number place) = fault number place
+abbrev pub setsRead : List ℕ → Part → Answer (List ℕ)
+setsRead sizes (part.Whole count total next) = fine (take count sizes) next
+setsRead sizes (part.Fault number place) = fault number place
 
-abbrev pub Few : ℕ → Counted → Type 0
-Few limit (counted.Whole count next) = count ≤ limit
-Few limit (counted.Fault number place) = Unit {0}
+-- at most so many, with nothing to add up
+abbrev pub Few : ℕ → Part → Type 0
+Few limit (part.Whole count total next) = (count ≤ limit) × (total ≡ 0)
+Few limit (part.Fault number place) = Unit {0}
+
+-- nothing to count, and nothing to add up
+abbrev pub Bare : Part → Type 0
+Bare (part.Whole count total next) = (count ≡ 0) × (total ≡ 0)
+Bare (part.Fault number place) = Unit {0}
 
 -- sets and variables, with nothing after them yet
 abbrev pub declaring : List ℕ → ℕ → Answer Net

@@ -1,11 +1,9 @@
 // The whole net file, part after part, into lent tables.
 use crate::Declared;
-use crate::place::Placed;
+use crate::Part;
 use crate::place::read_places;
 use crate::read_declared;
-use crate::token::Ended;
 use crate::token::read_tokens;
-use crate::transitions::Passed;
 use crate::transitions::read_transitions;
 ghost use mathlib.Core.Path.{_≡_};
 ghost use mathlib.Core.List.{List, []};
@@ -13,59 +11,70 @@ ghost use Prim.Native.Nat.{ℕ, _≤_};
 ghost use lib.ListN.{length};
 ghost use Rattle.reading.specs.Reading.{Answer};
 ghost use Rattle.net.specs.Net.{Net};
+ghost use Rattle.net.specs.Told.{Bare};
 ghost use Rattle.net.specs.Held.{opened, openTold, closed, closeTold, DrawnTold, ContentTold, NetTold};
 
 // The first command: 0x01 and edition 1.
-fn read_opening(s: &[u8]) -> Ended
-    ensures { λ r. ⌜ ((content : ℕ → Answer Net) → opened (now (s .entry)) content ≡ openTold content r) ⌝ }
+fn read_opening(s: &[u8]) -> Part
+    ensures bare { λ r. ⌜ Bare r ⌝ }
+    ensures told { λ r. ⌜ ((content : ℕ → Answer Net) → opened (now (s .entry)) content ≡ openTold content r) ⌝ }
 {
     if s.len() < 1 {
-        return Ended::Fault {
+        return Part::Fault {
             number: 2,
             place: s.len(),
         };
     }
     if s[0] == 0x01 {
         if s.len() < 2 {
-            return Ended::Fault {
+            return Part::Fault {
                 number: 2,
                 place: s.len(),
             };
         }
         if s[1] == 1 {
-            return Ended::Whole { next: 2 };
+            return Part::Whole {
+                count: 0,
+                total: 0,
+                next: 2,
+            };
         }
-        return Ended::Fault {
+        return Part::Fault {
             number: 5,
             place: 0,
         };
     }
-    Ended::Fault {
+    Part::Fault {
         number: 3,
         place: 0,
     }
 }
 
 // The last command: 0x1F, and nothing after it.
-fn read_closing(s: &[u8], at: usize) -> Ended
-    ensures { λ r. ⌜ ((n : Net) → closed (now (s .entry)) n at ≡ closeTold n r) ⌝ }
+fn read_closing(s: &[u8], at: usize) -> Part
+    ensures bare { λ r. ⌜ Bare r ⌝ }
+    ensures told { λ r. ⌜ ((n : Net) → closed (now (s .entry)) n at ≡ closeTold n r) ⌝ }
 {
     if s.len() <= at {
-        return Ended::Fault {
+        return Part::Fault {
             number: 2,
             place: s.len(),
         };
     }
     if s[at] == 0x1F {
         if at + 1 < s.len() {
-            return Ended::Fault {
+            return Part::Fault {
                 number: 15,
                 place: at + 1,
             };
         }
-        return Ended::Whole { next: at + 1 };
+        return Part::Whole {
+            count: 0,
+            total: 0,
+            next: at + 1,
+        };
     }
-    Ended::Fault {
+    Part::Fault {
         number: 3,
         place: at,
     }
@@ -110,8 +119,8 @@ pub fn read_drawn(
             variables,
             next,
         } => match read_places(s, &sizes[..sets], firsts, seconds, starts, next) {
-            Placed::Fault { number, place } => Drawn::Fault { number, place },
-            Placed::Whole {
+            Part::Fault { number, place } => Drawn::Fault { number, place },
+            Part::Whole {
                 count,
                 total,
                 next: end,
@@ -192,14 +201,18 @@ pub fn read_content(
                 arcs,
                 next,
             ) {
-                Passed::Fault { number, place } => Content::Fault { number, place },
-                Passed::Whole {
+                Part::Fault { number, place } => Content::Fault { number, place },
+                Part::Whole {
                     count,
-                    space,
+                    total: space,
                     next: more,
                 } => match read_tokens(s, starts, places, total, initial, named, more) {
-                    Ended::Fault { number, place } => Content::Fault { number, place },
-                    Ended::Whole { next: end } => Content::Whole {
+                    Part::Fault { number, place } => Content::Fault { number, place },
+                    Part::Whole {
+                        count: _,
+                        total: _,
+                        next: end,
+                    } => Content::Whole {
                         sets,
                         variables,
                         places,
@@ -264,8 +277,12 @@ pub fn read_net(
         };
     }
     match read_opening(s) {
-        Ended::Fault { number, place } => NetRead::Refused { number, place },
-        Ended::Whole { next } => {
+        Part::Fault { number, place } => NetRead::Refused { number, place },
+        Part::Whole {
+            count: _,
+            total: _,
+            next,
+        } => {
             match read_content(
                 s,
                 sizes,
@@ -290,8 +307,12 @@ pub fn read_net(
                     space,
                     next: end,
                 } => match read_closing(s, end) {
-                    Ended::Fault { number, place } => NetRead::Refused { number, place },
-                    Ended::Whole { next: _ } => NetRead::Whole {
+                    Part::Fault { number, place } => NetRead::Refused { number, place },
+                    Part::Whole {
+                        count: _,
+                        total: _,
+                        next: _,
+                    } => NetRead::Whole {
                         sets,
                         variables,
                         places,
