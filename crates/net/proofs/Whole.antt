@@ -1,14 +1,14 @@
 -- The whole file: part after part, and the first and the last command. Assumes nothing.
-use mathlib.Core.Path.{_≡_, refl, sym, ap₂, _∙_}
+use mathlib.Core.Path.{_≡_, refl, sym, ap, ap₂, _∙_}
 use Prim.Native.Nat.{_≤_, _<_}
 use native.Mathlib.Omega.{arith}
 use borrow.Author.Tests.{lt-ltb, le-ltb, eq-eqb, ne-eqb}
 use lib.Seq.{length-take-le, getD-take}
-use Rattle.reading.specs.Basics.{ℕ, _+_, List, [], _∷_, length, getD, take, eqb, byteAt}
+use Rattle.reading.specs.Basics.{ℕ, _+_, List, [], _∷_, some, length, getD, take, eqb, byteAt}
 use Rattle.reading.proofs.Commands.{end, other, passes, done, fails, needed-past, needed-stray, needs-cut, needs-fails, needs-goes}
 use Rattle.reading.specs.Reading.{Answer, fine, fault, _andThen_, outcome, accepted, refused, _unless_, checked, command, needed, whole, file}
 use Rattle.net.specs.Net.{Place, single, Transition, Tokens, Net, net, variablesOf, bindingSpace}
-use Rattle.net.specs.Reader.{setPart, variablePart, placePart, transitionPart, tokensPart, content, readNet}
+use Rattle.net.specs.Reader.{setPart, variablePart, placePart, transitionPart, tokensPart, content, readNet, widthOf}
 use Rattle.net.specs.Told.{placeOf, declaring}
 use Rattle.net.specs.Tables.{placesOf, Started, over, TokensRead, TransitionsRead}
 use Rattle.net.specs.Held.{opened, closed, drawing, remaining, drawnOf, DrawnRead, ContentRead}
@@ -110,6 +110,14 @@ module _ (s : List ℕ) (start : ℕ) where
               ap₂ placeOf (sym (getD-take places firsts p 0 lt)) (sym (getD-take places seconds p 0 lt)) ∙ sym (place-at (take places firsts) (take places seconds) p (omega arith) (omega arith))
 
 -- ---- the first and the last command
+pub open-width : (s : List ℕ) → byteAt s 0 ≡ 0x01 → widthOf (byteAt s 0) ≡ some 1
+unfolding commands
+open-width s e = ap widthOf e
+
+pub close-width : (s : List ℕ) (at : ℕ) → byteAt s at ≡ 0x1F → widthOf (byteAt s at) ≡ some 0
+unfolding commands
+close-width s at e = ap widthOf e
+
 module _ (s : List ℕ) (read : ℕ → Answer Net) where
   pub open-past : length s ≤ 0 → opened s read ≡ fault 2 (length s)
   unfolding commands

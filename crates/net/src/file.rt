@@ -3,6 +3,7 @@ use crate::Declared;
 use crate::Part;
 use crate::place::read_places;
 use crate::read_declared;
+use crate::table::after;
 use crate::token::read_tokens;
 use crate::transitions::read_transitions;
 ghost use mathlib.Core.Path.{_≡_};
@@ -11,8 +12,16 @@ ghost use Prim.Native.Nat.{ℕ, _≤_};
 ghost use lib.ListN.{length};
 ghost use Rattle.reading.specs.Reading.{Answer};
 ghost use Rattle.net.specs.Net.{Net};
+ghost use Rattle.net.specs.declared.Part.the-variants as part;
 ghost use Rattle.net.specs.Told.{Bare};
 ghost use Rattle.net.specs.Held.{opened, openTold, closed, closeTold, DrawnTold, ContentTold, NetTold};
+
+// A part that ends at a fault.
+fn stopped(number: u8, place: usize) -> Part
+    ensures { λ r. ⌜ r ≡ part.Fault number place ⌝ }
+{
+    Part::Fault { number, place }
+}
 
 // The first command: 0x01 and edition 1.
 fn read_opening(s: &[u8]) -> Part
@@ -20,34 +29,23 @@ fn read_opening(s: &[u8]) -> Part
     ensures told { λ r. ⌜ ((content : ℕ → Answer Net) → opened (now (s .entry)) content ≡ openTold content r) ⌝ }
 {
     if s.len() < 1 {
-        return Part::Fault {
-            number: 2,
-            place: s.len(),
-        };
+        return stopped(2, s.len());
     }
     if s[0] == 0x01 {
-        if s.len() < 2 {
-            return Part::Fault {
-                number: 2,
-                place: s.len(),
-            };
+        let next = after(s, 0);
+        if s.len() < next {
+            return stopped(2, s.len());
         }
         if s[1] == 1 {
             return Part::Whole {
                 count: 0,
                 total: 0,
-                next: 2,
+                next,
             };
         }
-        return Part::Fault {
-            number: 5,
-            place: 0,
-        };
+        return stopped(5, 0);
     }
-    Part::Fault {
-        number: 3,
-        place: 0,
-    }
+    stopped(3, 0)
 }
 
 // The last command: 0x1F, and nothing after it.
@@ -56,28 +54,20 @@ fn read_closing(s: &[u8], at: usize) -> Part
     ensures told { λ r. ⌜ ((n : Net) → closed (now (s .entry)) n at ≡ closeTold n r) ⌝ }
 {
     if s.len() <= at {
-        return Part::Fault {
-            number: 2,
-            place: s.len(),
-        };
+        return stopped(2, s.len());
     }
     if s[at] == 0x1F {
-        if at + 1 < s.len() {
-            return Part::Fault {
-                number: 15,
-                place: at + 1,
-            };
+        let next = after(s, at);
+        if next < s.len() {
+            return stopped(15, next);
         }
         return Part::Whole {
             count: 0,
             total: 0,
-            next: at + 1,
+            next,
         };
     }
-    Part::Fault {
-        number: 3,
-        place: at,
-    }
+    stopped(3, at)
 }
 
 // How many sets, variables and places were read, the colours of the places together, and the place after them; or the first fault.
