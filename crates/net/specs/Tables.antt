@@ -6,8 +6,6 @@ use Rattle.reading.specs.Reading.{Answer, fine, fault, _andThen_, whole}
 use Rattle.net.specs.Net.{Guard, always, Expression, Place, Arc, Transition, Tokens, Net, net, coloursOf, placeAt, arcOn, tokensOn, inGuard, inExpression, variablesOf, bindingSpace}
 use Rattle.net.specs.Reader.{readGuard, readGuardIf, readExpression, arcPart, ended, transitionPart, tokensPart}
 use Rattle.net.specs.Told.{bits, placeOf}
-use Rattle.net.specs.declared.Declared.{Declared}
-use Rattle.net.specs.declared.Declared.the-variants as declared
 use Rattle.net.specs.declared.PlaceStep.{PlaceStep}
 use Rattle.net.specs.declared.PlaceStep.the-variants as place-step
 use Rattle.net.specs.declared.Part.{Part}
@@ -22,11 +20,6 @@ use Rattle.net.specs.declared.transition.Closed.{Closed}
 use Rattle.net.specs.declared.transition.Closed.the-variants as closed
 use Rattle.net.specs.declared.transition.TransitionStep.{TransitionStep}
 use Rattle.net.specs.declared.transition.TransitionStep.the-variants as transition-step
-
--- ---- sets and variables
-abbrev pub FewDeclared : Declared → Type 0
-FewDeclared (declared.Whole sets variables next) = (sets ≤ 16) × (variables ≤ 32)
-FewDeclared (declared.Fault number place) = Unit {0}
 
 -- ---- places
 -- the places of two lists of sets, first and second

@@ -2,11 +2,8 @@
 use mathlib.Core.Path.{_≡_}
 use Prim.Native.Nat.{_^_, _<_, _≤_}
 use Rattle.reading.specs.Basics.{ℕ, zero, suc, _+_, Bool, List, [], _∷_, Option, none, some, length, take, eqb, if_then_else_, with}
-use Rattle.reading.specs.Reading.{Answer, fine, fault, _andThen_, whole}
-use Rattle.net.specs.Reader.{setPart, variablePart}
-use Rattle.net.specs.declared.Declared.{Declared}
-use Rattle.net.specs.declared.Declared.the-variants as declared
-use Rattle.net.specs.Net.{Colour, Guard, Expression, Net, net, Place, single, pair, setOf, ceiling, inColour, inGuard, inExpression}
+use Rattle.reading.specs.Reading.{Answer, fine, fault}
+use Rattle.net.specs.Net.{Colour, Guard, Expression, Net, Place, single, pair, setOf, ceiling, inColour, inGuard, inExpression}
 use Rattle.net.specs.declared.Read.{Read}
 use Rattle.net.specs.declared.Read.the-variants as read
 use Rattle.net.specs.declared.SetStep.{SetStep}
@@ -70,17 +67,6 @@ Few limit (part.Fault number place) = Unit {0}
 abbrev pub Bare : Part → Type 0
 Bare (part.Whole count total next) = (count ≡ 0) × (total ≡ 0)
 Bare (part.Fault number place) = Unit {0}
-
--- sets and variables, with nothing after them yet
-abbrev pub declaring : List ℕ → ℕ → Answer Net
-declaring s start =
-    whole s (setPart s) [] start andThen λ sets at.
-    whole s (variablePart s (net sets [] [] [] [])) [] at andThen λ variables at.
-    fine (net sets variables [] [] []) at
-
-abbrev pub declaredRead : List ℕ → List ℕ → Declared → Answer Net
-declaredRead sizes vars (declared.Whole sets variables next) = fine (net (take sets sizes) (take variables vars) [] [] []) next
-declaredRead sizes vars (declared.Fault number place) = fault number place
 
 -- a step of the place part
 abbrev pub placeStep : List Place → PlaceStep → Option (Answer (List Place))

@@ -37,8 +37,8 @@ ghost use Rattle.reading.specs.Basics.{sum};
 ghost use Rattle.reading.specs.Reading.{whole};
 ghost use Rattle.net.specs.Net.{net, Place, coloursOf, equal, less};
 ghost use Rattle.net.specs.Reader.{readColour, readGuard, readGuardIf, comparison, setPart, variablePart, placePart};
-ghost use Rattle.net.specs.Told.{colourTold, guardTold, setStep, setsRead, Room, RoomFor, declaredRead, declaring, Few, placeStep};
-ghost use Rattle.net.specs.Tables.{PlaceRoom, FewDeclared};
+ghost use Rattle.net.specs.Told.{colourTold, guardTold, setStep, setsRead, Room, RoomFor, Few, placeStep};
+ghost use Rattle.net.specs.Tables.{PlaceRoom};
 
 // A whole expression: the place after it, its set and its variables; or the first fault.
 pub enum Read {
@@ -454,49 +454,6 @@ pub fn read_variables(s: &[u8], sets: &[u8], vars: &mut [u8], start: usize) -> P
                 vars[count] = size;
                 count += 1;
                 at = next;
-            }
-        }
-    }
-}
-
-// How many sets and variables were read, and the place after them; or the first fault.
-pub enum Declared {
-    Whole {
-        sets: usize,
-        variables: usize,
-        next: usize,
-    },
-    Fault {
-        number: u8,
-        place: usize,
-    },
-}
-
-// The first two parts.
-pub fn read_declared(s: &[u8], sizes: &mut [u8], vars: &mut [u8], start: usize) -> Declared
-    requires { ⌜ length (now sizes) ≡ 16 ⌝ }
-    requires { ⌜ length (now vars) ≡ 32 ⌝ }
-    ensures few { λ r. ⌜ FewDeclared r ⌝ }
-    ensures is { λ r. ⌜ declaredRead (now (sizes .exit)) (now (vars .exit)) r ≡ declaring (now (s .entry)) start ⌝ }
-{
-    match read_sets(s, sizes, start) {
-        Part::Fault { number, place } => Declared::Fault { number, place },
-        Part::Whole {
-            count,
-            total: _,
-            next,
-        } => {
-            match read_variables(s, &sizes[..count], vars, next) {
-                Part::Fault { number, place } => Declared::Fault { number, place },
-                Part::Whole {
-                    count: variables,
-                    total: _,
-                    next: end,
-                } => Declared::Whole {
-                    sets: count,
-                    variables,
-                    next: end,
-                },
             }
         }
     }
