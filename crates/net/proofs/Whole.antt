@@ -1,115 +1,143 @@
 -- The whole file: part after part, and the first and the last command. Assumes nothing.
-use mathlib.Core.Path.{_≡_, refl, sym, ap₂, _∙_}
+use mathlib.Core.Path.{_≡_, refl, sym, ap, ap₂, _∙_}
 use Prim.Native.Nat.{_≤_, _<_}
 use native.Mathlib.Omega.{arith}
 use borrow.Author.Tests.{lt-ltb, le-ltb, eq-eqb, ne-eqb}
 use lib.Seq.{length-take-le, getD-take}
-use Rattle.reading.specs.Basics.{ℕ, _+_, List, [], _∷_, length, getD, take, eqb, byteAt}
+use Rattle.reading.specs.Basics.{ℕ, _+_, List, [], _∷_, some, length, getD, take, eqb, byteAt}
 use Rattle.reading.proofs.Commands.{end, other, passes, done, fails, needed-past, needed-stray, needs-cut, needs-fails, needs-goes}
 use Rattle.reading.specs.Reading.{Answer, fine, fault, _andThen_, outcome, accepted, refused, _unless_, checked, command, needed, whole, file}
 use Rattle.net.specs.Net.{Place, single, Transition, Tokens, Net, net, variablesOf, bindingSpace}
-use Rattle.net.specs.Reader.{setPart, variablePart, placePart, transitionPart, tokensPart, content, readNet}
-use Rattle.net.specs.Told.{placeOf, declaring}
-use Rattle.net.specs.Tables.{placesOf, Started, over, TokensRead, TransitionsRead}
-use Rattle.net.specs.Held.{opened, closed, drawing, remaining, drawnOf, DrawnRead, ContentRead}
+use Rattle.net.specs.Reader.{setPart, variablePart, placePart, transitionPart, tokensPart, content, readNet, widthOf}
+use Rattle.net.specs.Told.{placeOf}
+use Rattle.net.specs.Tables.{placesOf, Started, over, TokensRead, TokensTold, TransitionsRead}
+use Rattle.net.specs.declared.Part.{Part}
+use Rattle.net.specs.declared.Part.the-variants as part
+use Rattle.net.specs.Held.{opened, closed, NetHolds}
 use Rattle.net.proofs.Shut.{commands}
 use Rattle.net.proofs.Answers.{checked-goes, checked-stops}
 use Rattle.net.proofs.Arcing.{place-at}
 
--- one reading after another, both ways round
-assoc : {A B C : Type 0} (x : Answer A) (f : A → ℕ → Answer B) (g : B → ℕ → Answer C) → (x andThen f) andThen g ≡ x andThen (λ a at. f a at andThen g)
-assoc (fine a at) f g = refl
-assoc (fault k p) f g = refl
+-- ---- part after part
+-- what the reading of a file comes down to: what is left of its content, and the last command
+abbrev pub Left : List ℕ → Answer Net → Type 0
+Left s x = readNet s ≡ outcome (x andThen closed s)
 
-split : {A B : Type 0} (x : Answer A) (f g : A → ℕ → Answer B) → ((a : A) (at : ℕ) → f a at ≡ g a at) → x andThen f ≡ x andThen g
-split (fine a at) f g h = h a at
-split (fault k p) f g h = refl
+-- what follows each part
+abbrev pub afterTransitions : List ℕ → List ℕ → List ℕ → List Place → List Transition → ℕ → Answer Net
+afterTransitions s sets variables places transitions at =
+    whole s (tokensPart s (net sets variables places transitions [])) [] at andThen λ tokens at. fine (net sets variables places transitions tokens) at
 
--- the content is what is drawn, and then what remains
-content-is : (s : List ℕ) (start : ℕ) → content s start ≡ drawing s start andThen remaining s
-content-is s start = sym (
-    assoc (declaring s start) (λ n at. whole s (placePart s n) [] at andThen λ places at. fine (net (n .sets) (n .variables) places [] []) at) (remaining s)
-    ∙ assoc (whole s (setPart s) [] start) _ _
-    ∙ split (whole s (setPart s) [] start) _ _ (λ sets at.
-    assoc (whole s (variablePart s (net sets [] [] [] [])) [] at) _ _
-    ∙ split (whole s (variablePart s (net sets [] [] [] [])) [] at) _ _ (λ variables at. assoc (whole s (placePart s (net sets variables [] [] [])) [] at) _ _)))
+abbrev pub afterPlaces : List ℕ → List ℕ → List ℕ → List Place → ℕ → Answer Net
+afterPlaces s sets variables places at = whole s (transitionPart s (net sets variables places [] [])) [] at andThen afterTransitions s sets variables places
 
--- ---- sets, variables and places
-started-over : {sets variables : List ℕ} {places : List Place} {starts : List ℕ} {count total : ℕ} → Started (net sets [] [] [] []) places starts count total
-    → Started (net sets variables places [] []) places starts count total
-started-over h = record { few = h .few; small = h .small; are = h .are; all = h .all; begin = h .begin }
+abbrev pub afterVariables : List ℕ → List ℕ → List ℕ → ℕ → Answer Net
+afterVariables s sets variables at = whole s (placePart s (net sets variables [] [] [])) [] at andThen afterPlaces s sets variables
 
-module _ (s : List ℕ) (start : ℕ) where
-  pub declared-stops : {k p : ℕ} → fault k p ≡ declaring s start → fault k p ≡ drawing s start
-  declared-stops e = rw (← e)
+abbrev pub afterSets : List ℕ → List ℕ → ℕ → Answer Net
+afterSets s sets at = whole s (variablePart s (net sets [] [] [] [])) [] at andThen afterVariables s sets
 
-  module _ (sizes vars : List ℕ) (sets variables : ℕ) {at : ℕ} (e : fine (net (take sets sizes) (take variables vars) [] [] []) at ≡ declaring s start) where
-    pub places-stop : {k p : ℕ} → fault k p ≡ whole s (placePart s (net (take sets sizes) (take variables vars) [] [] [])) [] at → fault k p ≡ drawing s start
-    places-stop f = rw (← e, ← f)
+-- a part that is whole hands its value and the next place on; a fault of it is the file's
+goes : {A : Type 0} (s : List ℕ) (f : A → ℕ → Answer Net) {x : Answer A} {a : A} {at : ℕ} → Left s (x andThen f) → fine a at ≡ x → Left s (f a at)
+goes s f l e = rw (← e) at l
 
-    pub draws : (firsts seconds starts : List ℕ) {places total next : ℕ} → (sets ≤ 16) × (variables ≤ 32)
-        → fine (placesOf (take places firsts) (take places seconds)) next ≡ whole s (placePart s (net (take sets sizes) (take variables vars) [] [] [])) [] at
-        → Started (net (take sets sizes) [] [] [] []) (placesOf (take places firsts) (take places seconds)) starts places total
-        → DrawnRead s start sizes vars firsts seconds starts sets variables places total next
-    draws firsts seconds starts few f g = record { read = rw (← e, ← f); few-sets = few .0; few-variables = few .1; started = started-over g }
+stops : {A : Type 0} (s : List ℕ) (f : A → ℕ → Answer Net) {x : Answer A} {k p : ℕ} → Left s (x andThen f) → fault k p ≡ x → readNet s ≡ refused k p
+stops s f l e = rw (← e) at l
 
--- ---- all parts
+module _ (s : List ℕ) (start : ℕ) (l : Left s (content s start)) where
+  pub sets-go : {sets : List ℕ} {at : ℕ} → fine sets at ≡ whole s (setPart s) [] start → Left s (afterSets s sets at)
+  sets-go e = goes s (afterSets s) l e
+
+  pub sets-stop : {k p : ℕ} → fault k p ≡ whole s (setPart s) [] start → readNet s ≡ refused k p
+  sets-stop e = stops s (afterSets s) l e
+
+module _ (s sets : List ℕ) (start : ℕ) (l : Left s (afterSets s sets start)) where
+  pub variables-go : {variables : List ℕ} {at : ℕ} → fine variables at ≡ whole s (variablePart s (net sets [] [] [] [])) [] start → Left s (afterVariables s sets variables at)
+  variables-go e = goes s (afterVariables s sets) l e
+
+  pub variables-stop : {k p : ℕ} → fault k p ≡ whole s (variablePart s (net sets [] [] [] [])) [] start → readNet s ≡ refused k p
+  variables-stop e = stops s (afterVariables s sets) l e
+
+module _ (s sets variables : List ℕ) (start : ℕ) (l : Left s (afterVariables s sets variables start)) where
+  pub places-go : {places : List Place} {at : ℕ} → fine places at ≡ whole s (placePart s (net sets variables [] [] [])) [] start → Left s (afterPlaces s sets variables places at)
+  places-go e = goes s (afterPlaces s sets variables) l e
+
+  pub places-stop : {k p : ℕ} → fault k p ≡ whole s (placePart s (net sets variables [] [] [])) [] start → readNet s ≡ refused k p
+  places-stop e = stops s (afterPlaces s sets variables) l e
+
+module _ (s sets variables : List ℕ) (places : List Place) (start : ℕ) (l : Left s (afterPlaces s sets variables places start)) where
+  pub transitions-go : {transitions : List Transition} {at : ℕ} → fine transitions at ≡ whole s (transitionPart s (net sets variables places [] [])) [] start
+      → Left s (afterTransitions s sets variables places transitions at)
+  transitions-go e = goes s (afterTransitions s sets variables places) l e
+
+  pub transitions-stop : {k p : ℕ} → fault k p ≡ whole s (transitionPart s (net sets variables places [] [])) [] start → readNet s ≡ refused k p
+  transitions-stop e = stops s (afterTransitions s sets variables places) l e
+
+module _ (s sets variables : List ℕ) (places : List Place) (transitions : List Transition) (start : ℕ) (l : Left s (afterTransitions s sets variables places transitions start)) where
+  pub tokens-go : {tokens : List Tokens} {at : ℕ} → fine tokens at ≡ whole s (tokensPart s (net sets variables places transitions [])) [] start
+      → Left s (fine (net sets variables places transitions tokens) at)
+  tokens-go e = goes s (λ tokens at. fine (net sets variables places transitions tokens) at) l e
+
+  pub tokens-stop : {k p : ℕ} → fault k p ≡ whole s (tokensPart s (net sets variables places transitions [])) [] start → readNet s ≡ refused k p
+  tokens-stop e = stops s (λ tokens at. fine (net sets variables places transitions tokens) at) l e
+
+-- ---- what the tables hold
 space-same : (sets variables : List ℕ) (places : List Place) (ts : List Transition) (tokens : List Tokens)
     → bindingSpace (net sets variables places ts tokens) ts ≡ bindingSpace (net sets variables places [] []) ts
 unfolding variablesOf
 space-same sets variables places ts tokens = refl
 
-tokens-over : {sets variables : List ℕ} {places : List Place} {ts : List Transition} {starts : List ℕ} {count total : ℕ} (tokens : List Tokens)
-    → Started (net sets variables places [] []) places starts count total → Started (net sets variables places ts tokens) places starts count total
-tokens-over tokens h = record { few = h .few; small = h .small; are = h .are; all = h .all; begin = h .begin }
+-- where places begin goes by the sets alone
+pub started-over : {sets variables : List ℕ} {places : List Place} {ts : List Transition} {tokens : List Tokens} {starts : List ℕ} {count total : ℕ}
+    → Started (net sets [] [] [] []) places starts count total → Started (net sets variables places ts tokens) places starts count total
+started-over h = record { few = h .few; small = h .small; are = h .are; all = h .all; begin = h .begin }
 
-module _ (s : List ℕ) (start : ℕ) where
-  pub drawn-stops : {k p : ℕ} → fault k p ≡ drawing s start → fault k p ≡ content s start
-  drawn-stops e = rw (content-is s start, ← e)
+-- what is told of tokens that were read
+pub tokens-by : (s : List ℕ) (n : Net) (start : ℕ) (starts initial : List ℕ) {r : Part} {count total next : ℕ} → r ≡ part.Whole count total next
+    → TokensTold s n start starts initial r → TokensRead s n start starts initial next
+tokens-by s n start starts initial e h = rw e at h
 
-  module _ (sizes vars firsts seconds starts : List ℕ) {sets variables places total at : ℕ} (d : DrawnRead s start sizes vars firsts seconds starts sets variables places total at) where
-    pub transitions-stop : {k p : ℕ} → fault k p ≡ whole s (transitionPart s (drawnOf sizes vars firsts seconds sets variables places)) [] at → fault k p ≡ content s start
-    transitions-stop e = rw (content-is s start, ← d .read, ← e)
+module _ (s sizes vars firsts seconds starts : List ℕ) {sets variables places total : ℕ} (few-sets : sets ≤ 16) (few-variables : variables ≤ 32)
+    (first-sized : length firsts ≡ 32) (second-sized : length seconds ≡ 32)
+    (started : Started (net (take sets sizes) [] [] [] []) (placesOf (take places firsts) (take places seconds)) starts places total) where
+  place-by : (p : ℕ) → p < places → placeOf (getD firsts p 0) (getD seconds p 0) ≡ getD (placesOf (take places firsts) (take places seconds)) p (single 0)
+  place-by p lt =
+      let a = length-take-le places firsts (omega (arith, started .few)) in let b = length-take-le places seconds (omega (arith, started .few)) in
+      ap₂ placeOf (sym (getD-take places firsts p 0 lt)) (sym (getD-take places seconds p 0 lt)) ∙ sym (place-at (take places firsts) (take places seconds) p (omega arith) (omega arith))
 
-    module _ (uses guards arcs : List ℕ) {count space more : ℕ} (t : TransitionsRead s (drawnOf sizes vars firsts seconds sets variables places) at uses guards arcs count space more) where
-      -- the net that tokens are read over
-      abbrev pub before-tokens : Net
-      before-tokens = net (take sets sizes) (take variables vars) (placesOf (take places firsts) (take places seconds)) (t .transitions) []
+  module _ (uses guards arcs : List ℕ) {at count space more : ℕ} (t : TransitionsRead s (over (take sets sizes) (take variables vars) (take places firsts) (take places seconds)) at uses guards arcs count space more) where
+    -- the net that tokens are read over
+    abbrev pub before-tokens : Net
+    before-tokens = net (take sets sizes) (take variables vars) (placesOf (take places firsts) (take places seconds)) (t .transitions) []
 
-      pub before-started : Started before-tokens (before-tokens .places) starts places total
-      before-started = tokens-over [] (d .started)
-
-      pub tokens-stop : {k p : ℕ} → fault k p ≡ whole s (tokensPart s before-tokens) [] more → fault k p ≡ content s start
-      tokens-stop e = rw (content-is s start, ← d .read, ← t .read, ← e)
-
-      pub contains : (initial : List ℕ) {end : ℕ} → length firsts ≡ 32 → length seconds ≡ 32 → TokensRead s before-tokens more starts initial end
-          → ContentRead s start sizes vars firsts seconds starts uses guards arcs initial sets variables places total count space end
-      contains initial {end} first-sized second-sized k = record {
-        value = net (take sets sizes) (take variables vars) (placesOf (take places firsts) (take places seconds)) (t .transitions) (k .tokens);
-        read = rw (content-is s start, ← d .read, ← t .read, ← k .read);
-        holds = record {
-          few-sets = d .few-sets;
-          few-variables = d .few-variables;
-          few-transitions = t .few;
-          sets-are = refl;
-          variables-are = refl;
-          places-are = refl;
-          place-is = place-by;
-          started = tokens-over (k .tokens) (d .started);
-          transitions-are = t .are;
-          wide = space-same (take sets sizes) (take variables vars) (placesOf (take places firsts) (take places seconds)) (t .transitions) (k .tokens) ∙ t .wide;
-          bounded = t .bounded;
-          holds = t .holds;
-          counts = k .holds;
-        };
-      }
-        where
-          place-by : (p : ℕ) → p < places → placeOf (getD firsts p 0) (getD seconds p 0) ≡ getD (placesOf (take places firsts) (take places seconds)) p (single 0)
-          place-by p lt =
-              let a = length-take-le places firsts (omega (arith, d .started .few)) in let b = length-take-le places seconds (omega (arith, d .started .few)) in
-              ap₂ placeOf (sym (getD-take places firsts p 0 lt)) (sym (getD-take places seconds p 0 lt)) ∙ sym (place-at (take places firsts) (take places seconds) p (omega arith) (omega arith))
+    pub tables : (initial : List ℕ) {end : ℕ} (k : TokensRead s before-tokens more starts initial end)
+        → NetHolds s (net (take sets sizes) (take variables vars) (placesOf (take places firsts) (take places seconds)) (t .transitions) (k .tokens))
+        sizes vars firsts seconds starts uses guards arcs initial sets variables places total count space
+    tables initial k = record {
+      few-sets = few-sets;
+      few-variables = few-variables;
+      few-transitions = t .few;
+      sets-are = refl;
+      variables-are = refl;
+      places-are = refl;
+      place-is = place-by;
+      started = started-over started;
+      transitions-are = t .are;
+      wide = space-same (take sets sizes) (take variables vars) (placesOf (take places firsts) (take places seconds)) (t .transitions) (k .tokens) ∙ t .wide;
+      bounded = t .bounded;
+      holds = t .holds;
+      counts = k .holds;
+    }
 
 -- ---- the first and the last command
+pub open-width : (s : List ℕ) → byteAt s 0 ≡ 0x01 → widthOf (byteAt s 0) ≡ some 1
+unfolding commands
+open-width s e = ap widthOf e
+
+pub close-width : (s : List ℕ) (at : ℕ) → byteAt s at ≡ 0x1F → widthOf (byteAt s at) ≡ some 0
+unfolding commands
+close-width s at e = ap widthOf e
+
 module _ (s : List ℕ) (read : ℕ → Answer Net) where
   pub open-past : length s ≤ 0 → opened s read ≡ fault 2 (length s)
   unfolding commands
@@ -167,16 +195,15 @@ module _ (s : List ℕ) where
     pub opening-stops : {k p : ℕ} → opened s (content s) ≡ fault k p → readNet s ≡ refused k p
     opening-stops e = net-by ∙ rw e
 
-    module _ (start : ℕ) (o : opened s (content s) ≡ content s start) where
-      pub content-stops : {k p : ℕ} → fault k p ≡ content s start → readNet s ≡ refused k p
-      content-stops e = net-by ∙ rw (o, ← e)
+    pub opening-goes : (start : ℕ) → opened s (content s) ≡ content s start → Left s (content s start)
+    opening-goes start e = net-by ∙ rw e
 
-      module _ (n : Net) {at : ℕ} (r : fine n at ≡ content s start) where
-        pub closing-stops : {k p : ℕ} → closed s n at ≡ fault k p → readNet s ≡ refused k p
-        closing-stops e = net-by ∙ rw (o, ← r, e)
+  module _ (n : Net) (at : ℕ) (l : Left s (fine n at)) where
+    pub closing-stops : {k p : ℕ} → closed s n at ≡ fault k p → readNet s ≡ refused k p
+    closing-stops e = l ∙ rw e
 
-        pub net-read : {next : ℕ} → closed s n at ≡ fine n next → readNet s ≡ accepted n
-        net-read e = net-by ∙ rw (o, ← r, e)
+    pub net-read : {next : ℕ} → closed s n at ≡ fine n next → readNet s ≡ accepted n
+    net-read e = l ∙ rw e
 
 -- the front of a table has as many as were taken
 pub front-sized : (k : ℕ) (l : List ℕ) (n : ℕ) → k ≤ n → length l ≡ n → length (take k l) ≡ k

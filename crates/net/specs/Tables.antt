@@ -6,31 +6,20 @@ use Rattle.reading.specs.Reading.{Answer, fine, fault, _andThen_, whole}
 use Rattle.net.specs.Net.{Guard, always, Expression, Place, Arc, Transition, Tokens, Net, net, coloursOf, placeAt, arcOn, tokensOn, inGuard, inExpression, variablesOf, bindingSpace}
 use Rattle.net.specs.Reader.{readGuard, readGuardIf, readExpression, arcPart, ended, transitionPart, tokensPart}
 use Rattle.net.specs.Told.{bits, placeOf}
-use Rattle.net.specs.declared.Declared.{Declared}
-use Rattle.net.specs.declared.Declared.the-variants as declared
 use Rattle.net.specs.declared.PlaceStep.{PlaceStep}
 use Rattle.net.specs.declared.PlaceStep.the-variants as place-step
-use Rattle.net.specs.declared.place.Placed.{Placed}
-use Rattle.net.specs.declared.place.Placed.the-variants as placed
+use Rattle.net.specs.declared.Part.{Part}
+use Rattle.net.specs.declared.Part.the-variants as part
 use Rattle.net.specs.declared.arc.ArcStep.{ArcStep}
 use Rattle.net.specs.declared.arc.ArcStep.the-variants as arc-step
 use Rattle.net.specs.declared.arc.Gathered.{Gathered}
 use Rattle.net.specs.declared.arc.Gathered.the-variants as gathered
 use Rattle.net.specs.declared.token.TokenStep.{TokenStep}
 use Rattle.net.specs.declared.token.TokenStep.the-variants as token-step
-use Rattle.net.specs.declared.token.Ended.{Ended}
-use Rattle.net.specs.declared.token.Ended.the-variants as token-end
 use Rattle.net.specs.declared.transition.Closed.{Closed}
 use Rattle.net.specs.declared.transition.Closed.the-variants as closed
 use Rattle.net.specs.declared.transition.TransitionStep.{TransitionStep}
 use Rattle.net.specs.declared.transition.TransitionStep.the-variants as transition-step
-use Rattle.net.specs.declared.transitions.Passed.{Passed}
-use Rattle.net.specs.declared.transitions.Passed.the-variants as passed
-
--- ---- sets and variables
-abbrev pub FewDeclared : Declared → Type 0
-FewDeclared (declared.Whole sets variables next) = (sets ≤ 16) × (variables ≤ 32)
-FewDeclared (declared.Fault number place) = Unit {0}
 
 -- ---- places
 -- the places of two lists of sets, first and second
@@ -53,9 +42,9 @@ PlaceRoom sets len count total at (place-step.Two first second more next) =
 PlaceRoom sets len count total at (place-step.Stop number place) = at < len
 
 -- the places are the fronts of the two lent lists
-abbrev pub placesRead : List ℕ → List ℕ → Placed → Answer (List Place)
-placesRead firsts seconds (placed.Whole count total next) = fine (placesOf (take count firsts) (take count seconds)) next
-placesRead firsts seconds (placed.Fault number place) = fault number place
+abbrev pub placesRead : List ℕ → List ℕ → Part → Answer (List Place)
+placesRead firsts seconds (part.Whole count total next) = fine (placesOf (take count firsts) (take count seconds)) next
+placesRead firsts seconds (part.Fault number place) = fault number place
 
 -- so many places, with so many colours together; where the flat places of each begin, and after the last their number
 pub record Started (n : Net) (places : List Place) (starts : List ℕ) (count total : ℕ) : Type 0 where
@@ -65,10 +54,10 @@ pub record Started (n : Net) (places : List Place) (starts : List ℕ) (count to
   pub all : sum (map (coloursOf n) places) ≡ total
   pub begin : (p : ℕ) → p ≤ count → getD starts p 0 ≡ startOf n places p
 
-abbrev pub PlacesHeld : List ℕ → List ℕ → List ℕ → List ℕ → Placed → Type 0
-PlacesHeld sets firsts seconds starts (placed.Whole count total next) =
+abbrev pub PlacesHeld : List ℕ → List ℕ → List ℕ → List ℕ → Part → Type 0
+PlacesHeld sets firsts seconds starts (part.Whole count total next) =
     Started (net sets [] [] [] []) (placesOf (take count firsts) (take count seconds)) starts count total
-PlacesHeld sets firsts seconds starts (placed.Fault number place) = Unit {0}
+PlacesHeld sets firsts seconds starts (part.Fault number place) = Unit {0}
 
 -- ---- tokens
 -- each place's flat places begin no later than the next one's, and none past the total
@@ -113,9 +102,9 @@ pub record TokensRead (s : List ℕ) (n : Net) (start : ℕ) (starts initial : L
   pub read : fine tokens next ≡ whole s (tokensPart s n) [] start
   pub holds : Holds n tokens countOf starts initial
 
-abbrev pub TokensTold : List ℕ → Net → ℕ → List ℕ → List ℕ → Ended → Type 0
-TokensTold s n start starts initial (token-end.Whole next) = TokensRead s n start starts initial next
-TokensTold s n start starts initial (token-end.Fault number place) = fault number place ≡ whole s (tokensPart s n) [] start
+abbrev pub TokensTold : List ℕ → Net → ℕ → List ℕ → List ℕ → Part → Type 0
+TokensTold s n start starts initial (part.Whole count total next) = TokensRead s n start starts initial next
+TokensTold s n start starts initial (part.Fault number place) = fault number place ≡ whole s (tokensPart s n) [] start
 
 -- ---- arcs
 -- what stands at a place of the file, by a reading
@@ -265,6 +254,6 @@ pub record TransitionsRead (s : List ℕ) (n : Net) (start : ℕ) (uses guards a
   pub bounded : space ≤ 65536
   pub holds : TransitionsHold s n transitions uses guards arcs
 
-abbrev pub TransitionsTold : List ℕ → Net → ℕ → List ℕ → List ℕ → List ℕ → Passed → Type 0
-TransitionsTold s n start uses guards arcs (passed.Whole count space next) = TransitionsRead s n start uses guards arcs count space next
-TransitionsTold s n start uses guards arcs (passed.Fault number place) = fault number place ≡ whole s (transitionPart s n) [] start
+abbrev pub TransitionsTold : List ℕ → Net → ℕ → List ℕ → List ℕ → List ℕ → Part → Type 0
+TransitionsTold s n start uses guards arcs (part.Whole count space next) = TransitionsRead s n start uses guards arcs count space next
+TransitionsTold s n start uses guards arcs (part.Fault number place) = fault number place ≡ whole s (transitionPart s n) [] start

@@ -2,19 +2,16 @@
 use mathlib.Core.Path.{_≡_}
 use Prim.Native.Nat.{_^_, _<_, _≤_}
 use Rattle.reading.specs.Basics.{ℕ, zero, suc, _+_, Bool, List, [], _∷_, Option, none, some, length, take, eqb, if_then_else_, with}
-use Rattle.reading.specs.Reading.{Answer, fine, fault, _andThen_, whole}
-use Rattle.net.specs.Reader.{setPart, variablePart}
-use Rattle.net.specs.declared.Declared.{Declared}
-use Rattle.net.specs.declared.Declared.the-variants as declared
-use Rattle.net.specs.Net.{Colour, Guard, Expression, Net, net, Place, single, pair, setOf, ceiling, inColour, inGuard, inExpression}
+use Rattle.reading.specs.Reading.{Answer, fine, fault}
+use Rattle.net.specs.Net.{Colour, Guard, Expression, Net, Place, single, pair, setOf, ceiling, inColour, inGuard, inExpression}
 use Rattle.net.specs.declared.Read.{Read}
 use Rattle.net.specs.declared.Read.the-variants as read
 use Rattle.net.specs.declared.SetStep.{SetStep}
 use Rattle.net.specs.declared.SetStep.the-variants.{Done, More, Stop}
 use Rattle.net.specs.declared.PlaceStep.{PlaceStep}
 use Rattle.net.specs.declared.PlaceStep.the-variants as place-step
-use Rattle.net.specs.declared.Counted.{Counted}
-use Rattle.net.specs.declared.Counted.the-variants as counted
+use Rattle.net.specs.declared.Part.{Part}
+use Rattle.net.specs.declared.Part.the-variants as part
 
 -- the numbers below n that pass a test, a bit for each
 unfoldable pub bits : (ℕ → Bool) → ℕ → ℕ
@@ -57,24 +54,19 @@ abbrev pub Room : ℕ → ℕ → ℕ → SetStep → Type 0
 Room len count at r = RoomFor 16 len count at r
 
 -- the sets are the front of the lent list
-abbrev pub setsRead : List ℕ → Counted → Answer (List ℕ)
-setsRead sizes (counted.Whole count next) = fine (take count sizes) next
-setsRead sizes (counted.Fault number place) = fault number place
+abbrev pub setsRead : List ℕ → Part → Answer (List ℕ)
+setsRead sizes (part.Whole count total next) = fine (take count sizes) next
+setsRead sizes (part.Fault number place) = fault number place
 
-abbrev pub Few : ℕ → Counted → Type 0
-Few limit (counted.Whole count next) = count ≤ limit
-Few limit (counted.Fault number place) = Unit {0}
+-- at most so many, with nothing to add up
+abbrev pub Few : ℕ → Part → Type 0
+Few limit (part.Whole count total next) = (count ≤ limit) × (total ≡ 0)
+Few limit (part.Fault number place) = Unit {0}
 
--- sets and variables, with nothing after them yet
-abbrev pub declaring : List ℕ → ℕ → Answer Net
-declaring s start =
-    whole s (setPart s) [] start andThen λ sets at.
-    whole s (variablePart s (net sets [] [] [] [])) [] at andThen λ variables at.
-    fine (net sets variables [] [] []) at
-
-abbrev pub declaredRead : List ℕ → List ℕ → Declared → Answer Net
-declaredRead sizes vars (declared.Whole sets variables next) = fine (net (take sets sizes) (take variables vars) [] [] []) next
-declaredRead sizes vars (declared.Fault number place) = fault number place
+-- nothing to count, and nothing to add up
+abbrev pub Bare : Part → Type 0
+Bare (part.Whole count total next) = (count ≡ 0) × (total ≡ 0)
+Bare (part.Fault number place) = Unit {0}
 
 -- a step of the place part
 abbrev pub placeStep : List Place → PlaceStep → Option (Answer (List Place))

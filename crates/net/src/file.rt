@@ -1,11 +1,10 @@
 // The whole net file, part after part, into lent tables.
-use crate::Declared;
-use crate::place::Placed;
+use crate::Part;
 use crate::place::read_places;
-use crate::read_declared;
-use crate::token::Ended;
+use crate::read_sets;
+use crate::read_variables;
+use crate::table::after;
 use crate::token::read_tokens;
-use crate::transitions::Passed;
 use crate::transitions::read_transitions;
 ghost use mathlib.Core.Path.{_≡_};
 ghost use mathlib.Core.List.{List, []};
@@ -13,205 +12,62 @@ ghost use Prim.Native.Nat.{ℕ, _≤_};
 ghost use lib.ListN.{length};
 ghost use Rattle.reading.specs.Reading.{Answer};
 ghost use Rattle.net.specs.Net.{Net};
-ghost use Rattle.net.specs.Held.{opened, openTold, closed, closeTold, DrawnTold, ContentTold, NetTold};
+ghost use Rattle.net.specs.declared.Part.the-variants as part;
+ghost use Rattle.net.specs.Told.{Bare};
+ghost use Rattle.net.specs.Held.{opened, openTold, closed, closeTold, refusal, NetTold};
+
+// A part that ends at a fault.
+fn stopped(number: u8, place: usize) -> Part
+    ensures { λ r. ⌜ r ≡ part.Fault number place ⌝ }
+{
+    Part::Fault { number, place }
+}
 
 // The first command: 0x01 and edition 1.
-fn read_opening(s: &[u8]) -> Ended
-    ensures { λ r. ⌜ ((content : ℕ → Answer Net) → opened (now (s .entry)) content ≡ openTold content r) ⌝ }
+fn read_opening(s: &[u8]) -> Part
+    ensures bare { λ r. ⌜ Bare r ⌝ }
+    ensures told { λ r. ⌜ ((content : ℕ → Answer Net) → opened (now (s .entry)) content ≡ openTold content r) ⌝ }
 {
     if s.len() < 1 {
-        return Ended::Fault {
-            number: 2,
-            place: s.len(),
-        };
+        return stopped(2, s.len());
     }
     if s[0] == 0x01 {
-        if s.len() < 2 {
-            return Ended::Fault {
-                number: 2,
-                place: s.len(),
-            };
+        let next = after(s, 0);
+        if s.len() < next {
+            return stopped(2, s.len());
         }
         if s[1] == 1 {
-            return Ended::Whole { next: 2 };
+            return Part::Whole {
+                count: 0,
+                total: 0,
+                next,
+            };
         }
-        return Ended::Fault {
-            number: 5,
-            place: 0,
-        };
+        return stopped(5, 0);
     }
-    Ended::Fault {
-        number: 3,
-        place: 0,
-    }
+    stopped(3, 0)
 }
 
 // The last command: 0x1F, and nothing after it.
-fn read_closing(s: &[u8], at: usize) -> Ended
-    ensures { λ r. ⌜ ((n : Net) → closed (now (s .entry)) n at ≡ closeTold n r) ⌝ }
+fn read_closing(s: &[u8], at: usize) -> Part
+    ensures bare { λ r. ⌜ Bare r ⌝ }
+    ensures told { λ r. ⌜ ((n : Net) → closed (now (s .entry)) n at ≡ closeTold n r) ⌝ }
 {
     if s.len() <= at {
-        return Ended::Fault {
-            number: 2,
-            place: s.len(),
-        };
+        return stopped(2, s.len());
     }
     if s[at] == 0x1F {
-        if at + 1 < s.len() {
-            return Ended::Fault {
-                number: 15,
-                place: at + 1,
-            };
+        let next = after(s, at);
+        if next < s.len() {
+            return stopped(15, next);
         }
-        return Ended::Whole { next: at + 1 };
-    }
-    Ended::Fault {
-        number: 3,
-        place: at,
-    }
-}
-
-// How many sets, variables and places were read, the colours of the places together, and the place after them; or the first fault.
-pub enum Drawn {
-    Whole {
-        sets: usize,
-        variables: usize,
-        places: usize,
-        total: usize,
-        next: usize,
-    },
-    Fault {
-        number: u8,
-        place: usize,
-    },
-}
-
-// The first three parts.
-pub fn read_drawn(
-    s: &[u8],
-    sizes: &mut [u8],
-    vars: &mut [u8],
-    firsts: &mut [u8],
-    seconds: &mut [u8],
-    starts: &mut [usize],
-    start: usize,
-) -> Drawn
-    requires { ⌜ length (now sizes) ≡ 16 ⌝ }
-    requires { ⌜ length (now vars) ≡ 32 ⌝ }
-    requires { ⌜ length (now firsts) ≡ 32 ⌝ }
-    requires { ⌜ length (now seconds) ≡ 32 ⌝ }
-    requires { ⌜ length (now starts) ≡ 33 ⌝ }
-    ensures { λ r. ⌜ DrawnTold (now (s .entry)) start (now (sizes .exit)) (now (vars .exit)) (now (firsts .exit)) (now (seconds .exit)) (now (starts .exit)) r ⌝ }
-{
-    match read_declared(s, sizes, vars, start) {
-        Declared::Fault { number, place } => Drawn::Fault { number, place },
-        Declared::Whole {
-            sets,
-            variables,
+        return Part::Whole {
+            count: 0,
+            total: 0,
             next,
-        } => match read_places(s, &sizes[..sets], firsts, seconds, starts, next) {
-            Placed::Fault { number, place } => Drawn::Fault { number, place },
-            Placed::Whole {
-                count,
-                total,
-                next: end,
-            } => Drawn::Whole {
-                sets,
-                variables,
-                places: count,
-                total,
-                next: end,
-            },
-        },
+        };
     }
-}
-
-// The counts of all parts, the binding space, and the place after the parts; or the first fault.
-pub enum Content {
-    Whole {
-        sets: usize,
-        variables: usize,
-        places: usize,
-        total: usize,
-        transitions: usize,
-        space: usize,
-        next: usize,
-    },
-    Fault {
-        number: u8,
-        place: usize,
-    },
-}
-
-// All parts; named is for the reading alone.
-pub fn read_content(
-    s: &[u8],
-    sizes: &mut [u8],
-    vars: &mut [u8],
-    firsts: &mut [u8],
-    seconds: &mut [u8],
-    starts: &mut [usize],
-    uses: &mut [u32],
-    guards: &mut [u16],
-    arcs: &mut [u16],
-    initial: &mut [u16],
-    named: &mut [u8],
-    start: usize,
-) -> Content
-    requires { ⌜ length (now s) ≤ 16384 ⌝ }
-    requires { ⌜ length (now sizes) ≡ 16 ⌝ }
-    requires { ⌜ length (now vars) ≡ 32 ⌝ }
-    requires { ⌜ length (now firsts) ≡ 32 ⌝ }
-    requires { ⌜ length (now seconds) ≡ 32 ⌝ }
-    requires { ⌜ length (now starts) ≡ 33 ⌝ }
-    requires { ⌜ length (now uses) ≡ 32 ⌝ }
-    requires { ⌜ length (now guards) ≡ 32 ⌝ }
-    requires { ⌜ length (now arcs) ≡ 3072 ⌝ }
-    requires { ⌜ length (now initial) ≡ 4096 ⌝ }
-    requires { ⌜ length (now named) ≡ 4096 ⌝ }
-    ensures { λ r. ⌜ ContentTold (now (s .entry)) start (now (sizes .exit)) (now (vars .exit)) (now (firsts .exit)) (now (seconds .exit)) (now (starts .exit))
-        (now (uses .exit)) (now (guards .exit)) (now (arcs .exit)) (now (initial .exit)) r ⌝ }
-{
-    match read_drawn(s, sizes, vars, firsts, seconds, starts, start) {
-        Drawn::Fault { number, place } => Content::Fault { number, place },
-        Drawn::Whole {
-            sets,
-            variables,
-            places,
-            total,
-            next,
-        } => {
-            match read_transitions(
-                s,
-                &sizes[..sets],
-                &vars[..variables],
-                &firsts[..places],
-                &seconds[..places],
-                uses,
-                guards,
-                arcs,
-                next,
-            ) {
-                Passed::Fault { number, place } => Content::Fault { number, place },
-                Passed::Whole {
-                    count,
-                    space,
-                    next: more,
-                } => match read_tokens(s, starts, places, total, initial, named, more) {
-                    Ended::Fault { number, place } => Content::Fault { number, place },
-                    Ended::Whole { next: end } => Content::Whole {
-                        sets,
-                        variables,
-                        places,
-                        total,
-                        transitions: count,
-                        space,
-                        next: end,
-                    },
-                },
-            }
-        }
-    }
+    stopped(3, at)
 }
 
 // A net file that was read: its counts, its flat places and its binding space; or the refusal.
@@ -228,6 +84,23 @@ pub enum NetRead {
         number: u8,
         place: usize,
     },
+}
+
+// The refusal at a part's fault.
+fn refused(part: Part) -> NetRead
+    ensures { λ r. ⌜ r ≡ refusal part ⌝ }
+{
+    match part {
+        Part::Whole {
+            count: _,
+            total: _,
+            next,
+        } => NetRead::Refused {
+            number: 0,
+            place: next,
+        },
+        Part::Fault { number, place } => NetRead::Refused { number, place },
+    }
 }
 
 // The whole net file: what it holds goes into the lent tables; named is for the reading alone.
@@ -263,44 +136,85 @@ pub fn read_net(
             place: 16384,
         };
     }
-    match read_opening(s) {
-        Ended::Fault { number, place } => NetRead::Refused { number, place },
-        Ended::Whole { next } => {
-            match read_content(
-                s,
-                sizes,
-                vars,
-                firsts,
-                seconds,
-                starts,
-                uses,
-                guards,
-                arcs,
-                initial,
-                named,
-                next,
-            ) {
-                Content::Fault { number, place } => NetRead::Refused { number, place },
-                Content::Whole {
-                    sets,
-                    variables,
-                    places,
-                    total,
-                    transitions,
-                    space,
-                    next: end,
-                } => match read_closing(s, end) {
-                    Ended::Fault { number, place } => NetRead::Refused { number, place },
-                    Ended::Whole { next: _ } => NetRead::Whole {
-                        sets,
-                        variables,
-                        places,
-                        total,
-                        transitions,
-                        space,
-                    },
-                },
-            }
-        }
+    let part = read_opening(s);
+    let Part::Whole {
+        count: _,
+        total: _,
+        next,
+    } = part
+    else {
+        return refused(part);
+    };
+    let part = read_sets(s, sizes, next);
+    let Part::Whole {
+        count: sets,
+        total: _,
+        next,
+    } = part
+    else {
+        return refused(part);
+    };
+    let part = read_variables(s, &sizes[..sets], vars, next);
+    let Part::Whole {
+        count: variables,
+        total: _,
+        next,
+    } = part
+    else {
+        return refused(part);
+    };
+    let part = read_places(s, &sizes[..sets], firsts, seconds, starts, next);
+    let Part::Whole {
+        count: places,
+        total,
+        next,
+    } = part
+    else {
+        return refused(part);
+    };
+    let part = read_transitions(
+        s,
+        &sizes[..sets],
+        &vars[..variables],
+        &firsts[..places],
+        &seconds[..places],
+        uses,
+        guards,
+        arcs,
+        next,
+    );
+    let Part::Whole {
+        count: transitions,
+        total: space,
+        next,
+    } = part
+    else {
+        return refused(part);
+    };
+    let part = read_tokens(s, starts, places, total, initial, named, next);
+    let Part::Whole {
+        count: _,
+        total: _,
+        next,
+    } = part
+    else {
+        return refused(part);
+    };
+    let part = read_closing(s, next);
+    let Part::Whole {
+        count: _,
+        total: _,
+        next: _,
+    } = part
+    else {
+        return refused(part);
+    };
+    NetRead::Whole {
+        sets,
+        variables,
+        places,
+        total,
+        transitions,
+        space,
     }
 }

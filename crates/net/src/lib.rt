@@ -41,8 +41,8 @@ ghost use Rattle.reading.specs.Basics.{sum};
 ghost use Rattle.reading.specs.Reading.{whole};
 ghost use Rattle.net.specs.Net.{net, Place, coloursOf, equal, less};
 ghost use Rattle.net.specs.Reader.{readColour, readGuard, readGuardIf, comparison, setPart, variablePart, placePart};
-ghost use Rattle.net.specs.Told.{colourTold, guardTold, setStep, setsRead, Room, RoomFor, declaredRead, declaring, Few, placeStep};
-ghost use Rattle.net.specs.Tables.{PlaceRoom, FewDeclared};
+ghost use Rattle.net.specs.Told.{colourTold, guardTold, setStep, setsRead, Room, RoomFor, Few, placeStep};
+ghost use Rattle.net.specs.Tables.{PlaceRoom};
 
 // A whole expression: the place after it, its set and its variables; or the first fault.
 pub enum Read {
@@ -355,14 +355,21 @@ fn set_at(s: &[u8], count: usize, at: usize) -> SetStep
     SetStep::Done
 }
 
-// How many sets were read, and the place after them; or the first fault.
-pub enum Counted {
-    Whole { count: usize, next: usize },
-    Fault { number: u8, place: usize },
+// A part of the file that was read: how many things it has, what they come to together, and the place after it; or the first fault.
+pub enum Part {
+    Whole {
+        count: usize,
+        total: usize,
+        next: usize,
+    },
+    Fault {
+        number: u8,
+        place: usize,
+    },
 }
 
 // The set part: the sizes go into the front of a lent list of 16.
-pub fn read_sets(s: &[u8], sizes: &mut [u8], start: usize) -> Counted
+pub fn read_sets(s: &[u8], sizes: &mut [u8], start: usize) -> Part
     requires { ⌜ length (now sizes) ≡ 16 ⌝ }
     ensures few { λ r. ⌜ Few 16 r ⌝ }
     ensures is { λ r. ⌜ setsRead (now (sizes .exit)) r ≡ whole (now (s .entry)) (setPart (now (s .entry))) [] start ⌝ }
@@ -372,10 +379,14 @@ pub fn read_sets(s: &[u8], sizes: &mut [u8], start: usize) -> Counted
     loop {
         match set_at(s, count, at) {
             SetStep::Done => {
-                return Counted::Whole { count, next: at };
+                return Part::Whole {
+                    count,
+                    total: 0,
+                    next: at,
+                };
             }
             SetStep::Stop { number, place } => {
-                return Counted::Fault { number, place };
+                return Part::Fault { number, place };
             }
             SetStep::More { size, next } => {
                 sizes[count] = size;
@@ -424,7 +435,7 @@ fn variable_at(s: &[u8], sets: &[u8], count: usize, at: usize) -> SetStep
 }
 
 // The variable part: each variable's set goes into the front of a lent list of 32.
-pub fn read_variables(s: &[u8], sets: &[u8], vars: &mut [u8], start: usize) -> Counted
+pub fn read_variables(s: &[u8], sets: &[u8], vars: &mut [u8], start: usize) -> Part
     requires { ⌜ length (now vars) ≡ 32 ⌝ }
     ensures few { λ r. ⌜ Few 32 r ⌝ }
     ensures is { λ r. ⌜ setsRead (now (vars .exit)) r ≡ whole (now (s .entry)) (variablePart (now (s .entry)) (net (now (sets .entry)) [] [] [] [])) [] start ⌝ }
@@ -434,53 +445,19 @@ pub fn read_variables(s: &[u8], sets: &[u8], vars: &mut [u8], start: usize) -> C
     loop {
         match variable_at(s, sets, count, at) {
             SetStep::Done => {
-                return Counted::Whole { count, next: at };
+                return Part::Whole {
+                    count,
+                    total: 0,
+                    next: at,
+                };
             }
             SetStep::Stop { number, place } => {
-                return Counted::Fault { number, place };
+                return Part::Fault { number, place };
             }
             SetStep::More { size, next } => {
                 vars[count] = size;
                 count += 1;
                 at = next;
-            }
-        }
-    }
-}
-
-// How many sets and variables were read, and the place after them; or the first fault.
-pub enum Declared {
-    Whole {
-        sets: usize,
-        variables: usize,
-        next: usize,
-    },
-    Fault {
-        number: u8,
-        place: usize,
-    },
-}
-
-// The first two parts.
-pub fn read_declared(s: &[u8], sizes: &mut [u8], vars: &mut [u8], start: usize) -> Declared
-    requires { ⌜ length (now sizes) ≡ 16 ⌝ }
-    requires { ⌜ length (now vars) ≡ 32 ⌝ }
-    ensures few { λ r. ⌜ FewDeclared r ⌝ }
-    ensures is { λ r. ⌜ declaredRead (now (sizes .exit)) (now (vars .exit)) r ≡ declaring (now (s .entry)) start ⌝ }
-{
-    match read_sets(s, sizes, start) {
-        Counted::Fault { number, place } => Declared::Fault { number, place },
-        Counted::Whole { count, next } => {
-            match read_variables(s, &sizes[..count], vars, next) {
-                Counted::Fault { number, place } => Declared::Fault { number, place },
-                Counted::Whole {
-                    count: variables,
-                    next: end,
-                } => Declared::Whole {
-                    sets: count,
-                    variables,
-                    next: end,
-                },
             }
         }
     }

@@ -1,4 +1,5 @@
 // The place part: each place's sets and its first flat place go into lent tables.
+use crate::Part;
 use crate::PlaceStep;
 use crate::place_at;
 ghost use mathlib.Core.Path.{_≡_};
@@ -10,20 +11,7 @@ ghost use Rattle.net.specs.Net.{net};
 ghost use Rattle.net.specs.Reader.{placePart};
 ghost use Rattle.net.specs.Tables.{placesRead, PlacesHeld};
 
-// How many places were read, their colours together, and the place after them; or the first fault.
-pub enum Placed {
-    Whole {
-        count: usize,
-        total: usize,
-        next: usize,
-    },
-    Fault {
-        number: u8,
-        place: usize,
-    },
-}
-
-// The place part, over so many sets.
+// The place part, over so many sets; its total is the colours of all places together.
 pub fn read_places(
     s: &[u8],
     sets: &[u8],
@@ -31,7 +19,7 @@ pub fn read_places(
     seconds: &mut [u8],
     starts: &mut [usize],
     start: usize,
-) -> Placed
+) -> Part
     requires { ⌜ length (now sets) ≤ 16 ⌝ }
     requires { ⌜ length (now firsts) ≡ 32 ⌝ }
     requires { ⌜ length (now seconds) ≡ 32 ⌝ }
@@ -47,14 +35,14 @@ pub fn read_places(
     loop {
         match place_at(s, sets, count, total, at) {
             PlaceStep::Done => {
-                return Placed::Whole {
+                return Part::Whole {
                     count,
                     total,
                     next: at,
                 };
             }
             PlaceStep::Stop { number, place } => {
-                return Placed::Fault { number, place };
+                return Part::Fault { number, place };
             }
             PlaceStep::One {
                 set,

@@ -1,5 +1,10 @@
 // The table of the net file's commands.
 ghost use mathlib.Core.Path.{_≡_};
+ghost use mathlib.Core.Option.{some};
+ghost use Prim.Native.Nat.{ℕ, _<_, _+_};
+ghost use lib.ListN.{length};
+ghost use Rattle.reading.specs.Basics.{byteAt};
+ghost use Rattle.net.specs.Reader.{widthOf};
 ghost use Rattle.net.specs.Evaluated.{widthTold};
 
 // The width of each byte's operands; 255: no command.
@@ -267,4 +272,12 @@ pub fn width(b: u8) -> u8
     ensures { λ r. ⌜ r ≡ widthTold b ⌝ }
 {
     WIDTHS[b as usize]
+}
+
+// The place after the command that stands at a place: past its byte and its operands.
+pub fn after(s: &[u8], at: usize) -> usize
+    requires { ⌜ at < length (now s) ⌝ }
+    ensures { λ r. ⌜ ((w : ℕ) → widthOf (byteAt (now (s .entry)) at) ≡ some w → r ≡ at + (1 + w)) ⌝ }
+{
+    at + 1 + width(s[at]) as usize
 }

@@ -1,4 +1,5 @@
 // The tokens part: the initial count of each flat place goes into a lent table.
+use crate::Part;
 use crate::clear::clear_bytes;
 use crate::clear::clear_words;
 use reading::word_at;
@@ -8,6 +9,7 @@ ghost use Prim.Native.Nat.{ℕ, _≤_, _<_};
 ghost use lib.ListN.{length};
 ghost use Rattle.net.specs.Net.{Net, Tokens};
 ghost use Rattle.net.specs.Reader.{tokensPart};
+ghost use Rattle.net.specs.Told.{Bare};
 ghost use Rattle.net.specs.Tables.{Rising, Started, Holds, flag, tokenStep, TokenRoom, TokensTold};
 
 // One step of the tokens part: a place, a rank, their count, and the flat place that they are.
@@ -83,12 +85,6 @@ fn token_at(
     TokenStep::Done
 }
 
-// The place after a part; or the first fault.
-pub enum Ended {
-    Whole { next: usize },
-    Fault { number: u8, place: usize },
-}
-
 // The tokens part, over places whose flat places begin so; named is for the reading alone.
 pub fn read_tokens(
     s: &[u8],
@@ -98,11 +94,12 @@ pub fn read_tokens(
     initial: &mut [u16],
     named: &mut [u8],
     start: usize,
-) -> Ended
+) -> Part
     requires { ⌜ Rising (now starts) places total ⌝ }
     requires { ⌜ length (now initial) ≡ 4096 ⌝ }
     requires { ⌜ length (now named) ≡ 4096 ⌝ }
-    ensures { λ r. ⌜ ((n : Net) → Started n (n .places) (now (starts .entry)) places total
+    ensures bare { λ r. ⌜ Bare r ⌝ }
+    ensures told { λ r. ⌜ ((n : Net) → Started n (n .places) (now (starts .entry)) places total
         → TokensTold (now (s .entry)) n start (now (starts .entry)) (now (initial .exit)) r) ⌝ }
 {
     clear_words(initial, total);
@@ -111,10 +108,14 @@ pub fn read_tokens(
     loop {
         match token_at(s, starts, places, total, named, at) {
             TokenStep::Done => {
-                return Ended::Whole { next: at };
+                return Part::Whole {
+                    count: 0,
+                    total: 0,
+                    next: at,
+                };
             }
             TokenStep::Stop { number, place } => {
-                return Ended::Fault { number, place };
+                return Part::Fault { number, place };
             }
             TokenStep::More {
                 place: _,

@@ -1,4 +1,5 @@
 // The transition part: each transition's variables, the place of its guard and its row of arcs go into lent tables.
+use crate::Part;
 use crate::transition::TransitionStep;
 use crate::transition::transition_at;
 ghost use mathlib.Core.Path.{_≡_};
@@ -6,20 +7,7 @@ ghost use Prim.Native.Nat.{_≤_};
 ghost use lib.ListN.{length};
 ghost use Rattle.net.specs.Tables.{over, TransitionsTold};
 
-// How many transitions were read, their binding space, and the place after them; or the first fault.
-pub enum Passed {
-    Whole {
-        count: usize,
-        space: usize,
-        next: usize,
-    },
-    Fault {
-        number: u8,
-        place: usize,
-    },
-}
-
-// The transition part, over sets, variables and places.
+// The transition part, over sets, variables and places; its total is the binding space.
 pub fn read_transitions(
     s: &[u8],
     sizes: &[u8],
@@ -30,7 +18,7 @@ pub fn read_transitions(
     guards: &mut [u16],
     arcs: &mut [u16],
     start: usize,
-) -> Passed
+) -> Part
     requires { ⌜ length (now s) ≤ 16384 ⌝ }
     requires { ⌜ length (now vars) ≤ 32 ⌝ }
     requires { ⌜ length (now firsts) ≤ 32 ⌝ }
@@ -47,14 +35,14 @@ pub fn read_transitions(
     loop {
         match transition_at(s, sizes, vars, firsts, seconds, count, space, arcs, at) {
             TransitionStep::Done => {
-                return Passed::Whole {
+                return Part::Whole {
                     count,
-                    space,
+                    total: space,
                     next: at,
                 };
             }
             TransitionStep::Stop { number, place } => {
-                return Passed::Fault { number, place };
+                return Part::Fault { number, place };
             }
             TransitionStep::More {
                 guard,

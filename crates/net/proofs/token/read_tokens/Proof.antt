@@ -1,5 +1,6 @@
 use borrow.Author.Needs.{needs}
 use native.Mathlib.Omega.{arith}
+use mathlib.Core.Path.{refl}
 use Prim.Native.Nat.{_-_}
 use lib.ListN.{length}
 use Rattle.net.proofs.Tokening.{TokenLoop, tokening-begins, tokening-goes, tokening-ends, tokening-stops, token-below}
@@ -25,11 +26,11 @@ read-tokens-spec =
     (λ c. search needs)
     (λ c. search needs)
     (λ c. search needs)
-    (λ c. tokening-ends (c .before .before .before .before .loop .inv) _ (c .before .before .token-at .ensures .0) (c .before .before .token-at .ensures .1) (c .enum-told .given .1))
+    (λ c. ((refl, refl), tokening-ends (c .before .before .before .before .loop .inv) _ (c .before .before .token-at .ensures .0) (c .before .before .token-at .ensures .1) (c .enum-told .given .1)))
     (λ c. search needs)
     (λ c. search needs)
     (λ c. search needs)
-    (λ c. tokening-stops (c .before .before .before .before .before .loop .inv) _ (c .before .before .before .token-at .ensures .0) (c .before .before .before .token-at .ensures .1) (c .before .number .given .1))
+    (λ c. (tt, tokening-stops (c .before .before .before .before .before .loop .inv) _ (c .before .before .before .token-at .ensures .0) (c .before .before .before .token-at .ensures .1) (c .before .number .given .1)))
     (λ c. search needs)
     (λ c. omega (arith, token-below (c .before .before .before .before .before .loop .inv) _ (c .before .before .before .token-at .ensures .0) (c .before .before .before .token-at .ensures .1) (c .before .before .before .before .before .before .before .before .before .before .before .before .before .before .before .before .before .before .pre .0) (c .before .count .given .1)))
     (λ c. omega (arith, token-below (c .before .before .before .before .before .loop .inv) _ (c .before .before .before .token-at .ensures .0) (c .before .before .before .token-at .ensures .1) (c .before .before .before .before .before .before .before .before .before .before .before .before .before .before .before .before .before .before .pre .0) (c .before .count .given .1)))
