@@ -28,12 +28,13 @@ pub use sizes::NetReply;
 pub use sizes::net_sizes;
 pub use space::bindings_of;
 pub use space::count_of;
+use table::after;
 pub use table::width;
 ghost use mathlib.Core.Path.{_≡_};
 ghost use mathlib.Core.List.{List, [], map};
 ghost use Prim.Native.Nat.{ℕ, _≤_, _<_, _^_};
 ghost use lib.ListN.{length, getD};
-ghost use Rattle.reading.specs.Basics.{sum};
+ghost use Rattle.reading.specs.Basics.{sum, byteAt};
 ghost use Rattle.reading.specs.Reading.{whole};
 ghost use Rattle.net.specs.Net.{net, Place, coloursOf, equal, less};
 ghost use Rattle.net.specs.Reader.{readColour, readGuard, readGuardIf, comparison, setPart, variablePart, placePart};
@@ -61,6 +62,67 @@ fn alone(v: u8) -> u32
     1u32 << v
 }
 
+// A fault, as the answer of a reading.
+fn fault(number: u8, place: usize) -> Read
+    ensures { λ r. ⌜ r ≡ Read.Fault number place ⌝ }
+{
+    Read::Fault { number, place }
+}
+
+// The variable that stands at a place, with so many levels left.
+fn variable_colour(s: &[u8], vars: &[u8], left: u8, at: usize) -> Read
+    requires { ⌜ length (now vars) ≤ 32 ⌝ }
+    requires { ⌜ at < length (now s) ⌝ }
+    requires { ⌜ byteAt (now s) at ≡ 0x30 ⌝ }
+    ensures { λ r. ⌜ ((sets : List ℕ) (places : List Place) → r ≡ colourTold (net sets (now (vars .entry)) places [] [])
+        (readColour (now (s .entry)) (net sets (now (vars .entry)) places [] []) left at)) ⌝ }
+{
+    let next = after(s, at);
+    if s.len() < next {
+        return fault(2, s.len());
+    }
+    let v = s[at + 1];
+    if vars.len() <= v as usize {
+        return fault(5, at);
+    }
+    if left < 1 {
+        return fault(7, at);
+    }
+    Read::Whole {
+        next,
+        set: entry(vars, v as usize) as u32,
+        uses: alone(v),
+    }
+}
+
+// The constant that stands at a place, with so many levels left.
+fn constant_colour(s: &[u8], sizes: &[u8], left: u8, at: usize) -> Read
+    requires { ⌜ at < length (now s) ⌝ }
+    requires { ⌜ byteAt (now s) at ≡ 0x31 ⌝ }
+    ensures { λ r. ⌜ ((variables : List ℕ) (places : List Place) → r ≡ colourTold (net (now (sizes .entry)) variables places [] [])
+        (readColour (now (s .entry)) (net (now (sizes .entry)) variables places [] []) left at)) ⌝ }
+{
+    let next = after(s, at);
+    if s.len() < next {
+        return fault(2, s.len());
+    }
+    let set = s[at + 1];
+    if sizes.len() <= set as usize {
+        return fault(5, at);
+    }
+    if sizes[set as usize] <= s[at + 2] {
+        return fault(5, at);
+    }
+    if left < 1 {
+        return fault(7, at);
+    }
+    Read::Whole {
+        next,
+        set: set as u32,
+        uses: 0,
+    }
+}
+
 // The colour expression at a place, with so many levels left.
 pub fn read_colour(s: &[u8], sizes: &[u8], vars: &[u8], left: u8, at: usize) -> Read
     requires { ⌜ length (now vars) ≤ 32 ⌝ }
@@ -68,92 +130,25 @@ pub fn read_colour(s: &[u8], sizes: &[u8], vars: &[u8], left: u8, at: usize) -> 
         (readColour (now (s .entry)) (net (now (sizes .entry)) (now (vars .entry)) places [] []) left at)) ⌝ }
 {
     if s.len() <= at {
-        return Read::Fault {
-            number: 2,
-            place: s.len(),
-        };
+        return fault(2, s.len());
     }
     let b = s[at];
     if b == 0x30 {
-        if s.len() <= at + 1 {
-            return Read::Fault {
-                number: 2,
-                place: s.len(),
-            };
-        }
-        let v = s[at + 1];
-        if vars.len() <= v as usize {
-            return Read::Fault {
-                number: 5,
-                place: at,
-            };
-        }
-        if left < 1 {
-            return Read::Fault {
-                number: 7,
-                place: at,
-            };
-        }
-        return Read::Whole {
-            next: at + 2,
-            set: entry(vars, v as usize) as u32,
-            uses: alone(v),
-        };
+        return variable_colour(s, vars, left, at);
     }
     if b == 0x31 {
-        if s.len() <= at + 2 {
-            return Read::Fault {
-                number: 2,
-                place: s.len(),
-            };
-        }
-        let set = s[at + 1];
-        if sizes.len() <= set as usize {
-            return Read::Fault {
-                number: 5,
-                place: at,
-            };
-        }
-        if sizes[set as usize] <= s[at + 2] {
-            return Read::Fault {
-                number: 5,
-                place: at,
-            };
-        }
-        if left < 1 {
-            return Read::Fault {
-                number: 7,
-                place: at,
-            };
-        }
-        return Read::Whole {
-            next: at + 3,
-            set: set as u32,
-            uses: 0,
-        };
+        return constant_colour(s, sizes, left, at);
     }
-    if b == 0x32 {
-        if left < 1 {
-            return Read::Fault {
-                number: 7,
-                place: at,
-            };
-        }
-        return read_colour(s, sizes, vars, left - 1, at + 1);
+    if b < 0x32 {
+        return fault(3, at);
     }
-    if b == 0x33 {
-        if left < 1 {
-            return Read::Fault {
-                number: 7,
-                place: at,
-            };
-        }
-        return read_colour(s, sizes, vars, left - 1, at + 1);
+    if 0x33 < b {
+        return fault(3, at);
     }
-    Read::Fault {
-        number: 3,
-        place: at,
+    if left < 1 {
+        return fault(7, at);
     }
+    read_colour(s, sizes, vars, left - 1, after(s, at))
 }
 
 // A comparison whose colours stand at next: both of one set, else the fault is at the command.
