@@ -69,6 +69,13 @@ fn fault(number: u8, place: usize) -> Read
     Read::Fault { number, place }
 }
 
+// A whole reading: the place after it, its set and its variables.
+fn whole_read(next: usize, set: u32, uses: u32) -> Read
+    ensures { λ r. ⌜ r ≡ Read.Whole next set uses ⌝ }
+{
+    Read::Whole { next, set, uses }
+}
+
 // The variable that stands at a place, with so many levels left.
 fn variable_colour(s: &[u8], vars: &[u8], left: u8, at: usize) -> Read
     requires { ⌜ length (now vars) ≤ 32 ⌝ }
@@ -88,11 +95,7 @@ fn variable_colour(s: &[u8], vars: &[u8], left: u8, at: usize) -> Read
     if left < 1 {
         return fault(7, at);
     }
-    Read::Whole {
-        next,
-        set: entry(vars, v as usize) as u32,
-        uses: alone(v),
-    }
+    whole_read(next, entry(vars, v as usize) as u32, alone(v))
 }
 
 // The constant that stands at a place, with so many levels left.
@@ -116,11 +119,7 @@ fn constant_colour(s: &[u8], sizes: &[u8], left: u8, at: usize) -> Read
     if left < 1 {
         return fault(7, at);
     }
-    Read::Whole {
-        next,
-        set: set as u32,
-        uses: 0,
-    }
+    whole_read(next, set as u32, 0)
 }
 
 // The colour expression at a place, with so many levels left.
@@ -178,16 +177,9 @@ fn compared(s: &[u8], sizes: &[u8], vars: &[u8], left: u8, at: usize, next: usiz
         return b;
     };
     if first == second {
-        return Read::Whole {
-            next: end,
-            set: 0,
-            uses: uses | others,
-        };
+        return whole_read(end, 0, uses | others);
     }
-    Read::Fault {
-        number: 6,
-        place: at,
-    }
+    fault(6, at)
 }
 
 // The guard at a place, with so many levels left.
@@ -196,108 +188,37 @@ pub fn read_guard(s: &[u8], sizes: &[u8], vars: &[u8], left: u8, at: usize) -> R
     ensures { λ r. ⌜ ((places : List Place) → r ≡ guardTold (readGuard (now (s .entry)) (net (now (sizes .entry)) (now (vars .entry)) places [] []) left at)) ⌝ }
 {
     if s.len() <= at {
-        return Read::Fault {
-            number: 2,
-            place: s.len(),
-        };
+        return fault(2, s.len());
     }
     let b = s[at];
+    if b < 0x20 {
+        return fault(3, at);
+    }
+    if 0x25 < b {
+        return fault(3, at);
+    }
+    if left < 1 {
+        return fault(7, at);
+    }
+    let next = after(s, at);
     if b == 0x20 {
-        if left < 1 {
-            return Read::Fault {
-                number: 7,
-                place: at,
-            };
-        }
-        return Read::Whole {
-            next: at + 1,
-            set: 0,
-            uses: 0,
-        };
+        return whole_read(next, 0, 0);
     }
     if b == 0x21 {
-        if left < 1 {
-            return Read::Fault {
-                number: 7,
-                place: at,
-            };
-        }
-        return read_guard(s, sizes, vars, left - 1, at + 1);
+        return read_guard(s, sizes, vars, left - 1, next);
     }
-    if b == 0x22 {
-        if left < 1 {
-            return Read::Fault {
-                number: 7,
-                place: at,
-            };
-        }
-        let a = read_guard(s, sizes, vars, left - 1, at + 1);
-        let Read::Whole { next, set: _, uses } = a else {
-            return a;
-        };
-        let c = read_guard(s, sizes, vars, left - 1, next);
-        let Read::Whole {
-            next: end,
-            set: _,
-            uses: more,
-        } = c
-        else {
-            return c;
-        };
-        return Read::Whole {
-            next: end,
-            set: 0,
-            uses: uses | more,
-        };
+    if 0x23 < b {
+        return compared(s, sizes, vars, left - 1, at, next);
     }
-    if b == 0x23 {
-        if left < 1 {
-            return Read::Fault {
-                number: 7,
-                place: at,
-            };
-        }
-        let a = read_guard(s, sizes, vars, left - 1, at + 1);
-        let Read::Whole { next, set: _, uses } = a else {
-            return a;
-        };
-        let c = read_guard(s, sizes, vars, left - 1, next);
-        let Read::Whole {
-            next: end,
-            set: _,
-            uses: more,
-        } = c
-        else {
-            return c;
-        };
-        return Read::Whole {
-            next: end,
-            set: 0,
-            uses: uses | more,
-        };
-    }
-    if b == 0x24 {
-        if left < 1 {
-            return Read::Fault {
-                number: 7,
-                place: at,
-            };
-        }
-        return compared(s, sizes, vars, left - 1, at, at + 1);
-    }
-    if b == 0x25 {
-        if left < 1 {
-            return Read::Fault {
-                number: 7,
-                place: at,
-            };
-        }
-        return compared(s, sizes, vars, left - 1, at, at + 1);
-    }
-    Read::Fault {
-        number: 3,
-        place: at,
-    }
+    let a = read_guard(s, sizes, vars, left - 1, next);
+    let Read::Whole { next, uses, .. } = a else {
+        return a;
+    };
+    let c = read_guard(s, sizes, vars, left - 1, next);
+    let Read::Whole { next, uses: w, .. } = c else {
+        return c;
+    };
+    whole_read(next, 0, uses | w)
 }
 
 // One step of the set part.
@@ -483,20 +404,12 @@ pub fn read_guard_if(s: &[u8], sizes: &[u8], vars: &[u8], at: usize) -> Read
     ensures { λ r. ⌜ ((places : List Place) → r ≡ guardTold (readGuardIf (now (s .entry)) (net (now (sizes .entry)) (now (vars .entry)) places [] []) at)) ⌝ }
 {
     if s.len() <= at {
-        return Read::Whole {
-            next: at,
-            set: 0,
-            uses: 0,
-        };
+        return whole_read(at, 0, 0);
     }
     if s[at] == 0x15 {
-        return read_guard(s, sizes, vars, 16, at + 1);
+        return read_guard(s, sizes, vars, 16, after(s, at));
     }
-    Read::Whole {
-        next: at,
-        set: 0,
-        uses: 0,
-    }
+    whole_read(at, 0, 0)
 }
 
 // One step of the place part: a place of one set or of two, and the colours of all places with it.
