@@ -228,6 +228,13 @@ pub enum SetStep {
     Stop { number: u8, place: usize },
 }
 
+// A fault, as a step.
+fn stop(number: u8, place: usize) -> SetStep
+    ensures { λ r. ⌜ r ≡ SetStep.Stop number place ⌝ }
+{
+    SetStep::Stop { number, place }
+}
+
 // The set command at a place, after so many sets.
 fn set_at(s: &[u8], count: usize, at: usize) -> SetStep
     ensures is { λ r. ⌜ ((sets : List ℕ) → length sets ≡ count → setPart (now (s .entry)) sets at ≡ setStep sets r) ⌝ }
@@ -236,35 +243,24 @@ fn set_at(s: &[u8], count: usize, at: usize) -> SetStep
     if s.len() <= at {
         return SetStep::Done;
     }
-    if s[at] == 0x10 {
-        if s.len() <= at + 1 {
-            return SetStep::Stop {
-                number: 2,
-                place: s.len(),
-            };
-        }
-        let size = s[at + 1];
-        if size < 1 {
-            return SetStep::Stop {
-                number: 5,
-                place: at,
-            };
-        }
-        if 64 < size {
-            return SetStep::Stop {
-                number: 5,
-                place: at,
-            };
-        }
-        if 16 <= count {
-            return SetStep::Stop {
-                number: 4,
-                place: at,
-            };
-        }
-        return SetStep::More { size, next: at + 2 };
+    if s[at] != 0x10 {
+        return SetStep::Done;
     }
-    SetStep::Done
+    let next = after(s, at);
+    if s.len() < next {
+        return stop(2, s.len());
+    }
+    let size = s[at + 1];
+    if size < 1 {
+        return stop(5, at);
+    }
+    if 64 < size {
+        return stop(5, at);
+    }
+    if 16 <= count {
+        return stop(4, at);
+    }
+    SetStep::More { size, next }
 }
 
 // How many sets were read, and the place after them; or the first fault.
@@ -307,32 +303,21 @@ fn variable_at(s: &[u8], sets: &[u8], count: usize, at: usize) -> SetStep
     if s.len() <= at {
         return SetStep::Done;
     }
-    if s[at] == 0x11 {
-        if s.len() <= at + 1 {
-            return SetStep::Stop {
-                number: 2,
-                place: s.len(),
-            };
-        }
-        let set = s[at + 1];
-        if sets.len() <= set as usize {
-            return SetStep::Stop {
-                number: 5,
-                place: at,
-            };
-        }
-        if 32 <= count {
-            return SetStep::Stop {
-                number: 4,
-                place: at,
-            };
-        }
-        return SetStep::More {
-            size: set,
-            next: at + 2,
-        };
+    if s[at] != 0x11 {
+        return SetStep::Done;
     }
-    SetStep::Done
+    let next = after(s, at);
+    if s.len() < next {
+        return stop(2, s.len());
+    }
+    let set = s[at + 1];
+    if sets.len() <= set as usize {
+        return stop(5, at);
+    }
+    if 32 <= count {
+        return stop(4, at);
+    }
+    SetStep::More { size: set, next }
 }
 
 // The variable part: each variable's set goes into the front of a lent list of 32.
