@@ -32,12 +32,13 @@ pub use sizes::NetReply;
 pub use sizes::net_sizes;
 pub use space::bindings_of;
 pub use space::count_of;
+use table::after;
 pub use table::width;
 ghost use mathlib.Core.Path.{_≡_};
 ghost use mathlib.Core.List.{List, [], map};
 ghost use Prim.Native.Nat.{ℕ, _≤_, _<_, _^_};
 ghost use lib.ListN.{length, getD};
-ghost use Rattle.reading.specs.Basics.{sum};
+ghost use Rattle.reading.specs.Basics.{sum, byteAt};
 ghost use Rattle.reading.specs.Reading.{whole};
 ghost use Rattle.net.specs.Net.{net, Place, coloursOf, equal, less};
 ghost use Rattle.net.specs.Reader.{readColour, readGuard, readGuardIf, comparison, setPart, variablePart, placePart};
@@ -65,6 +66,66 @@ fn alone(v: u8) -> u32
     1u32 << v
 }
 
+// A fault, as the answer of a reading.
+fn fault(number: u8, place: usize) -> Read
+    ensures { λ r. ⌜ r ≡ Read.Fault number place ⌝ }
+{
+    Read::Fault { number, place }
+}
+
+// A whole reading: the place after it, its set and its variables.
+fn whole_read(next: usize, set: u32, uses: u32) -> Read
+    ensures { λ r. ⌜ r ≡ Read.Whole next set uses ⌝ }
+{
+    Read::Whole { next, set, uses }
+}
+
+// The variable that stands at a place, with so many levels left.
+fn variable_colour(s: &[u8], vars: &[u8], left: u8, at: usize) -> Read
+    requires { ⌜ length (now vars) ≤ 32 ⌝ }
+    requires { ⌜ at < length (now s) ⌝ }
+    requires { ⌜ byteAt (now s) at ≡ 0x30 ⌝ }
+    ensures { λ r. ⌜ ((sets : List ℕ) (places : List Place) → r ≡ colourTold (net sets (now (vars .entry)) places [] [])
+        (readColour (now (s .entry)) (net sets (now (vars .entry)) places [] []) left at)) ⌝ }
+{
+    let next = after(s, at);
+    if s.len() < next {
+        return fault(2, s.len());
+    }
+    let v = s[at + 1];
+    if vars.len() <= v as usize {
+        return fault(5, at);
+    }
+    if left < 1 {
+        return fault(7, at);
+    }
+    whole_read(next, entry(vars, v as usize) as u32, alone(v))
+}
+
+// The constant that stands at a place, with so many levels left.
+fn constant_colour(s: &[u8], sizes: &[u8], left: u8, at: usize) -> Read
+    requires { ⌜ at < length (now s) ⌝ }
+    requires { ⌜ byteAt (now s) at ≡ 0x31 ⌝ }
+    ensures { λ r. ⌜ ((variables : List ℕ) (places : List Place) → r ≡ colourTold (net (now (sizes .entry)) variables places [] [])
+        (readColour (now (s .entry)) (net (now (sizes .entry)) variables places [] []) left at)) ⌝ }
+{
+    let next = after(s, at);
+    if s.len() < next {
+        return fault(2, s.len());
+    }
+    let set = s[at + 1];
+    if sizes.len() <= set as usize {
+        return fault(5, at);
+    }
+    if sizes[set as usize] <= s[at + 2] {
+        return fault(5, at);
+    }
+    if left < 1 {
+        return fault(7, at);
+    }
+    whole_read(next, set as u32, 0)
+}
+
 // The colour expression at a place, with so many levels left.
 pub fn read_colour(s: &[u8], sizes: &[u8], vars: &[u8], left: u8, at: usize) -> Read
     requires { ⌜ length (now vars) ≤ 32 ⌝ }
@@ -72,92 +133,25 @@ pub fn read_colour(s: &[u8], sizes: &[u8], vars: &[u8], left: u8, at: usize) -> 
         (readColour (now (s .entry)) (net (now (sizes .entry)) (now (vars .entry)) places [] []) left at)) ⌝ }
 {
     if s.len() <= at {
-        return Read::Fault {
-            number: 2,
-            place: s.len(),
-        };
+        return fault(2, s.len());
     }
     let b = s[at];
     if b == 0x30 {
-        if s.len() <= at + 1 {
-            return Read::Fault {
-                number: 2,
-                place: s.len(),
-            };
-        }
-        let v = s[at + 1];
-        if vars.len() <= v as usize {
-            return Read::Fault {
-                number: 5,
-                place: at,
-            };
-        }
-        if left < 1 {
-            return Read::Fault {
-                number: 7,
-                place: at,
-            };
-        }
-        return Read::Whole {
-            next: at + 2,
-            set: entry(vars, v as usize) as u32,
-            uses: alone(v),
-        };
+        return variable_colour(s, vars, left, at);
     }
     if b == 0x31 {
-        if s.len() <= at + 2 {
-            return Read::Fault {
-                number: 2,
-                place: s.len(),
-            };
-        }
-        let set = s[at + 1];
-        if sizes.len() <= set as usize {
-            return Read::Fault {
-                number: 5,
-                place: at,
-            };
-        }
-        if sizes[set as usize] <= s[at + 2] {
-            return Read::Fault {
-                number: 5,
-                place: at,
-            };
-        }
-        if left < 1 {
-            return Read::Fault {
-                number: 7,
-                place: at,
-            };
-        }
-        return Read::Whole {
-            next: at + 3,
-            set: set as u32,
-            uses: 0,
-        };
+        return constant_colour(s, sizes, left, at);
     }
-    if b == 0x32 {
-        if left < 1 {
-            return Read::Fault {
-                number: 7,
-                place: at,
-            };
-        }
-        return read_colour(s, sizes, vars, left - 1, at + 1);
+    if b < 0x32 {
+        return fault(3, at);
     }
-    if b == 0x33 {
-        if left < 1 {
-            return Read::Fault {
-                number: 7,
-                place: at,
-            };
-        }
-        return read_colour(s, sizes, vars, left - 1, at + 1);
+    if 0x33 < b {
+        return fault(3, at);
     }
-    Read::Fault {
-        number: 3,
-        place: at,
+    if left < 1 {
+        return fault(7, at);
     }
+    read_colour(s, sizes, vars, left - 1, after(s, at))
 }
 
 // A comparison whose colours stand at next: both of one set, else the fault is at the command.
@@ -187,16 +181,9 @@ fn compared(s: &[u8], sizes: &[u8], vars: &[u8], left: u8, at: usize, next: usiz
         return b;
     };
     if first == second {
-        return Read::Whole {
-            next: end,
-            set: 0,
-            uses: uses | others,
-        };
+        return whole_read(end, 0, uses | others);
     }
-    Read::Fault {
-        number: 6,
-        place: at,
-    }
+    fault(6, at)
 }
 
 // The guard at a place, with so many levels left.
@@ -205,108 +192,37 @@ pub fn read_guard(s: &[u8], sizes: &[u8], vars: &[u8], left: u8, at: usize) -> R
     ensures { λ r. ⌜ ((places : List Place) → r ≡ guardTold (readGuard (now (s .entry)) (net (now (sizes .entry)) (now (vars .entry)) places [] []) left at)) ⌝ }
 {
     if s.len() <= at {
-        return Read::Fault {
-            number: 2,
-            place: s.len(),
-        };
+        return fault(2, s.len());
     }
     let b = s[at];
+    if b < 0x20 {
+        return fault(3, at);
+    }
+    if 0x25 < b {
+        return fault(3, at);
+    }
+    if left < 1 {
+        return fault(7, at);
+    }
+    let next = after(s, at);
     if b == 0x20 {
-        if left < 1 {
-            return Read::Fault {
-                number: 7,
-                place: at,
-            };
-        }
-        return Read::Whole {
-            next: at + 1,
-            set: 0,
-            uses: 0,
-        };
+        return whole_read(next, 0, 0);
     }
     if b == 0x21 {
-        if left < 1 {
-            return Read::Fault {
-                number: 7,
-                place: at,
-            };
-        }
-        return read_guard(s, sizes, vars, left - 1, at + 1);
+        return read_guard(s, sizes, vars, left - 1, next);
     }
-    if b == 0x22 {
-        if left < 1 {
-            return Read::Fault {
-                number: 7,
-                place: at,
-            };
-        }
-        let a = read_guard(s, sizes, vars, left - 1, at + 1);
-        let Read::Whole { next, set: _, uses } = a else {
-            return a;
-        };
-        let c = read_guard(s, sizes, vars, left - 1, next);
-        let Read::Whole {
-            next: end,
-            set: _,
-            uses: more,
-        } = c
-        else {
-            return c;
-        };
-        return Read::Whole {
-            next: end,
-            set: 0,
-            uses: uses | more,
-        };
+    if 0x23 < b {
+        return compared(s, sizes, vars, left - 1, at, next);
     }
-    if b == 0x23 {
-        if left < 1 {
-            return Read::Fault {
-                number: 7,
-                place: at,
-            };
-        }
-        let a = read_guard(s, sizes, vars, left - 1, at + 1);
-        let Read::Whole { next, set: _, uses } = a else {
-            return a;
-        };
-        let c = read_guard(s, sizes, vars, left - 1, next);
-        let Read::Whole {
-            next: end,
-            set: _,
-            uses: more,
-        } = c
-        else {
-            return c;
-        };
-        return Read::Whole {
-            next: end,
-            set: 0,
-            uses: uses | more,
-        };
-    }
-    if b == 0x24 {
-        if left < 1 {
-            return Read::Fault {
-                number: 7,
-                place: at,
-            };
-        }
-        return compared(s, sizes, vars, left - 1, at, at + 1);
-    }
-    if b == 0x25 {
-        if left < 1 {
-            return Read::Fault {
-                number: 7,
-                place: at,
-            };
-        }
-        return compared(s, sizes, vars, left - 1, at, at + 1);
-    }
-    Read::Fault {
-        number: 3,
-        place: at,
-    }
+    let a = read_guard(s, sizes, vars, left - 1, next);
+    let Read::Whole { next, uses, .. } = a else {
+        return a;
+    };
+    let c = read_guard(s, sizes, vars, left - 1, next);
+    let Read::Whole { next, uses: w, .. } = c else {
+        return c;
+    };
+    whole_read(next, 0, uses | w)
 }
 
 // One step of the set part.
@@ -314,6 +230,13 @@ pub enum SetStep {
     Done,
     More { size: u8, next: usize },
     Stop { number: u8, place: usize },
+}
+
+// A fault, as a step.
+fn stop(number: u8, place: usize) -> SetStep
+    ensures { λ r. ⌜ r ≡ SetStep.Stop number place ⌝ }
+{
+    SetStep::Stop { number, place }
 }
 
 // The set command at a place, after so many sets.
@@ -324,35 +247,24 @@ fn set_at(s: &[u8], count: usize, at: usize) -> SetStep
     if s.len() <= at {
         return SetStep::Done;
     }
-    if s[at] == 0x10 {
-        if s.len() <= at + 1 {
-            return SetStep::Stop {
-                number: 2,
-                place: s.len(),
-            };
-        }
-        let size = s[at + 1];
-        if size < 1 {
-            return SetStep::Stop {
-                number: 5,
-                place: at,
-            };
-        }
-        if 64 < size {
-            return SetStep::Stop {
-                number: 5,
-                place: at,
-            };
-        }
-        if 16 <= count {
-            return SetStep::Stop {
-                number: 4,
-                place: at,
-            };
-        }
-        return SetStep::More { size, next: at + 2 };
+    if s[at] != 0x10 {
+        return SetStep::Done;
     }
-    SetStep::Done
+    let next = after(s, at);
+    if s.len() < next {
+        return stop(2, s.len());
+    }
+    let size = s[at + 1];
+    if size < 1 {
+        return stop(5, at);
+    }
+    if 64 < size {
+        return stop(5, at);
+    }
+    if 16 <= count {
+        return stop(4, at);
+    }
+    SetStep::More { size, next }
 }
 
 // A part of the file that was read: how many things it has, what they come to together, and the place after it; or the first fault.
@@ -406,32 +318,21 @@ fn variable_at(s: &[u8], sets: &[u8], count: usize, at: usize) -> SetStep
     if s.len() <= at {
         return SetStep::Done;
     }
-    if s[at] == 0x11 {
-        if s.len() <= at + 1 {
-            return SetStep::Stop {
-                number: 2,
-                place: s.len(),
-            };
-        }
-        let set = s[at + 1];
-        if sets.len() <= set as usize {
-            return SetStep::Stop {
-                number: 5,
-                place: at,
-            };
-        }
-        if 32 <= count {
-            return SetStep::Stop {
-                number: 4,
-                place: at,
-            };
-        }
-        return SetStep::More {
-            size: set,
-            next: at + 2,
-        };
+    if s[at] != 0x11 {
+        return SetStep::Done;
     }
-    SetStep::Done
+    let next = after(s, at);
+    if s.len() < next {
+        return stop(2, s.len());
+    }
+    let set = s[at + 1];
+    if sets.len() <= set as usize {
+        return stop(5, at);
+    }
+    if 32 <= count {
+        return stop(4, at);
+    }
+    SetStep::More { size: set, next }
 }
 
 // The variable part: each variable's set goes into the front of a lent list of 32.
@@ -469,20 +370,12 @@ pub fn read_guard_if(s: &[u8], sizes: &[u8], vars: &[u8], at: usize) -> Read
     ensures { λ r. ⌜ ((places : List Place) → r ≡ guardTold (readGuardIf (now (s .entry)) (net (now (sizes .entry)) (now (vars .entry)) places [] []) at)) ⌝ }
 {
     if s.len() <= at {
-        return Read::Whole {
-            next: at,
-            set: 0,
-            uses: 0,
-        };
+        return whole_read(at, 0, 0);
     }
     if s[at] == 0x15 {
-        return read_guard(s, sizes, vars, 16, at + 1);
+        return read_guard(s, sizes, vars, 16, after(s, at));
     }
-    Read::Whole {
-        next: at,
-        set: 0,
-        uses: 0,
-    }
+    whole_read(at, 0, 0)
 }
 
 // One step of the place part: a place of one set or of two, and the colours of all places with it.

@@ -1,22 +1,18 @@
+use mathlib.Core.Path.{_≡_, _∙_}
+use Rattle.net.proofs.Guards.{if-past, if-none, if-read}
 use borrow.Author.Needs.{needs}
-use native.Mathlib.Omega.{arith}
-use mathlib.Core.Path.{refl, _∙_}
-use Rattle.reading.proofs.Commands.{tests, standing-past, standing-none, stands-goes}
-use Rattle.net.specs.Net.{inGuard}
-use Rattle.net.specs.Told.{bits}
-use Rattle.net.proofs.Shut.{commands}
-use Rattle.net.proofs.Guards.{guard-if}
 use Rattle.net.proofs.read_guard_if.Statement.{statement}
 use Rattle.net.proofs.read_guard_if.Tie as tie
 
 pub read-guard-if-spec : {M : Type 1} → statement M
-unfolding bits commands inGuard
 read-guard-if-spec =
     tie.close
     (tie.spec
-    (λ c places. guard-if _ _ _ (standing-past _ _ _ refl (search needs)))
-    (λ c. search needs)
+    (λ c κs. search needs)
+    (λ c places. c .whole-read .ensures ∙ if-past _ _ _ (search needs))
     (λ c. search needs)
     (λ c κs. search needs)
-    (λ c places. c .read-guard .ensures places ∙ guard-if _ _ _ (stands-goes _ _ 0x15 _ (search needs) refl (omega arith) (search tests)))
-    (λ c places. guard-if _ _ _ (standing-none _ _ _ (search tests))))
+    (λ c κs. search needs)
+    (λ c places. c .read-guard .ensures places ∙ if-read _ _ _ _ (c .before .after .ensures) (search needs) (search needs))
+    (λ c κs. search needs)
+    (λ c places. c .whole-read2 .ensures ∙ if-none _ _ _ (search needs)))
