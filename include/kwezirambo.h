@@ -8,7 +8,7 @@
  *   2  nothing found (kwz_first_row, kwz_first_order, kwz_row_order).
  *
  * Lists are lent as a pointer and a length in elements. A null pointer with length 0 is an empty list. The pointers to numbers and
- * to an order are never null. What a call may write (marking, answers, images, flat, order, first, second, third) must not overlap
+ * to an order must not be null. What a call may write (marking, answers, images, flat, order, first, second, third) must not overlap
  * anything else that is lent to the same call; lists that are only read may overlap each other. A marking is aligned as uint16_t.
  * No call keeps a pointer, allocates memory or has state of its own, so calls on different buffers may run side by side.
  *
