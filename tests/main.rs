@@ -1,0 +1,4 @@
+mod plain;
+#[cfg(test)]
+mod unit;
+fn main() {}
