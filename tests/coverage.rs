@@ -26,11 +26,9 @@ impl Seen {
         left_out.chain(beyond).collect()
     }
 
-    /// The rarest facts first.
-    pub fn rarest(&self) -> Vec<(u64, &str)> {
-        let mut all: Vec<(u64, &str)> = self.0.iter().map(|(fact, &count)| (count, &fact[..])).collect();
-        all.sort_unstable();
-        all
+    /// How often the rarest fact occurred.
+    pub fn least(&self) -> u64 {
+        self.0.values().min().copied().unwrap_or(0)
     }
 
     pub fn len(&self) -> usize {

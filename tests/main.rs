@@ -1,37 +1,44 @@
+//! Test runs: see README.md, and `run` for the commands.
 mod cases;
 mod coverage;
+#[cfg(linked)]
+mod library;
 mod plain;
+mod runs;
 mod stream;
 #[cfg(test)]
 mod unit;
 mod walk;
 
-fn main() {
-    let seed: u64 = std::env::args().nth(1).map_or(1, |s| s.parse().unwrap());
-    let count: usize = std::env::args().nth(2).map_or(0, |s| s.parse().unwrap());
-    let scale = if std::env::args().nth(3).is_some() { cases::nets::Scale::Small } else { cases::nets::Scale::Any };
-    let made = cases::Cases::new(seed, scale);
-    let mut seen = coverage::Seen::default();
-    println!("aimed {}", made.aimed());
-    for (i, aim) in cases::aims::file_aims().iter().enumerate() {
-        let mut dice = cases::dice::Dice::new(seed, i as u64);
-        let file = (aim.make)(&mut dice, scale);
-        let got = if aim.flat { plain::flat_sizes(&file).err() } else { plain::net_sizes(&file).err() };
-        if aim.number != got.map_or(0, |r| r.number) && aim.number != 0 { println!("aim {i} for {}: {got:?} {file:02X?}", aim.number); }
+use std::process::ExitCode;
+
+fn main() -> ExitCode {
+    let words: Vec<String> = std::env::args().skip(1).collect();
+    let number = |i: usize| words.get(i).and_then(|word| word.parse::<u64>().ok());
+    let clock = || std::time::SystemTime::now().duration_since(std::time::UNIX_EPOCH).map_or(1, |time| time.as_secs());
+    let seed = |i: usize| number(i).unwrap_or_else(clock);
+    let done = match (words.first().map_or("", |word| word), words.get(1), number(1), number(2)) {
+        ("store", Some(folder), _, _) => runs::store(folder),
+        #[cfg(linked)]
+        ("fresh", _, Some(seconds), _) => runs::fresh(seconds, seed(2)),
+        #[cfg(linked)]
+        ("stored", Some(folder), _, _) => runs::stored(folder),
+        ("replay", _, Some(seed), Some(case)) => runs::replay(seed, case as usize),
+        ("stream", _, Some(seed), Some(count)) => runs::stream(seed, number(3).unwrap_or(0) as usize, count as usize),
+        ("printed", ..) => runs::printed(),
+        ("program", Some(path), _, Some(seconds)) => runs::program(path, seconds, seed(3)),
+        ("unfolds", Some(path), _, Some(seconds)) => runs::unfolds(path, seconds, seed(3)),
+        ("unfold", ..) => runs::unfold(),
+        _ => Err("no such command; see tests/run".to_string()),
+    };
+    match done {
+        Ok(line) => {
+            eprintln!("{line}");
+            ExitCode::SUCCESS
+        }
+        Err(line) => {
+            eprintln!("{line}");
+            ExitCode::FAILURE
+        }
     }
-    let mut size = 0;
-    let start = std::time::Instant::now();
-    for number in 0..made.aimed() + count {
-        let case = made.case(number);
-        let outcome = case.expected();
-        seen.note(&case, &outcome);
-        if std::env::var("DBG").is_ok() { println!("{number} {:?} {:02X?} {:?}", case.call, &case.file[..case.file.len().min(80)], outcome.said); }
-        let mut s = vec![];
-        case.write(&mut s);
-        size += s.len();
-    }
-    for fault in seen.faults() {
-        println!("{fault}");
-    }
-    println!("{} facts, {} bytes, {:?}", seen.len(), size, start.elapsed());
 }

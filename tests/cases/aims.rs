@@ -611,7 +611,7 @@ fn lent_aims(call: Call, out: &mut Vec<MakeCase>) {
     };
     vary(|_, _| {});
     if call.has_marking() {
-        vary(|case, _| drop(case.marking.pop()));
+        vary(|case, _| case.marking.truncate(case.marking.len() - 1));
         vary(|case, _| case.marking.push(0));
         vary(|case, _| case.marking.clear());
         vary(|case, _| case.marking.fill(0));
@@ -648,7 +648,7 @@ fn lent_aims(call: Call, out: &mut Vec<MakeCase>) {
         });
     }
     if call.has_output() {
-        vary(|case, _| drop(case.output.pop()));
+        vary(|case, _| case.output.truncate(case.output.len() - 1));
         vary(|case, _| case.output.clear());
         vary(|case, dice| case.output.extend(vec![7; 1 + dice.below(9)]));
     }

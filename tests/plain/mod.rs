@@ -8,6 +8,7 @@ mod flat;
 mod net;
 mod unfolding;
 
+#[allow(unused_imports)] // for users of the calls
 pub use commands::{Reading, Refusal};
 pub use drawing::{fire_orders, first_order};
 pub use flat::{fire_images, first_row, flat_sizes};
