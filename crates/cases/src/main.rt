@@ -1,5 +1,5 @@
 // Runs a stream of cases: reads each from standard input, makes its call, and writes what the call returned and every
-// buffer that was lent for writing. tests/stream.py tells both forms.
+// buffer that was lent for writing. tests/README.md tells both forms.
 mod flat_calls;
 mod input;
 mod net_calls;
@@ -11,6 +11,7 @@ use flat_calls::sizes_case;
 use input::read_call;
 use net_calls::first_order_case;
 use net_calls::images_case;
+use net_calls::net_sizes_case;
 use net_calls::order_case;
 use net_calls::orders_case;
 use net_calls::unfold_case;
@@ -50,6 +51,10 @@ fn run(call: u8, number: u64) -> bool {
         8 => {
             say_case(number, b"first_order\n");
             first_order_case();
+        }
+        9 => {
+            say_case(number, b"net_sizes\n");
+            net_sizes_case();
         }
         _ => {
             say_case(number, b"of no call\n");

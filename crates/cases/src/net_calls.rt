@@ -112,3 +112,22 @@ pub fn first_order_case() {
         coloured::FirstReply::Refused { number, place } => say_refused(number, place),
     }
 }
+
+pub fn net_sizes_case() {
+    let mut file = [0u8; 131072];
+    let n = read_bytes(&mut file);
+    match net::net_sizes(&file[..n]) {
+        net::NetReply::Counted {
+            places,
+            transitions,
+            bindings,
+        } => {
+            say(b"places ");
+            say_number(places as u64);
+            say(b" transitions ");
+            say_number(transitions as u64);
+            say_line(b" bindings ", bindings);
+        }
+        net::NetReply::Refused { number, place } => say_refused(number, place),
+    }
+}
