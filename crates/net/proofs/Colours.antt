@@ -93,9 +93,9 @@ module _ (s : List ℕ) (n : Net) where
       → colourTold n (readColour s n (left - 1) next) ≡ colourTold n (readColour s n left at)
   unfolding commands
   inner-read left at next lt le low high after = ⊎-elim
-      (λ e. goes 0x32 (sym e) (after 0 (wide s at 0x32 0 (sym e) refl)) (successor-read left at lt le (sym e)))
-      (λ l. goes 0x33 (omega arith) (after 0 (wide s at 0x33 0 (omega arith) refl)) (predecessor-read left at lt le (omega arith))) (eq-or-lt-of-le low)
+      (λ e. goes (after 0 (wide s at 0x32 0 (sym e) refl)) (successor-read left at lt le (sym e)))
+      (λ l. goes (after 0 (wide s at 0x33 0 (omega arith) refl)) (predecessor-read left at lt le (omega arith))) (eq-or-lt-of-le low)
     where
-      goes : (b : ℕ) → byteAt s at ≡ b → next ≡ at + 1 → colourTold n (readColour s n left at) ≡ colourTold n (readColour s n (left - 1) (at + 1))
+      goes : next ≡ at + 1 → colourTold n (readColour s n left at) ≡ colourTold n (readColour s n (left - 1) (at + 1))
           → colourTold n (readColour s n (left - 1) next) ≡ colourTold n (readColour s n left at)
-      goes b e f r = rw f (sym r)
+      goes f r = rw f (sym r)

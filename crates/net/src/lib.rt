@@ -398,6 +398,83 @@ pub enum PlaceStep {
     },
 }
 
+// A fault, as a step of the place part.
+fn place_stop(number: u8, place: usize) -> PlaceStep
+    ensures { λ r. ⌜ r ≡ PlaceStep.Stop number place ⌝ }
+{
+    PlaceStep::Stop { number, place }
+}
+
+// The command of a place of one set, after so many places with so many colours together.
+fn one_set(s: &[u8], sets: &[u8], count: usize, total: usize, at: usize) -> PlaceStep
+    requires { ⌜ total ≤ 4096 ⌝ }
+    requires { ⌜ at < length (now s) ⌝ }
+    requires { ⌜ byteAt (now s) at ≡ 0x12 ⌝ }
+    ensures is { λ r. ⌜ ((variables : List ℕ) (places : List Place) → length places ≡ count
+        → sum (map (coloursOf (net (now (sets .entry)) variables [] [] [])) places) ≡ total
+        → placePart (now (s .entry)) (net (now (sets .entry)) variables [] [] []) places at ≡ placeStep places r) ⌝ }
+    ensures room { λ r. ⌜ PlaceRoom (now (sets .entry)) (length (now (s .entry))) count total at r ⌝ }
+{
+    let next = after(s, at);
+    if s.len() < next {
+        return place_stop(2, s.len());
+    }
+    let set = s[at + 1];
+    if sets.len() <= set as usize {
+        return place_stop(5, at);
+    }
+    if 32 <= count {
+        return place_stop(4, at);
+    }
+    let more = total + entry(sets, set as usize) as usize;
+    if 4096 < more {
+        return place_stop(4, at);
+    }
+    PlaceStep::One {
+        set,
+        total: more,
+        next,
+    }
+}
+
+// The command of a place of two sets, likewise.
+fn two_sets(s: &[u8], sets: &[u8], count: usize, total: usize, at: usize) -> PlaceStep
+    requires { ⌜ total ≤ 4096 ⌝ }
+    requires { ⌜ at < length (now s) ⌝ }
+    requires { ⌜ byteAt (now s) at ≡ 0x13 ⌝ }
+    ensures is { λ r. ⌜ ((variables : List ℕ) (places : List Place) → length places ≡ count
+        → sum (map (coloursOf (net (now (sets .entry)) variables [] [] [])) places) ≡ total
+        → placePart (now (s .entry)) (net (now (sets .entry)) variables [] [] []) places at ≡ placeStep places r) ⌝ }
+    ensures room { λ r. ⌜ PlaceRoom (now (sets .entry)) (length (now (s .entry))) count total at r ⌝ }
+{
+    let next = after(s, at);
+    if s.len() < next {
+        return place_stop(2, s.len());
+    }
+    let first = s[at + 1];
+    let second = s[at + 2];
+    if sets.len() <= first as usize {
+        return place_stop(5, at);
+    }
+    if sets.len() <= second as usize {
+        return place_stop(5, at);
+    }
+    if 32 <= count {
+        return place_stop(4, at);
+    }
+    let colours = (entry(sets, first as usize) as u32) * (entry(sets, second as usize) as u32);
+    let more = total + colours as usize;
+    if 4096 < more {
+        return place_stop(4, at);
+    }
+    PlaceStep::Two {
+        first,
+        second,
+        total: more,
+        next,
+    }
+}
+
 // The place command at a place, after so many places with so many colours together.
 pub fn place_at(s: &[u8], sets: &[u8], count: usize, total: usize, at: usize) -> PlaceStep
     requires { ⌜ total ≤ 4096 ⌝ }
@@ -411,79 +488,10 @@ pub fn place_at(s: &[u8], sets: &[u8], count: usize, total: usize, at: usize) ->
     }
     let b = s[at];
     if b == 0x12 {
-        if s.len() <= at + 1 {
-            return PlaceStep::Stop {
-                number: 2,
-                place: s.len(),
-            };
-        }
-        let set = s[at + 1];
-        if sets.len() <= set as usize {
-            return PlaceStep::Stop {
-                number: 5,
-                place: at,
-            };
-        }
-        if 32 <= count {
-            return PlaceStep::Stop {
-                number: 4,
-                place: at,
-            };
-        }
-        let more = total + entry(sets, set as usize) as usize;
-        if 4096 < more {
-            return PlaceStep::Stop {
-                number: 4,
-                place: at,
-            };
-        }
-        return PlaceStep::One {
-            set,
-            total: more,
-            next: at + 2,
-        };
+        return one_set(s, sets, count, total, at);
     }
     if b == 0x13 {
-        if s.len() <= at + 2 {
-            return PlaceStep::Stop {
-                number: 2,
-                place: s.len(),
-            };
-        }
-        let first = s[at + 1];
-        let second = s[at + 2];
-        if sets.len() <= first as usize {
-            return PlaceStep::Stop {
-                number: 5,
-                place: at,
-            };
-        }
-        if sets.len() <= second as usize {
-            return PlaceStep::Stop {
-                number: 5,
-                place: at,
-            };
-        }
-        if 32 <= count {
-            return PlaceStep::Stop {
-                number: 4,
-                place: at,
-            };
-        }
-        let colours = (entry(sets, first as usize) as u32) * (entry(sets, second as usize) as u32);
-        let more = total + colours as usize;
-        if 4096 < more {
-            return PlaceStep::Stop {
-                number: 4,
-                place: at,
-            };
-        }
-        return PlaceStep::Two {
-            first,
-            second,
-            total: more,
-            next: at + 3,
-        };
+        return two_sets(s, sets, count, total, at);
     }
     PlaceStep::Done
 }
