@@ -137,19 +137,14 @@ pub fn read_net(
         };
     }
     let part = read_opening(s);
-    let Part::Whole {
-        count: _,
-        total: _,
-        next,
-    } = part
-    else {
+    let Part::Whole { next, .. } = part else {
         return refused(part);
     };
     let part = read_sets(s, sizes, next);
     let Part::Whole {
         count: sets,
-        total: _,
         next,
+        ..
     } = part
     else {
         return refused(part);
@@ -157,8 +152,8 @@ pub fn read_net(
     let part = read_variables(s, &sizes[..sets], vars, next);
     let Part::Whole {
         count: variables,
-        total: _,
         next,
+        ..
     } = part
     else {
         return refused(part);
@@ -192,21 +187,11 @@ pub fn read_net(
         return refused(part);
     };
     let part = read_tokens(s, starts, places, total, initial, named, next);
-    let Part::Whole {
-        count: _,
-        total: _,
-        next,
-    } = part
-    else {
+    let Part::Whole { next, .. } = part else {
         return refused(part);
     };
     let part = read_closing(s, next);
-    let Part::Whole {
-        count: _,
-        total: _,
-        next: _,
-    } = part
-    else {
+    let Part::Whole { .. } = part else {
         return refused(part);
     };
     NetRead::Whole {
