@@ -1,7 +1,7 @@
 -- What the code's enums say, in the terms of the meanings.
 use mathlib.Core.Path.{_≡_}
 use Prim.Native.Nat.{_^_, _<_, _≤_}
-use Rattle.reading.specs.Basics.{ℕ, zero, suc, _+_, Bool, List, [], _∷_, Option, none, some, length, take, eqb, if_then_else_, with}
+use Rattle.reading.specs.Basics.{ℕ, zero, suc, _+_, Bool, List, Option, none, some, take, eqb, if_then_else_, with}
 use Rattle.reading.specs.Reading.{Answer, fine, fault}
 use Rattle.net.specs.Net.{Colour, Guard, Expression, Net, Place, single, pair, setOf, ceiling, inColour, inGuard, inExpression}
 use Rattle.net.specs.declared.Read.{Read}

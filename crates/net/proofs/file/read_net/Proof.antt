@@ -7,14 +7,14 @@ use Rattle.reading.specs.Basics.{ℕ, List, [], length, take}
 use Rattle.reading.specs.Reading.{fine}
 use Rattle.net.specs.Net.{Place, Net, net}
 use Rattle.net.specs.Reader.{content}
-use Rattle.net.specs.Tables.{placesOf, placesRead, Started, over, TransitionsRead, TokensRead}
+use Rattle.net.specs.Tables.{placesOf, placesRead, Started, TransitionsRead, TokensRead}
 use Rattle.net.specs.Held.{openTold, refusal}
 use Rattle.net.proofs.Tokening.{rising}
 use Rattle.net.proofs.Whole.{Left, afterSets, afterVariables, afterPlaces, afterTransitions, net-long, opening-goes, opening-stops, sets-go, sets-stop, variables-go, variables-stop, places-go, places-stop, transitions-go, transitions-stop, tokens-go, tokens-stop, closing-stops, net-read, started-over, tokens-by, tables, front-sized, front-fits}
 use Rattle.net.proofs.file.read_net.Statement.{statement}
 use Rattle.net.proofs.file.read_net.Tie as tie
 
--- where the reading stands: after the opening, the sets, the variables, the places, the transitions, the tokens
+-- where the reading stands: P1 after the opening, P2 the sets, P3 the variables, P4 the places, P5 the transitions, P6 the tokens
 abbrev P1 : Type 0
 P1 = tie.After-known-told
 
@@ -198,425 +198,117 @@ net-of c = net (sets-of (to2 (to3 (to4 (to5 c))))) (variables-of (to3 (to4 (to5 
 left6 : (c : P6) → Left (file6 c) (fine (net-of c) (next6 c))
 left6 c = tokens-go (file6 c) (sets-of (to2 (to3 (to4 (to5 c))))) (variables-of (to3 (to4 (to5 c)))) (places-of (to4 (to5 c))) (transitions-read (to5 c) .transitions) (next5 (to5 c)) (left5 (to5 c)) (tokens-read c .read)
 
--- src/file.rt:134:9
 returns : tie.Need-returns
 returns c = net-long _ (search needs)
 
--- src/file.rt:139:9
-read-opening-requires : tie.Need-read-opening-requires
-read-opening-requires c κs = search needs
-
--- src/file.rt:143:9
-enum-known-part : tie.Need-enum-known-part
-enum-known-part c = search needs
-
--- src/file.rt:146:9
-enum-told : tie.Need-enum-told
-enum-told c = search needs
-
--- src/file.rt:146:9
-refused-requires : tie.Need-refused-requires
-refused-requires c κs = search needs
-
--- src/file.rt:146:9
 returns-2 : tie.Need-returns-2
 returns-2 c = rw (c .refused .ensures ∙ ap refusal (c .before .enum-told .given .1)) (opening-stops (c .before .before .before .before .before .before .before .before .before .before .before .before .before .before .before .before .args .s .now) (c .before .before .before .before .if1 .left) (rw (c .before .enum-told .given .1) at (c .before .before .before .read-opening .ensures .1 (content (c .before .before .before .before .before .before .before .before .before .before .before .before .before .before .before .before .args .s .now)))))
 
--- src/file.rt:148:9
-read-sets-requires : tie.Need-read-sets-requires
-read-sets-requires c κs = search needs
-
--- src/file.rt:150:16
-enum-known-part-2 : tie.Need-enum-known-part-2
-enum-known-part-2 c = search needs
-
--- src/file.rt:155:9
-enum-told-2 : tie.Need-enum-told-2
-enum-told-2 c = search needs
-
--- src/file.rt:155:9
-refused-requires-2 : tie.Need-refused-requires-2
-refused-requires-2 c κs = search needs
-
--- src/file.rt:155:9
-same-length : tie.Need-same-length
-same-length c = search needs
-
--- src/file.rt:155:9
 returns-3 : tie.Need-returns-3
 returns-3 c = rw (c .refused2 .ensures ∙ ap refusal (c .before .enum-told2 .given .1)) (sets-stop (file1 (c .before .before .before .before .before .before .before)) (next1 (c .before .before .before .before .before .before .before)) (left1 (c .before .before .before .before .before .before .before)) (rw (c .before .enum-told2 .given .1) at (c .before .before .before .before .before .read-sets .ensures .1)))
 
--- src/file.rt:157:34
 slice-reshare-prefix-read-variables : tie.Need-slice-reshare-prefix-read-variables
 slice-reshare-prefix-read-variables c = front-fits _ (sizes c) 16 (sets-few c) (sizes-sized c)
 
--- src/file.rt:157:34
 slice-aggregate-read-variables : tie.Need-slice-aggregate-read-variables
 slice-aggregate-read-variables c = sym (front-sized _ (sizes (c .before)) 16 (sets-few (c .before)) (sizes-sized (c .before)))
 
--- src/file.rt:157:9
-read-variables-requires : tie.Need-read-variables-requires
-read-variables-requires c κs = search needs
-
--- src/file.rt:159:16
-enum-known-part-3 : tie.Need-enum-known-part-3
-enum-known-part-3 c = search needs
-
--- src/file.rt:164:9
-enum-told-3 : tie.Need-enum-told-3
-enum-told-3 c = search needs
-
--- src/file.rt:164:9
-refused-requires-3 : tie.Need-refused-requires-3
-refused-requires-3 c κs = search needs
-
--- src/file.rt:164:9
-same-length-2 : tie.Need-same-length-2
-same-length-2 c = search needs
-
--- src/file.rt:164:9
-same-length-3 : tie.Need-same-length-3
-same-length-3 c = search needs
-
--- src/file.rt:164:9
 returns-4 : tie.Need-returns-4
 returns-4 c = rw (c .refused3 .ensures ∙ ap refusal (c .before .enum-told3 .given .1)) (variables-stop (file2 (c .before .before .before .before .before .before .before .before)) (sets-of (c .before .before .before .before .before .before .before .before)) (next2 (c .before .before .before .before .before .before .before .before)) (left2 (c .before .before .before .before .before .before .before .before)) (rw (c .before .enum-told3 .given .1) at (c .before .before .before .before .before .read-variables .ensures .1)))
 
--- src/file.rt:166:31
 slice-reshare-prefix-read-places : tie.Need-slice-reshare-prefix-read-places
 slice-reshare-prefix-read-places c = front-fits _ (sizes (to2 c)) 16 (sets-few (to2 c)) (sizes-sized (to2 c))
 
--- src/file.rt:166:31
 slice-aggregate-read-places : tie.Need-slice-aggregate-read-places
 slice-aggregate-read-places c = sym (front-sized _ (sizes (to2 (c .before))) 16 (sets-few (to2 (c .before))) (sizes-sized (to2 (c .before))))
 
--- src/file.rt:166:9
 read-places-requires : tie.Need-read-places-requires
 read-places-requires c κs = (rw (front-sized _ (sizes (to2 (c .before .before .before .before))) 16 (sets-few (to2 (c .before .before .before .before))) (sizes-sized (to2 (c .before .before .before .before)))) (sets-few (to2 (c .before .before .before .before))), ((to0 (to1 (to2 (c .before .before .before .before)))) .pre .1 .1 .0, ((to0 (to1 (to2 (c .before .before .before .before)))) .pre .1 .1 .1 .0, (to0 (to1 (to2 (c .before .before .before .before)))) .pre .1 .1 .1 .1 .0)))
 
--- src/file.rt:168:16
-enum-known-part-4 : tie.Need-enum-known-part-4
-enum-known-part-4 c = search needs
-
--- src/file.rt:173:9
-enum-told-4 : tie.Need-enum-told-4
-enum-told-4 c = search needs
-
--- src/file.rt:173:9
-refused-requires-4 : tie.Need-refused-requires-4
-refused-requires-4 c κs = search needs
-
--- src/file.rt:173:9
-same-length-4 : tie.Need-same-length-4
-same-length-4 c = search needs
-
--- src/file.rt:173:9
-same-length-5 : tie.Need-same-length-5
-same-length-5 c = search needs
-
--- src/file.rt:173:9
-same-length-6 : tie.Need-same-length-6
-same-length-6 c = search needs
-
--- src/file.rt:173:9
-same-length-7 : tie.Need-same-length-7
-same-length-7 c = search needs
-
--- src/file.rt:173:9
-same-length-8 : tie.Need-same-length-8
-same-length-8 c = search needs
-
--- src/file.rt:173:9
 returns-5 : tie.Need-returns-5
 returns-5 c = rw (c .refused4 .ensures ∙ ap refusal (c .before .enum-told4 .given .1)) (places-stop (file3 (c .before .before .before .before .before .before .before .before .before .before .before .before .before .before)) (sets-of (to2 (c .before .before .before .before .before .before .before .before .before .before .before .before .before .before))) (variables-of (c .before .before .before .before .before .before .before .before .before .before .before .before .before .before)) (next3 (c .before .before .before .before .before .before .before .before .before .before .before .before .before .before)) (left3 (c .before .before .before .before .before .before .before .before .before .before .before .before .before .before)) (rw (c .before .enum-told4 .given .1) at (c .before .before .before .before .before .before .before .before .before .read-places .ensures .0 (variables-of (c .before .before .before .before .before .before .before .before .before .before .before .before .before .before)))))
 
--- src/file.rt:177:9
 slice-reshare-prefix-read-transitions : tie.Need-slice-reshare-prefix-read-transitions
 slice-reshare-prefix-read-transitions c = front-fits _ (sizes (to2 (to3 c))) 16 (sets-few (to2 (to3 c))) (sizes-sized (to2 (to3 c)))
 
--- src/file.rt:177:9
 slice-aggregate-read-transitions : tie.Need-slice-aggregate-read-transitions
 slice-aggregate-read-transitions c = sym (front-sized _ (sizes (to2 (to3 (c .before)))) 16 (sets-few (to2 (to3 (c .before)))) (sizes-sized (to2 (to3 (c .before)))))
 
--- src/file.rt:178:9
 slice-reshare-prefix-read-transitions-2 : tie.Need-slice-reshare-prefix-read-transitions-2
 slice-reshare-prefix-read-transitions-2 c = front-fits _ (vars (to3 (c .before))) 32 (variables-few (to3 (c .before))) (vars-sized (to3 (c .before)))
 
--- src/file.rt:178:9
 slice-aggregate-read-transitions-2 : tie.Need-slice-aggregate-read-transitions-2
 slice-aggregate-read-transitions-2 c = sym (front-sized _ (vars (to3 (c .before .before))) 32 (variables-few (to3 (c .before .before))) (vars-sized (to3 (c .before .before))))
 
--- src/file.rt:179:9
 slice-reshare-prefix-read-transitions-3 : tie.Need-slice-reshare-prefix-read-transitions-3
 slice-reshare-prefix-read-transitions-3 c = front-fits _ (firsts (c .before .before)) 32 (started (c .before .before) .few) (firsts-sized (c .before .before))
 
--- src/file.rt:179:9
 slice-aggregate-read-transitions-3 : tie.Need-slice-aggregate-read-transitions-3
 slice-aggregate-read-transitions-3 c = sym (front-sized _ (firsts (c .before .before .before)) 32 (started (c .before .before .before) .few) (firsts-sized (c .before .before .before)))
 
--- src/file.rt:180:9
 slice-reshare-prefix-read-transitions-4 : tie.Need-slice-reshare-prefix-read-transitions-4
 slice-reshare-prefix-read-transitions-4 c = front-fits _ (seconds (c .before .before .before)) 32 (started (c .before .before .before) .few) (seconds-sized (c .before .before .before))
 
--- src/file.rt:180:9
 slice-aggregate-read-transitions-4 : tie.Need-slice-aggregate-read-transitions-4
 slice-aggregate-read-transitions-4 c = sym (front-sized _ (seconds (c .before .before .before .before)) 32 (started (c .before .before .before .before) .few) (seconds-sized (c .before .before .before .before)))
 
--- src/file.rt:175:9
 read-transitions-requires : tie.Need-read-transitions-requires
 read-transitions-requires c κs = (fits (to1 (to2 (to3 (c .before .before .before .before .before .before .before)))), (rw (front-sized _ (vars (to3 (c .before .before .before .before .before .before .before))) 32 (variables-few (to3 (c .before .before .before .before .before .before .before))) (vars-sized (to3 (c .before .before .before .before .before .before .before)))) (variables-few (to3 (c .before .before .before .before .before .before .before))), (rw (front-sized _ (firsts (c .before .before .before .before .before .before .before)) 32 (started (c .before .before .before .before .before .before .before) .few) (firsts-sized (c .before .before .before .before .before .before .before))) (started (c .before .before .before .before .before .before .before) .few), (front-sized _ (seconds (c .before .before .before .before .before .before .before)) 32 (started (c .before .before .before .before .before .before .before) .few) (seconds-sized (c .before .before .before .before .before .before .before)) ∙ sym (front-sized _ (firsts (c .before .before .before .before .before .before .before)) 32 (started (c .before .before .before .before .before .before .before) .few) (firsts-sized (c .before .before .before .before .before .before .before))), ((to0 (to1 (to2 (to3 (c .before .before .before .before .before .before .before))))) .pre .1 .1 .1 .1 .1 .0, ((to0 (to1 (to2 (to3 (c .before .before .before .before .before .before .before))))) .pre .1 .1 .1 .1 .1 .1 .0, (to0 (to1 (to2 (to3 (c .before .before .before .before .before .before .before))))) .pre .1 .1 .1 .1 .1 .1 .1 .0))))))
 
--- src/file.rt:187:16
-enum-known-part-5 : tie.Need-enum-known-part-5
-enum-known-part-5 c = search needs
-
--- src/file.rt:192:9
-enum-told-5 : tie.Need-enum-told-5
-enum-told-5 c = search needs
-
--- src/file.rt:192:9
-refused-requires-5 : tie.Need-refused-requires-5
-refused-requires-5 c κs = search needs
-
--- src/file.rt:192:9
-same-length-9 : tie.Need-same-length-9
-same-length-9 c = c .before .before .before .before .before .before .before .before .before .before .before .before .before .before .before .before .before .before .before .before .before .before .before .before .before .before .before .before .before .before .before .before .before .before .before .before .before .before .before .before .before .before .before .before .read-sets .kept .1 .0
-
--- src/file.rt:192:9
-same-length-10 : tie.Need-same-length-10
-same-length-10 c = c .before .before .before .before .before .before .before .before .before .before .before .before .before .before .before .before .before .before .before .before .before .before .before .before .before .before .before .before .before .before .before .before .before .before .before .before .read-variables .kept .1 .1 .0
-
--- src/file.rt:192:9
-same-length-11 : tie.Need-same-length-11
-same-length-11 c = search needs
-
--- src/file.rt:192:9
-same-length-12 : tie.Need-same-length-12
-same-length-12 c = search needs
-
--- src/file.rt:192:9
-same-length-13 : tie.Need-same-length-13
-same-length-13 c = search needs
-
--- src/file.rt:192:9
-same-length-14 : tie.Need-same-length-14
-same-length-14 c = search needs
-
--- src/file.rt:192:9
-same-length-15 : tie.Need-same-length-15
-same-length-15 c = search needs
-
--- src/file.rt:192:9
-same-length-16 : tie.Need-same-length-16
-same-length-16 c = search needs
-
--- src/file.rt:192:9
 returns-6 : tie.Need-returns-6
 returns-6 c = rw (c .refused5 .ensures ∙ ap refusal (c .before .enum-told5 .given .1)) (transitions-stop (file4 (c .before .before .before .before .before .before .before .before .before .before .before .before .before .before .before .before .before)) (sets-of (to2 (to3 (c .before .before .before .before .before .before .before .before .before .before .before .before .before .before .before .before .before)))) (variables-of (to3 (c .before .before .before .before .before .before .before .before .before .before .before .before .before .before .before .before .before))) (places-of (c .before .before .before .before .before .before .before .before .before .before .before .before .before .before .before .before .before)) (next4 (c .before .before .before .before .before .before .before .before .before .before .before .before .before .before .before .before .before)) (left4 (c .before .before .before .before .before .before .before .before .before .before .before .before .before .before .before .before .before)) (rw (c .before .enum-told5 .given .1) at (c .before .before .before .before .before .before .before .before .before .read-transitions .ensures)))
 
--- src/file.rt:194:9
 read-tokens-requires : tie.Need-read-tokens-requires
 read-tokens-requires c κs = (rising (started (to4 (c .before .before .before))) (omega (arith, started (to4 (c .before .before .before)) .few, starts-sized (to4 (c .before .before .before)))), ((to0 (to1 (to2 (to3 (to4 (c .before .before .before)))))) .pre .1 .1 .1 .1 .1 .1 .1 .1 .0, (to0 (to1 (to2 (to3 (to4 (c .before .before .before)))))) .pre .1 .1 .1 .1 .1 .1 .1 .1 .1))
 
--- src/file.rt:198:9
-enum-known-part-6 : tie.Need-enum-known-part-6
-enum-known-part-6 c = search needs
-
--- src/file.rt:201:9
-enum-told-6 : tie.Need-enum-told-6
-enum-told-6 c = search needs
-
--- src/file.rt:201:9
-refused-requires-6 : tie.Need-refused-requires-6
-refused-requires-6 c κs = search needs
-
--- src/file.rt:201:9
-same-length-17 : tie.Need-same-length-17
-same-length-17 c = c .before .before .before .before .before .before .before .before .before .before .before .before .before .before .before .before .before .before .before .before .before .before .before .before .before .before .before .before .before .before .before .before .before .before .before .before .before .before .before .before .before .before .before .before .before .before .before .before .before .before .before .before .before .before .before .read-sets .kept .1 .0
-
--- src/file.rt:201:9
-same-length-18 : tie.Need-same-length-18
-same-length-18 c = c .before .before .before .before .before .before .before .before .before .before .before .before .before .before .before .before .before .before .before .before .before .before .before .before .before .before .before .before .before .before .before .before .before .before .before .before .before .before .before .before .before .before .before .before .before .before .before .read-variables .kept .1 .1 .0
-
--- src/file.rt:201:9
-same-length-19 : tie.Need-same-length-19
-same-length-19 c = c .before .before .before .before .before .before .before .before .before .before .before .before .before .before .before .before .before .before .before .before .before .before .before .before .before .before .before .before .before .before .before .before .before .before .before .before .before .read-places .kept .1 .1 .0
-
--- src/file.rt:201:9
-same-length-20 : tie.Need-same-length-20
-same-length-20 c = c .before .before .before .before .before .before .before .before .before .before .before .before .before .before .before .before .before .before .before .before .before .before .before .before .before .before .before .before .before .before .before .before .before .before .before .before .before .read-places .kept .1 .1 .1 .0
-
--- src/file.rt:201:9
-same-length-21 : tie.Need-same-length-21
-same-length-21 c = c .before .before .before .before .before .before .before .before .before .before .before .before .before .before .before .before .before .before .before .before .before .before .before .before .before .before .before .before .before .before .before .before .before .before .before .before .before .read-places .kept .1 .1 .1 .1 .0
-
--- src/file.rt:201:9
-same-length-22 : tie.Need-same-length-22
-same-length-22 c = search needs
-
--- src/file.rt:201:9
-same-length-23 : tie.Need-same-length-23
-same-length-23 c = search needs
-
--- src/file.rt:201:9
-same-length-24 : tie.Need-same-length-24
-same-length-24 c = search needs
-
--- src/file.rt:201:9
-same-length-25 : tie.Need-same-length-25
-same-length-25 c = search needs
-
--- src/file.rt:201:9
-same-length-26 : tie.Need-same-length-26
-same-length-26 c = search needs
-
--- src/file.rt:201:9
 returns-7 : tie.Need-returns-7
 returns-7 c = rw (c .refused6 .ensures ∙ ap refusal (c .before .enum-told6 .given .1)) (tokens-stop (file5 (c .before .before .before .before .before .before .before .before .before .before .before)) (sets-of (to2 (to3 (to4 (c .before .before .before .before .before .before .before .before .before .before .before))))) (variables-of (to3 (to4 (c .before .before .before .before .before .before .before .before .before .before .before)))) (places-of (to4 (c .before .before .before .before .before .before .before .before .before .before .before))) (transitions-read (c .before .before .before .before .before .before .before .before .before .before .before) .transitions) (next5 (c .before .before .before .before .before .before .before .before .before .before .before)) (left5 (c .before .before .before .before .before .before .before .before .before .before .before)) (rw (c .before .enum-told6 .given .1) at (c .before .before .before .before .before .before .before .read-tokens .ensures .1 (drawn (c .before .before .before .before .before .before .before .before .before .before .before)) (started-over (started (to4 (c .before .before .before .before .before .before .before .before .before .before .before)))))))
-
--- src/file.rt:203:9
-read-closing-requires : tie.Need-read-closing-requires
-read-closing-requires c κs = search needs
 
 enum-told-7 : tie.Need-enum-told-7
 enum-told-7 c = search needs
 
--- src/file.rt:210:9
-enum-told-8 : tie.Need-enum-told-8
-enum-told-8 c = search needs
-
--- src/file.rt:210:9
-refused-requires-7 : tie.Need-refused-requires-7
-refused-requires-7 c κs = search needs
-
--- src/file.rt:210:9
-same-length-27 : tie.Need-same-length-27
-same-length-27 c = c .before .before .before .before .before .before .before .before .before .before .before .before .before .before .before .before .before .before .before .before .before .before .before .before .before .before .before .before .before .before .before .before .before .before .before .before .before .before .before .before .before .before .before .before .before .before .before .before .before .before .before .before .before .before .before .before .before .before .before .read-sets .kept .1 .0
-
--- src/file.rt:210:9
-same-length-28 : tie.Need-same-length-28
-same-length-28 c = c .before .before .before .before .before .before .before .before .before .before .before .before .before .before .before .before .before .before .before .before .before .before .before .before .before .before .before .before .before .before .before .before .before .before .before .before .before .before .before .before .before .before .before .before .before .before .before .before .before .before .before .read-variables .kept .1 .1 .0
-
--- src/file.rt:210:9
-same-length-29 : tie.Need-same-length-29
-same-length-29 c = c .before .before .before .before .before .before .before .before .before .before .before .before .before .before .before .before .before .before .before .before .before .before .before .before .before .before .before .before .before .before .before .before .before .before .before .before .before .before .before .before .before .read-places .kept .1 .1 .0
-
--- src/file.rt:210:9
-same-length-30 : tie.Need-same-length-30
-same-length-30 c = c .before .before .before .before .before .before .before .before .before .before .before .before .before .before .before .before .before .before .before .before .before .before .before .before .before .before .before .before .before .before .before .before .before .before .before .before .before .before .before .before .before .read-places .kept .1 .1 .1 .0
-
--- src/file.rt:210:9
-same-length-31 : tie.Need-same-length-31
-same-length-31 c = c .before .before .before .before .before .before .before .before .before .before .before .before .before .before .before .before .before .before .before .before .before .before .before .before .before .before .before .before .before .before .before .before .before .before .before .before .before .before .before .before .before .read-places .kept .1 .1 .1 .1 .0
-
--- src/file.rt:210:9
-same-length-32 : tie.Need-same-length-32
-same-length-32 c = search needs
-
--- src/file.rt:210:9
-same-length-33 : tie.Need-same-length-33
-same-length-33 c = search needs
-
--- src/file.rt:210:9
-same-length-34 : tie.Need-same-length-34
-same-length-34 c = search needs
-
--- src/file.rt:210:9
-same-length-35 : tie.Need-same-length-35
-same-length-35 c = search needs
-
--- src/file.rt:210:9
-same-length-36 : tie.Need-same-length-36
-same-length-36 c = search needs
-
--- src/file.rt:210:9
 returns-8 : tie.Need-returns-8
 returns-8 c = rw (c .refused7 .ensures ∙ ap refusal (c .before .enum-told8 .given .1)) (closing-stops (file6 (c .before .before .before .before)) (net-of (c .before .before .before .before)) (next6 (c .before .before .before .before)) (left6 (c .before .before .before .before)) (rw (c .before .enum-told8 .given .1) at (c .before .before .before .read-closing .ensures .1 (net-of (c .before .before .before .before)))))
 
--- src/file.rt:107:1
-same-length-37 : tie.Need-same-length-37
-same-length-37 c = c .before .before .before .before .before .before .before .before .before .before .before .before .before .before .before .before .before .before .before .before .before .before .before .before .before .before .before .before .before .before .before .before .before .before .before .before .before .before .before .before .before .before .before .before .before .before .before .before .before .before .before .before .before .before .before .before .before .before .read-sets .kept .1 .0
-
--- src/file.rt:107:1
-same-length-38 : tie.Need-same-length-38
-same-length-38 c = c .before .before .before .before .before .before .before .before .before .before .before .before .before .before .before .before .before .before .before .before .before .before .before .before .before .before .before .before .before .before .before .before .before .before .before .before .before .before .before .before .before .before .before .before .before .before .before .before .before .before .read-variables .kept .1 .1 .0
-
--- src/file.rt:107:1
-same-length-39 : tie.Need-same-length-39
-same-length-39 c = c .before .before .before .before .before .before .before .before .before .before .before .before .before .before .before .before .before .before .before .before .before .before .before .before .before .before .before .before .before .before .before .before .before .before .before .before .before .before .before .before .read-places .kept .1 .1 .0
-
--- src/file.rt:107:1
-same-length-40 : tie.Need-same-length-40
-same-length-40 c = c .before .before .before .before .before .before .before .before .before .before .before .before .before .before .before .before .before .before .before .before .before .before .before .before .before .before .before .before .before .before .before .before .before .before .before .before .before .before .before .before .read-places .kept .1 .1 .1 .0
-
--- src/file.rt:107:1
-same-length-41 : tie.Need-same-length-41
-same-length-41 c = c .before .before .before .before .before .before .before .before .before .before .before .before .before .before .before .before .before .before .before .before .before .before .before .before .before .before .before .before .before .before .before .before .before .before .before .before .before .before .before .before .read-places .kept .1 .1 .1 .1 .0
-
--- src/file.rt:107:1
-same-length-42 : tie.Need-same-length-42
-same-length-42 c = search needs
-
--- src/file.rt:107:1
-same-length-43 : tie.Need-same-length-43
-same-length-43 c = search needs
-
--- src/file.rt:107:1
-same-length-44 : tie.Need-same-length-44
-same-length-44 c = search needs
-
--- src/file.rt:107:1
-same-length-45 : tie.Need-same-length-45
-same-length-45 c = search needs
-
--- src/file.rt:107:1
-same-length-46 : tie.Need-same-length-46
-same-length-46 c = search needs
-
--- src/file.rt:107:1
 returns-9 : tie.Need-returns-9
-returns-9 c = record {
-  value = net-of (c .before .before .before);
-  read = net-read (file6 (c .before .before .before)) (net-of (c .before .before .before)) (next6 (c .before .before .before)) (left6 (c .before .before .before)) (rw (c .enum-told7 .given .1) at (c .before .before .read-closing .ensures .1 (net-of (c .before .before .before))));
-  holds = tables (file6 (c .before .before .before)) (sizes (to2 (to3 (to4 (to5 (c .before .before .before)))))) (vars (to3 (to4 (to5 (c .before .before .before))))) (firsts (to4 (to5 (c .before .before .before)))) (seconds (to4 (to5 (c .before .before .before)))) (starts (to4 (to5 (c .before .before .before)))) (sets-few (to2 (to3 (to4 (to5 (c .before .before .before)))))) (variables-few (to3 (to4 (to5 (c .before .before .before))))) (firsts-sized (to4 (to5 (c .before .before .before)))) (seconds-sized (to4 (to5 (c .before .before .before)))) (started (to4 (to5 (c .before .before .before)))) (uses (to5 (c .before .before .before))) (guards (to5 (c .before .before .before))) (arcs (to5 (c .before .before .before))) (transitions-read (to5 (c .before .before .before))) _ (tokens-read (c .before .before .before));
-}
+returns-9 c = record { value = net-of (c .before .before .before); read = net-read (file6 (c .before .before .before)) (net-of (c .before .before .before)) (next6 (c .before .before .before)) (left6 (c .before .before .before)) (rw (c .enum-told7 .given .1) at (c .before .before .read-closing .ensures .1 (net-of (c .before .before .before)))); holds = tables (file6 (c .before .before .before)) (sizes (to2 (to3 (to4 (to5 (c .before .before .before)))))) (vars (to3 (to4 (to5 (c .before .before .before))))) (firsts (to4 (to5 (c .before .before .before)))) (seconds (to4 (to5 (c .before .before .before)))) (starts (to4 (to5 (c .before .before .before)))) (sets-few (to2 (to3 (to4 (to5 (c .before .before .before)))))) (variables-few (to3 (to4 (to5 (c .before .before .before))))) (firsts-sized (to4 (to5 (c .before .before .before)))) (seconds-sized (to4 (to5 (c .before .before .before)))) (started (to4 (to5 (c .before .before .before)))) (uses (to5 (c .before .before .before))) (guards (to5 (c .before .before .before))) (arcs (to5 (c .before .before .before))) (transitions-read (to5 (c .before .before .before))) _ (tokens-read (c .before .before .before)) }
 
 pub read-net-spec : {M : Type 1} → statement M
 read-net-spec =
     tie.close
     (tie.spec
     returns
-    read-opening-requires
-    enum-known-part
-    enum-told
-    refused-requires
+    (λ c κs. search needs)
+    (λ c. search needs)
+    (λ c. search needs)
+    (λ c κs. search needs)
     returns-2
-    read-sets-requires
-    enum-known-part-2
-    enum-told-2
-    refused-requires-2
-    same-length
+    (λ c κs. search needs)
+    (λ c. search needs)
+    (λ c. search needs)
+    (λ c κs. search needs)
+    (λ c. search needs)
     returns-3
     slice-reshare-prefix-read-variables
     slice-aggregate-read-variables
-    read-variables-requires
-    enum-known-part-3
-    enum-told-3
-    refused-requires-3
-    same-length-2
-    same-length-3
+    (λ c κs. search needs)
+    (λ c. search needs)
+    (λ c. search needs)
+    (λ c κs. search needs)
+    (λ c. search needs)
+    (λ c. search needs)
     returns-4
     slice-reshare-prefix-read-places
     slice-aggregate-read-places
     read-places-requires
-    enum-known-part-4
-    enum-told-4
-    refused-requires-4
-    same-length-4
-    same-length-5
-    same-length-6
-    same-length-7
-    same-length-8
+    (λ c. search needs)
+    (λ c. search needs)
+    (λ c κs. search needs)
+    (λ c. search needs)
+    (λ c. search needs)
+    (λ c. search needs)
+    (λ c. search needs)
+    (λ c. search needs)
     returns-5
     slice-reshare-prefix-read-transitions
     slice-aggregate-read-transitions
@@ -627,56 +319,56 @@ read-net-spec =
     slice-reshare-prefix-read-transitions-4
     slice-aggregate-read-transitions-4
     read-transitions-requires
-    enum-known-part-5
-    enum-told-5
-    refused-requires-5
-    same-length-9
-    same-length-10
-    same-length-11
-    same-length-12
-    same-length-13
-    same-length-14
-    same-length-15
-    same-length-16
+    (λ c. search needs)
+    (λ c. search needs)
+    (λ c κs. search needs)
+    (λ c. c .before .before .before .before .before .before .before .before .before .before .before .before .before .before .before .before .before .before .before .before .before .before .before .before .before .before .before .before .before .before .before .before .before .before .before .before .before .before .before .before .before .before .before .before .read-sets .kept .1 .0)
+    (λ c. c .before .before .before .before .before .before .before .before .before .before .before .before .before .before .before .before .before .before .before .before .before .before .before .before .before .before .before .before .before .before .before .before .before .before .before .before .read-variables .kept .1 .1 .0)
+    (λ c. search needs)
+    (λ c. search needs)
+    (λ c. search needs)
+    (λ c. search needs)
+    (λ c. search needs)
+    (λ c. search needs)
     returns-6
     read-tokens-requires
-    enum-known-part-6
-    enum-told-6
-    refused-requires-6
-    same-length-17
-    same-length-18
-    same-length-19
-    same-length-20
-    same-length-21
-    same-length-22
-    same-length-23
-    same-length-24
-    same-length-25
-    same-length-26
+    (λ c. search needs)
+    (λ c. search needs)
+    (λ c κs. search needs)
+    (λ c. c .before .before .before .before .before .before .before .before .before .before .before .before .before .before .before .before .before .before .before .before .before .before .before .before .before .before .before .before .before .before .before .before .before .before .before .before .before .before .before .before .before .before .before .before .before .before .before .before .before .before .before .before .before .before .before .read-sets .kept .1 .0)
+    (λ c. c .before .before .before .before .before .before .before .before .before .before .before .before .before .before .before .before .before .before .before .before .before .before .before .before .before .before .before .before .before .before .before .before .before .before .before .before .before .before .before .before .before .before .before .before .before .before .before .read-variables .kept .1 .1 .0)
+    (λ c. c .before .before .before .before .before .before .before .before .before .before .before .before .before .before .before .before .before .before .before .before .before .before .before .before .before .before .before .before .before .before .before .before .before .before .before .before .before .read-places .kept .1 .1 .0)
+    (λ c. c .before .before .before .before .before .before .before .before .before .before .before .before .before .before .before .before .before .before .before .before .before .before .before .before .before .before .before .before .before .before .before .before .before .before .before .before .before .read-places .kept .1 .1 .1 .0)
+    (λ c. c .before .before .before .before .before .before .before .before .before .before .before .before .before .before .before .before .before .before .before .before .before .before .before .before .before .before .before .before .before .before .before .before .before .before .before .before .before .read-places .kept .1 .1 .1 .1 .0)
+    (λ c. search needs)
+    (λ c. search needs)
+    (λ c. search needs)
+    (λ c. search needs)
+    (λ c. search needs)
     returns-7
-    read-closing-requires
+    (λ c κs. search needs)
     enum-told-7
-    enum-told-8
-    refused-requires-7
-    same-length-27
-    same-length-28
-    same-length-29
-    same-length-30
-    same-length-31
-    same-length-32
-    same-length-33
-    same-length-34
-    same-length-35
-    same-length-36
+    (λ c. search needs)
+    (λ c κs. search needs)
+    (λ c. c .before .before .before .before .before .before .before .before .before .before .before .before .before .before .before .before .before .before .before .before .before .before .before .before .before .before .before .before .before .before .before .before .before .before .before .before .before .before .before .before .before .before .before .before .before .before .before .before .before .before .before .before .before .before .before .before .before .before .before .read-sets .kept .1 .0)
+    (λ c. c .before .before .before .before .before .before .before .before .before .before .before .before .before .before .before .before .before .before .before .before .before .before .before .before .before .before .before .before .before .before .before .before .before .before .before .before .before .before .before .before .before .before .before .before .before .before .before .before .before .before .before .read-variables .kept .1 .1 .0)
+    (λ c. c .before .before .before .before .before .before .before .before .before .before .before .before .before .before .before .before .before .before .before .before .before .before .before .before .before .before .before .before .before .before .before .before .before .before .before .before .before .before .before .before .before .read-places .kept .1 .1 .0)
+    (λ c. c .before .before .before .before .before .before .before .before .before .before .before .before .before .before .before .before .before .before .before .before .before .before .before .before .before .before .before .before .before .before .before .before .before .before .before .before .before .before .before .before .before .read-places .kept .1 .1 .1 .0)
+    (λ c. c .before .before .before .before .before .before .before .before .before .before .before .before .before .before .before .before .before .before .before .before .before .before .before .before .before .before .before .before .before .before .before .before .before .before .before .before .before .before .before .before .before .read-places .kept .1 .1 .1 .1 .0)
+    (λ c. search needs)
+    (λ c. search needs)
+    (λ c. search needs)
+    (λ c. search needs)
+    (λ c. search needs)
     returns-8
-    same-length-37
-    same-length-38
-    same-length-39
-    same-length-40
-    same-length-41
-    same-length-42
-    same-length-43
-    same-length-44
-    same-length-45
-    same-length-46
+    (λ c. c .before .before .before .before .before .before .before .before .before .before .before .before .before .before .before .before .before .before .before .before .before .before .before .before .before .before .before .before .before .before .before .before .before .before .before .before .before .before .before .before .before .before .before .before .before .before .before .before .before .before .before .before .before .before .before .before .before .before .read-sets .kept .1 .0)
+    (λ c. c .before .before .before .before .before .before .before .before .before .before .before .before .before .before .before .before .before .before .before .before .before .before .before .before .before .before .before .before .before .before .before .before .before .before .before .before .before .before .before .before .before .before .before .before .before .before .before .before .before .before .read-variables .kept .1 .1 .0)
+    (λ c. c .before .before .before .before .before .before .before .before .before .before .before .before .before .before .before .before .before .before .before .before .before .before .before .before .before .before .before .before .before .before .before .before .before .before .before .before .before .before .before .before .read-places .kept .1 .1 .0)
+    (λ c. c .before .before .before .before .before .before .before .before .before .before .before .before .before .before .before .before .before .before .before .before .before .before .before .before .before .before .before .before .before .before .before .before .before .before .before .before .before .before .before .before .read-places .kept .1 .1 .1 .0)
+    (λ c. c .before .before .before .before .before .before .before .before .before .before .before .before .before .before .before .before .before .before .before .before .before .before .before .before .before .before .before .before .before .before .before .before .before .before .before .before .before .before .before .before .read-places .kept .1 .1 .1 .1 .0)
+    (λ c. search needs)
+    (λ c. search needs)
+    (λ c. search needs)
+    (λ c. search needs)
+    (λ c. search needs)
     returns-9)
