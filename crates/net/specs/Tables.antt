@@ -6,6 +6,8 @@ use Rattle.reading.specs.Reading.{Answer, fine, fault, _andThen_, whole}
 use Rattle.net.specs.Net.{Guard, always, Expression, Place, Arc, Transition, Tokens, Net, net, coloursOf, placeAt, arcOn, tokensOn, inGuard, inExpression, variablesOf, bindingSpace}
 use Rattle.net.specs.Reader.{readGuard, readGuardIf, readExpression, arcPart, ended, transitionPart, tokensPart}
 use Rattle.net.specs.Told.{bits, placeOf}
+use Rattle.net.specs.declared.Read.{Read}
+use Rattle.net.specs.declared.Read.the-variants as read
 use Rattle.net.specs.declared.Declared.{Declared}
 use Rattle.net.specs.declared.Declared.the-variants as declared
 use Rattle.net.specs.declared.PlaceStep.{PlaceStep}
@@ -155,6 +157,11 @@ abbrev pub ArcTold : List ℕ → Net → List Arc → ℕ → List ℕ → ArcS
 ArcTold s n arcs at row arc-step.Done = arcPart s n arcs at ≡ none
 ArcTold s n arcs at row (arc-step.More slot uses next) = ArcRead s n arcs at row slot uses next
 ArcTold s n arcs at row (arc-step.Stop number place) = arcPart s n arcs at ≡ some (fault number place)
+
+-- the fault of an expression stops the arcs
+abbrev pub arcStopped : Read → ArcStep
+arcStopped (read.Whole next ceiling uses) = arc-step.Done
+arcStopped (read.Fault number place) = arc-step.Stop number place
 
 abbrev pub ArcRoom : ℕ → ℕ → ArcStep → Type 0
 ArcRoom len at arc-step.Done = Unit {0}

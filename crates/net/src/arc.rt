@@ -2,18 +2,40 @@
 use crate::Read;
 use crate::clear::clear_words;
 use crate::read_expression;
+use crate::table::after;
 ghost use mathlib.Core.Path.{_≡_};
 ghost use mathlib.Core.List.{List};
 ghost use Prim.Native.Nat.{ℕ, _≤_, _<_};
 ghost use lib.ListN.{length, getD};
 ghost use Rattle.net.specs.Net.{Arc};
-ghost use Rattle.net.specs.Tables.{over, RowHolds, ArcTold, ArcRoom, ArcsTold, ArcsRoom};
+ghost use Rattle.net.specs.Tables.{over, RowHolds, arcStopped, ArcTold, ArcRoom, ArcsTold, ArcsRoom};
 
 // One step over the arcs: the arc's slot, the variables in its expression, and the place after it.
 pub enum ArcStep {
     Done,
     More { slot: usize, uses: u32, next: usize },
     Stop { number: u8, place: usize },
+}
+
+// A fault's number and place.
+fn stop(number: u8, place: usize) -> ArcStep
+    ensures { λ r. ⌜ r ≡ ArcStep.Stop number place ⌝ }
+{
+    ArcStep::Stop { number, place }
+}
+
+// The fault of an expression; a whole one stops nothing.
+fn stopped(e: Read) -> ArcStep
+    ensures { λ r. ⌜ r ≡ arcStopped e ⌝ }
+{
+    match e {
+        Read::Fault { number, place } => ArcStep::Stop { number, place },
+        Read::Whole {
+            next: _,
+            set: _,
+            uses: _,
+        } => ArcStep::Done,
+    }
 }
 
 // The arc command at a place, over places by their sets.
@@ -44,29 +66,31 @@ fn arc_at(
     if 0x18 < b {
         return ArcStep::Done;
     }
-    if s.len() <= at + 1 {
-        return ArcStep::Stop {
-            number: 2,
-            place: s.len(),
-        };
+    let next = after(s, at);
+    if s.len() < next {
+        return stop(2, s.len());
     }
     let p = s[at + 1] as usize;
     if firsts.len() <= p {
-        return ArcStep::Stop {
-            number: 5,
-            place: at,
-        };
+        return stop(5, at);
     }
     let slot = (b - 0x16) as usize * 32 + p;
     if 0 < row[slot] {
-        return ArcStep::Stop {
-            number: 9,
-            place: at,
-        };
+        return stop(9, at);
     }
-    match read_expression(s, sizes, vars, firsts[p], seconds[p], 16, at + 2) {
-        Read::Fault { number, place } => ArcStep::Stop { number, place },
-        Read::Whole { next, set: _, uses } => ArcStep::More { slot, uses, next },
+    let e = read_expression(s, sizes, vars, firsts[p], seconds[p], 16, next);
+    let Read::Whole {
+        next: end,
+        set: _,
+        uses,
+    } = e
+    else {
+        return stopped(e);
+    };
+    ArcStep::More {
+        slot,
+        uses,
+        next: end,
     }
 }
 
