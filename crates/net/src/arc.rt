@@ -1,6 +1,7 @@
 // The arcs of a transition: where each arc's expression stands goes into a row of 96 slots, 32 a kind.
 use crate::Read;
 use crate::clear::clear_words;
+use crate::fault;
 use crate::read_expression;
 use crate::table::after;
 ghost use mathlib.Core.Path.{_≡_};
@@ -94,13 +95,7 @@ fn arc_at(
     }
 }
 
-// The variables in the arcs' expressions and the place after the arcs; or the first fault.
-pub enum Gathered {
-    Whole { uses: u32, next: usize },
-    Fault { number: u8, place: usize },
-}
-
-// The arcs of one transition.
+// The arcs of one transition: the place after them and the variables in their expressions; or the first fault.
 pub fn read_arcs(
     s: &[u8],
     sizes: &[u8],
@@ -109,7 +104,7 @@ pub fn read_arcs(
     seconds: &[u8],
     row: &mut [u16],
     start: usize,
-) -> Gathered
+) -> Read
     requires { ⌜ length (now s) ≤ 16384 ⌝ }
     requires { ⌜ length (now vars) ≤ 32 ⌝ }
     requires { ⌜ length (now firsts) ≤ 32 ⌝ }
@@ -124,10 +119,14 @@ pub fn read_arcs(
     loop {
         match arc_at(s, sizes, vars, firsts, seconds, row, at) {
             ArcStep::Done => {
-                return Gathered::Whole { uses, next: at };
+                return Read::Whole {
+                    next: at,
+                    set: 0,
+                    uses,
+                };
             }
             ArcStep::Stop { number, place } => {
-                return Gathered::Fault { number, place };
+                return fault(number, place);
             }
             ArcStep::More {
                 slot,
