@@ -117,7 +117,7 @@ module _ (s sizes vars f g : List ℕ) (next : ℕ) {guard : Read} (of-guard : (
 
         module _ (space : ℕ) (closed : Read)
             (of-end : (places : List Place) (transitions : List Transition) (t : Transition) → bitOr used uses ≡ bits (λ v. inTransition v t) 32
-                → bindingSpace (net sizes vars places [] []) transitions ≡ space → ClosedTold s (net sizes vars places [] []) transitions at t last closed)
+            → bindingSpace (net sizes vars places [] []) transitions ≡ space → ClosedTold s (net sizes vars places [] []) transitions at t last closed)
             (transitions : List Transition) (so-far : bindingSpace (over sizes vars f g) transitions ≡ space) where
           told-end : ClosedTold s (over sizes vars f g) transitions at (record { guard = heard-guard .value; arcs = heard-arcs .arcs }) last closed
           told-end = of-end (placesOf f g) transitions (record { guard = heard-guard .value; arcs = heard-arcs .arcs }) (variables-joined s (over sizes vars f g) transitions at next heard-guard heard-arcs) so-far
