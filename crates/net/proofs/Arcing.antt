@@ -1,7 +1,7 @@
 -- How arcs are read, and where the loop over them stands. Assumes nothing.
 use mathlib.Core.Path.{_≡_, refl, sym, ap, fun-ext, _∙_}
 use mathlib.Core.Bool.{Bool, true, false, _&&_, _||_}
-use Prim.Native.Nat.{_≤_, _<_}
+use Prim.Native.Nat.{_≤_, _<_, _-_}
 use native.Mathlib.Omega.{arith}
 use borrow.Author.Tests.{lt-ltb, le-ltb, eq-eqb, ne-eqb, eqb-true, eqb-false}
 use lib.Bits.{bitOr}
@@ -11,8 +11,8 @@ use Rattle.reading.specs.Basics.{ℕ, zero, suc, _+_, _*_, List, [], _∷_, Opt
 use Rattle.reading.specs.Reading.{Answer, fine, fault, under, whole}
 use Rattle.reading.proofs.Commands.{end, other, passes, done, fails, later, standing-past, standing-none, stands-cut, stands-fails, stands-goes, both-hold, first-fails, second-fails}
 use Rattle.reading.proofs.Parts.{Reading, begins, goes-on, ends, stops}
-use Rattle.net.specs.Net.{Expression, Place, single, Arc, Net, placeAt, arcOn, ceiling, inExpression}
-use Rattle.net.specs.Reader.{arcPart, readExpression}
+use Rattle.net.specs.Net.{Expression, Place, single, Arc, Net, net, placeAt, arcOn, ceiling, inExpression}
+use Rattle.net.specs.Reader.{widthOf, arcPart, readExpression}
 use Rattle.net.specs.Told.{bits, told, placeOf, expressionTold}
 use Rattle.net.specs.Tables.{placesOf, over, Standing, Slot, RowHolds, ArcRead, ArcTold, ArcRoom, ArcsRead}
 use Rattle.net.specs.declared.Read.{Read}
@@ -263,14 +263,52 @@ module _ {s : List ℕ} {n : Net} {start : ℕ} {row : List ℕ} {uses at : ℕ}
             used = joined x (here .used) (h .used);
           }
 
--- the place of an arc, by its sets in two lists
-module _ (s sizes vars f g : List ℕ) (even : length g ≡ length f) (p : ℕ) (lt : p < length f) where
-  pub known-place : p < length (placesOf f g)
-  known-place = rw (length-places f g (sym even)) lt
+-- ---- a step of the code, over places by their sets in two lists
+module _ (s : List ℕ) (at : ℕ) (low : 0x16 ≤ byteAt s at) (high : byteAt s at ≤ 0x18) where
+  kind-is : byteAt s at - 0x16 < 3
+  kind-is = omega arith
 
-  pub told-place : (at : ℕ) {r : Read} → r ≡ expressionTold (readExpression s (over sizes vars f g) (placeOf (getD f p 0) (getD g p 0)) 16 at)
-      → r ≡ expressionTold (readExpression s (over sizes vars f g) (placeAt (over sizes vars f g) p) 16 at)
-  told-place at e = rw (place-at f g p lt even) e
+  stands-there : byteAt s at ≡ 0x16 + (byteAt s at - 0x16)
+  stands-there = omega arith
+
+  -- the place after the command
+  pub after-arc : {next : ℕ} → ((w : ℕ) → widthOf (byteAt s at) ≡ some w → next ≡ at + (1 + w)) → next ≡ at + 2
+  unfolding commands
+  after-arc {next} is-next =
+      by-kind (λ k. byteAt s at ≡ 0x16 + k → next ≡ at + 2) (byteAt s at - 0x16) kind-is (λ e. is-next 1 (ap widthOf e)) (λ e. is-next 1 (ap widthOf e)) (λ e. is-next 1 (ap widthOf e)) stands-there
+
+module _ (s sizes vars f g row : List ℕ) (at : ℕ) (even : length g ≡ length f) (low : 0x16 ≤ byteAt s at) (high : byteAt s at ≤ 0x18) {next : ℕ} (is-next : next ≡ at + 2) where
+  pub step-cut : length s < next → (arcs : List Arc) → arcPart s (over sizes vars f g) arcs at ≡ some (fault 2 (length s))
+  step-cut lt arcs = arcs-cut s (over sizes vars f g) arcs at (byteAt s at - 0x16) (kind-is s at low high) (stands-there s at low high) (rw is-next at lt)
+
+  module _ (whole-there : next ≤ length s) where
+    pub step-no-place : length f ≤ byteAt s (at + 1) → (arcs : List Arc) → arcPart s (over sizes vars f g) arcs at ≡ some (fault 5 at)
+    step-no-place le arcs =
+        arcs-no-place s (over sizes vars f g) arcs at (byteAt s at - 0x16) (kind-is s at low high) (stands-there s at low high) (rw is-next at whole-there) (byteAt s (at + 1)) refl (rw (length-places f g (sym even)) le)
+
+    module _ (lt : byteAt s (at + 1) < length f) where
+      known-place : byteAt s (at + 1) < length (placesOf f g)
+      known-place = rw (length-places f g (sym even)) lt
+
+      pub step-again : 0 < getD row ((byteAt s at - 0x16) * 32 + byteAt s (at + 1)) 0 → (arcs : List Arc) → RowHolds s (over sizes vars f g) arcs (λ i. getD row i 0) → arcPart s (over sizes vars f g) arcs at ≡ some (fault 9 at)
+      step-again full arcs holds = arc-again s (over sizes vars f g) arcs at row holds (byteAt s at - 0x16) (kind-is s at low high) (stands-there s at low high) (rw is-next at whole-there) (byteAt s (at + 1)) refl known-place full
+
+      module _ (free : getD row ((byteAt s at - 0x16) * 32 + byteAt s (at + 1)) 0 ≡ 0) {r : Read}
+          (e : (places : List Place) → r ≡ expressionTold (readExpression s (net sizes vars places [] []) (placeOf (getD f (byteAt s (at + 1)) 0) (getD g (byteAt s (at + 1)) 0)) 16 next)) where
+        told-there : r ≡ expressionTold (readExpression s (over sizes vars f g) (placeAt (over sizes vars f g) (byteAt s (at + 1))) 16 (at + 2))
+        told-there = rw (place-at f g (byteAt s (at + 1)) lt even) (rw is-next at (e (placesOf f g)))
+
+        pub step-fault : {k p : ℕ} → r ≡ read.Fault k p → (arcs : List Arc) → RowHolds s (over sizes vars f g) arcs (λ i. getD row i 0) → arcPart s (over sizes vars f g) arcs at ≡ some (fault k p)
+        step-fault q arcs holds =
+            arc-fault s (over sizes vars f g) arcs at row holds (byteAt s at - 0x16) (kind-is s at low high) (stands-there s at low high) (rw is-next at whole-there) (byteAt s (at + 1)) refl known-place free (sym q ∙ told-there)
+
+        pub step-read : {end m uses : ℕ} → r ≡ read.Whole end m uses → (arcs : List Arc) → RowHolds s (over sizes vars f g) arcs (λ i. getD row i 0)
+            → ArcRead s (over sizes vars f g) arcs at row ((byteAt s at - 0x16) * 32 + byteAt s (at + 1)) uses end
+        step-read q arcs holds =
+            arc-read s (over sizes vars f g) arcs at row holds (byteAt s at - 0x16) (kind-is s at low high) (stands-there s at low high) (rw is-next at whole-there) (byteAt s (at + 1)) refl known-place free (sym q ∙ told-there)
+
+        pub step-within : {end m uses : ℕ} → r ≡ read.Whole end m uses → (at + 2 < end) × (end ≤ length s)
+        step-within q = expression-within s (over sizes vars f g) (placeAt (over sizes vars f g) (byteAt s (at + 1))) 16 (at + 2) (sym q ∙ told-there)
 
 -- ---- for callers: what a slot says of the arc of a kind on a place
 pub record ArcThere (s : List ℕ) (n : Net) (arcs : List Arc) (k p at : ℕ) : Type 0 where

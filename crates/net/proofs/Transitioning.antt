@@ -10,17 +10,18 @@ use lib.Seq.{length-take-le, getD-append-add, getD-take}
 use Rattle.reading.specs.Basics.{ℕ, _+_, _*_, List, [], _∷_, _++_, Option, some, none, Option·map, given, if_then_else_, length, getD, take, drop, with, any, eqb, ltb, byteAt}
 use Rattle.reading.specs.Reading.{Answer, fine, fault, standing, whole}
 use Rattle.reading.proofs.Commands.{past, end, other, passes, done, fails, standing-past, standing-none, stands-fails, stands-goes}
-use Rattle.net.specs.Net.{Guard, always, Arc, Transition, Net, placeAt, arcOn, variablesOf, bindingSpace, inGuard}
-use Rattle.net.specs.Reader.{command, readGuard, readGuardIf, readExpression, arcPart, ended, transitionPart}
-use Rattle.net.specs.Told.{bits}
-use Rattle.net.specs.Tables.{RowHolds, ArcsRead, guardPlace, GuardHolds, inTransition, inside, TransitionRead, TransitionTold, TransitionFew}
+use Rattle.net.specs.Net.{Guard, always, Arc, Transition, Place, Net, net, placeAt, arcOn, variablesOf, bindingSpace, inGuard}
+use Rattle.net.specs.Reader.{widthOf, command, readGuard, readGuardIf, readExpression, arcPart, ended, transitionPart}
+use Rattle.net.specs.Told.{bits, guardTold}
+use Rattle.net.specs.Tables.{placesOf, over, RowHolds, ArcsRead, ArcsTold, guardPlace, GuardHolds, inTransition, ClosedTold, inside, TransitionRead, TransitionTold, TransitionFew}
 use Rattle.net.specs.declared.transition.TransitionStep.{TransitionStep}
 use Rattle.net.specs.declared.transition.TransitionStep.the-variants.{Done, More, Stop}
+use Rattle.net.specs.declared.Read.{Read}
 use Rattle.net.specs.declared.Read.the-variants as read
 use Rattle.net.proofs.Shut.{commands}
 use Rattle.net.proofs.Answers.{bits-or}
 use Rattle.net.proofs.Inside.{guard-ends}
-use Rattle.net.proofs.Arcing.{Heard, slot-is}
+use Rattle.net.proofs.Arcing.{Heard, heard, heard-fault, slot-is}
 
 -- a byte that is not 0 stands in the file
 pub stands-in : (s : List ℕ) (p b : ℕ) → 0 < b → byteAt s p ≡ b → p < length s
@@ -66,33 +67,67 @@ module _ (s : List ℕ) (n : Net) (p : ℕ) where
       go false q = let f = guard-none (eqb-false (byteAt s p) 0x15 q) in let z : p ≡ next = cc in (omega arith, omega arith)
 
 -- ---- the whole transition
-module _ (s : List ℕ) (n : Net) (transitions : List Transition) (at : ℕ) where
-  pub guard-faults : {k p : ℕ} → readGuardIf s n (at + 1) ≡ fault k p → some (inside s n transitions at) ≡ some (fault k p)
+module _ (s : List ℕ) (n : Net) (transitions : List Transition) (at next : ℕ) where
+  guard-faults : {k p : ℕ} → readGuardIf s n next ≡ fault k p → some (inside s n transitions at next) ≡ some (fault k p)
   guard-faults e = rw e
 
-  module _ {more used : ℕ} (g : Heard inGuard (readGuardIf s n (at + 1)) more used) where
-    pub arcs-fault : {k p : ℕ} → fault k p ≡ whole s (arcPart s n) [] more → some (inside s n transitions at) ≡ some (fault k p)
+  module _ {more used : ℕ} (g : Heard inGuard (readGuardIf s n next) more used) where
+    arcs-fault : {k p : ℕ} → fault k p ≡ whole s (arcPart s n) [] more → some (inside s n transitions at next) ≡ some (fault k p)
     arcs-fault e = rw (g .is, ← e)
 
     module _ {row : List ℕ} {uses last : ℕ} (a : ArcsRead s n more row uses last) where
-      pub variables-joined : bitOr used uses ≡ bits (λ v. inTransition v (record { guard = g .value; arcs = a .arcs })) 32
+      variables-joined : bitOr used uses ≡ bits (λ v. inTransition v (record { guard = g .value; arcs = a .arcs })) 32
       variables-joined = rw (g .used, a .used, bits-or)
 
-      ends-by : inside s n transitions at ≡ ended s n transitions at (record { guard = g .value; arcs = a .arcs }) last
+      ends-by : inside s n transitions at next ≡ ended s n transitions at (record { guard = g .value; arcs = a .arcs }) last
       ends-by = rw (g .is, ← a .read)
 
-      pub end-faults : {k p : ℕ} → ended s n transitions at (record { guard = g .value; arcs = a .arcs }) last ≡ fault k p → some (inside s n transitions at) ≡ some (fault k p)
+      end-faults : {k p : ℕ} → ended s n transitions at (record { guard = g .value; arcs = a .arcs }) last ≡ fault k p → some (inside s n transitions at next) ≡ some (fault k p)
       end-faults e = ap some (ends-by ∙ e)
 
-      pub transition-read : {space : ℕ} → ended s n transitions at (record { guard = g .value; arcs = a .arcs }) last ≡ fine (with transitions (record { guard = g .value; arcs = a .arcs })) last
+      transition-read : {space : ℕ} → ended s n transitions at (record { guard = g .value; arcs = a .arcs }) last ≡ fine (with transitions (record { guard = g .value; arcs = a .arcs })) last
           → bindingSpace n (with transitions (record { guard = g .value; arcs = a .arcs })) ≡ space → length (variablesOf n (record { guard = g .value; arcs = a .arcs })) ≤ 4
-          → TransitionRead s n transitions (some (inside s n transitions at)) (λ i. getD row i 0) (guardPlace s (at + 1)) (bitOr used uses) space last
+          → TransitionRead s n transitions (some (inside s n transitions at next)) (λ i. getD row i 0) (guardPlace s next) (bitOr used uses) space last
       transition-read e f h = record {
         transition = record { guard = g .value; arcs = a .arcs };
         goes = ap some (ends-by ∙ e);
-        holds = record { guarded = guard-holds s n (at + 1) (g .value) more (g .is); arced = a .holds; used = variables-joined; few = h };
+        holds = record { guarded = guard-holds s n next (g .value) more (g .is); arced = a .holds; used = variables-joined; few = h };
         wide = f;
       }
+
+-- ---- a transition by what the code's calls tell: of its guard, of its arcs, and of its end
+module _ (s sizes vars f g : List ℕ) (next : ℕ) {guard : Read} (of-guard : (places : List Place) → guard ≡ guardTold (readGuardIf s (net sizes vars places [] []) next)) where
+  pub stops-in-guard : (at : ℕ) {k p : ℕ} → guard ≡ read.Fault k p → (transitions : List Transition) → some (inside s (over sizes vars f g) transitions at next) ≡ some (fault k p)
+  stops-in-guard at q transitions = guard-faults s (over sizes vars f g) transitions at next (heard-fault (λ g. 0) inGuard (readGuardIf s (over sizes vars f g) next) (sym q ∙ of-guard (placesOf f g)))
+
+  module _ {more m used : ℕ} (whole-guard : guard ≡ read.Whole more m used) where
+    heard-guard : Heard inGuard (readGuardIf s (over sizes vars f g) next) more used
+    heard-guard = heard (λ g. 0) inGuard (readGuardIf s (over sizes vars f g) next) (sym whole-guard ∙ of-guard (placesOf f g))
+
+    pub guard-inside : next ≤ length s → (next ≤ more) × (more ≤ length s)
+    guard-inside le = guard-within s (over sizes vars f g) next (heard-guard .value) more (heard-guard .is) le
+
+    module _ (row : List ℕ) (arcs : Read) (of-arcs : ArcsTold s (over sizes vars f g) more row arcs) (at : ℕ) where
+      pub stops-in-arcs : {k p : ℕ} → arcs ≡ read.Fault k p → (transitions : List Transition) → some (inside s (over sizes vars f g) transitions at next) ≡ some (fault k p)
+      stops-in-arcs q transitions = arcs-fault s (over sizes vars f g) transitions at next heard-guard (rw q at of-arcs)
+
+      module _ {last l uses : ℕ} (whole-arcs : arcs ≡ read.Whole last l uses) where
+        heard-arcs : ArcsRead s (over sizes vars f g) more row uses last
+        heard-arcs = rw whole-arcs at of-arcs
+
+        module _ (space : ℕ) (closed : Read)
+            (of-end : (places : List Place) (transitions : List Transition) (t : Transition) → bitOr used uses ≡ bits (λ v. inTransition v t) 32
+            → bindingSpace (net sizes vars places [] []) transitions ≡ space → ClosedTold s (net sizes vars places [] []) transitions at t last closed)
+            (transitions : List Transition) (so-far : bindingSpace (over sizes vars f g) transitions ≡ space) where
+          told-end : ClosedTold s (over sizes vars f g) transitions at (record { guard = heard-guard .value; arcs = heard-arcs .arcs }) last closed
+          told-end = of-end (placesOf f g) transitions (record { guard = heard-guard .value; arcs = heard-arcs .arcs }) (variables-joined s (over sizes vars f g) transitions at next heard-guard heard-arcs) so-far
+
+          pub stops-at-end : {k p : ℕ} → closed ≡ read.Fault k p → some (inside s (over sizes vars f g) transitions at next) ≡ some (fault k p)
+          stops-at-end q = end-faults s (over sizes vars f g) transitions at next heard-guard heard-arcs (rw q at told-end)
+
+          pub reads-whole : {end total u : ℕ} → closed ≡ read.Whole end total u
+              → TransitionRead s (over sizes vars f g) transitions (some (inside s (over sizes vars f g) transitions at next)) (λ i. getD row i 0) (guardPlace s next) (bitOr used uses) total last
+          reads-whole q = let k = rw q at told-end in transition-read s (over sizes vars f g) transitions at next heard-guard heard-arcs (k .0) (k .1) (k .2)
 
 -- ---- the command
 module _ (s : List ℕ) (n : Net) (transitions : List Transition) (at : ℕ) where
@@ -109,9 +144,19 @@ module _ (s : List ℕ) (n : Net) (transitions : List Transition) (at : ℕ) whe
     unfolding commands transitionPart
     transitions-full le = stands-fails _ _ 0x14 _ stands refl there (fails (le-ltb (length transitions) 32 le))
 
-    pub transitions-go : length transitions < 32 → transitionPart s n transitions at ≡ some (inside s n transitions at)
+    pub transitions-go : {next : ℕ} → next ≡ at + 1 → length transitions < 32 → transitionPart s n transitions at ≡ some (inside s n transitions at next)
     unfolding commands transitionPart
-    transitions-go lt = stands-goes _ _ 0x14 _ stands refl there (passes (lt-ltb (length transitions) 32 lt) done)
+    transitions-go is-next lt = rw is-next (stands-goes _ _ 0x14 _ stands refl there (passes (lt-ltb (length transitions) 32 lt) done))
+
+-- the place after 0x14, and after the 0x15 before a guard
+module _ (s : List ℕ) (at : ℕ) {next : ℕ} (is-next : (w : ℕ) → widthOf (byteAt s at) ≡ some w → next ≡ at + (1 + w)) where
+  pub after-transition : byteAt s at ≡ 0x14 → next ≡ at + 1
+  unfolding commands
+  after-transition e = is-next 0 (ap widthOf e)
+
+  pub after-mark : byteAt s at ≡ 0x15 → next ≡ at + 1
+  unfolding commands
+  after-mark e = is-next 0 (ap widthOf e)
 
 pub few-of : (count : ℕ) (r : TransitionStep) → count < 32 → TransitionFew count r
 few-of count Done lt = tt

@@ -6,18 +6,16 @@ use Rattle.reading.specs.Reading.{Answer, fine, fault, _andThen_, whole}
 use Rattle.net.specs.Net.{Guard, always, Expression, Place, Arc, Transition, Tokens, Net, net, coloursOf, placeAt, arcOn, tokensOn, inGuard, inExpression, variablesOf, bindingSpace}
 use Rattle.net.specs.Reader.{readGuard, readGuardIf, readExpression, arcPart, ended, transitionPart, tokensPart}
 use Rattle.net.specs.Told.{bits, placeOf}
+use Rattle.net.specs.declared.Read.{Read}
+use Rattle.net.specs.declared.Read.the-variants as read
 use Rattle.net.specs.declared.PlaceStep.{PlaceStep}
 use Rattle.net.specs.declared.PlaceStep.the-variants as place-step
 use Rattle.net.specs.declared.Part.{Part}
 use Rattle.net.specs.declared.Part.the-variants as part
 use Rattle.net.specs.declared.arc.ArcStep.{ArcStep}
 use Rattle.net.specs.declared.arc.ArcStep.the-variants as arc-step
-use Rattle.net.specs.declared.arc.Gathered.{Gathered}
-use Rattle.net.specs.declared.arc.Gathered.the-variants as gathered
 use Rattle.net.specs.declared.token.TokenStep.{TokenStep}
 use Rattle.net.specs.declared.token.TokenStep.the-variants as token-step
-use Rattle.net.specs.declared.transition.Closed.{Closed}
-use Rattle.net.specs.declared.transition.Closed.the-variants as closed
 use Rattle.net.specs.declared.transition.TransitionStep.{TransitionStep}
 use Rattle.net.specs.declared.transition.TransitionStep.the-variants as transition-step
 
@@ -145,6 +143,11 @@ ArcTold s n arcs at row arc-step.Done = arcPart s n arcs at ≡ none
 ArcTold s n arcs at row (arc-step.More slot uses next) = ArcRead s n arcs at row slot uses next
 ArcTold s n arcs at row (arc-step.Stop number place) = arcPart s n arcs at ≡ some (fault number place)
 
+-- the fault of an expression stops the arcs
+abbrev pub arcStopped : Read → ArcStep
+arcStopped (read.Whole next ceiling uses) = arc-step.Done
+arcStopped (read.Fault number place) = arc-step.Stop number place
+
 abbrev pub ArcRoom : ℕ → ℕ → ArcStep → Type 0
 ArcRoom len at arc-step.Done = Unit {0}
 ArcRoom len at (arc-step.More slot uses next) = (slot < 96) × (at + 2 < next) × (next ≤ len)
@@ -157,13 +160,13 @@ pub record ArcsRead (s : List ℕ) (n : Net) (start : ℕ) (row : List ℕ) (use
   pub holds : RowHolds s n arcs (λ i. getD row i 0)
   pub used : uses ≡ bits (λ v. any (λ a. inExpression v (a .expression)) arcs) 32
 
-abbrev pub ArcsTold : List ℕ → Net → ℕ → List ℕ → Gathered → Type 0
-ArcsTold s n start row (gathered.Whole uses next) = ArcsRead s n start row uses next
-ArcsTold s n start row (gathered.Fault number place) = fault number place ≡ whole s (arcPart s n) [] start
+abbrev pub ArcsTold : List ℕ → Net → ℕ → List ℕ → Read → Type 0
+ArcsTold s n start row (read.Whole next set uses) = ArcsRead s n start row uses next
+ArcsTold s n start row (read.Fault number place) = fault number place ≡ whole s (arcPart s n) [] start
 
-abbrev pub ArcsRoom : ℕ → ℕ → Gathered → Type 0
-ArcsRoom len start (gathered.Whole uses next) = (start ≤ next) × (start ≤ len → next ≤ len)
-ArcsRoom len start (gathered.Fault number place) = Unit {0}
+abbrev pub ArcsRoom : ℕ → ℕ → Read → Type 0
+ArcsRoom len start (read.Whole next set uses) = (start ≤ next) × (start ≤ len → next ≤ len)
+ArcsRoom len start (read.Fault number place) = Unit {0}
 
 -- ---- transitions
 -- whether a number is in a set that is kept as bits; those below n that are
@@ -200,19 +203,19 @@ pub record TransitionHolds (s : List ℕ) (n : Net) (t : Transition) (guard uses
   pub few : length (variablesOf n t) ≤ 4
 
 -- a transition that ends: the binding space with it, or the fault
-abbrev pub ClosedTold : List ℕ → Net → List Transition → ℕ → Transition → ℕ → Closed → Type 0
-ClosedTold s n transitions at t end (closed.Whole space) =
+abbrev pub ClosedTold : List ℕ → Net → List Transition → ℕ → Transition → ℕ → Read → Type 0
+ClosedTold s n transitions at t end (read.Whole next space uses) =
     (ended s n transitions at t end ≡ fine (with transitions t) end) × (bindingSpace n (with transitions t) ≡ space) × (length (variablesOf n t) ≤ 4)
-ClosedTold s n transitions at t end (closed.Fault number place) = ended s n transitions at t end ≡ fault number place
+ClosedTold s n transitions at t end (read.Fault number place) = ended s n transitions at t end ≡ fault number place
 
-abbrev pub ClosedRoom : Closed → Type 0
-ClosedRoom (closed.Whole space) = space ≤ 65536
-ClosedRoom (closed.Fault number place) = Unit {0}
+abbrev pub ClosedRoom : Read → Type 0
+ClosedRoom (read.Whole next space uses) = space ≤ 65536
+ClosedRoom (read.Fault number place) = Unit {0}
 
--- a transition after its 0x14: its guard, its arcs, and its end
-abbrev pub inside : List ℕ → Net → List Transition → ℕ → Answer (List Transition)
-inside s n transitions at =
-    readGuardIf s n (at + 1) andThen λ guard more.
+-- a transition after its 0x14, from next on: its guard, its arcs, and its end
+abbrev pub inside : List ℕ → Net → List Transition → ℕ → ℕ → Answer (List Transition)
+inside s n transitions at next =
+    readGuardIf s n next andThen λ guard more.
     whole s (arcPart s n) [] more andThen λ arcs end.
     ended s n transitions at (record { guard = guard; arcs = arcs }) end
 
@@ -227,6 +230,11 @@ abbrev pub TransitionTold : List ℕ → Net → List Transition → Option (Ans
 TransitionTold s n transitions x slot transition-step.Done = x ≡ none
 TransitionTold s n transitions x slot (transition-step.More guard uses space next) = TransitionRead s n transitions x slot guard uses space next
 TransitionTold s n transitions x slot (transition-step.Stop number place) = x ≡ some (fault number place)
+
+-- a fault of what is read stops the transitions
+abbrev pub transitionStopped : Read → TransitionStep
+transitionStopped (read.Whole next set uses) = transition-step.Done
+transitionStopped (read.Fault number place) = transition-step.Stop number place
 
 abbrev pub TransitionRoom : ℕ → ℕ → TransitionStep → Type 0
 TransitionRoom len at transition-step.Done = Unit {0}

@@ -1,19 +1,42 @@
 // The arcs of a transition: where each arc's expression stands goes into a row of 96 slots, 32 a kind.
 use crate::Read;
 use crate::clear::clear_words;
+use crate::fault;
 use crate::read_expression;
+use crate::table::after;
 ghost use mathlib.Core.Path.{_≡_};
 ghost use mathlib.Core.List.{List};
 ghost use Prim.Native.Nat.{ℕ, _≤_, _<_};
 ghost use lib.ListN.{length, getD};
 ghost use Rattle.net.specs.Net.{Arc};
-ghost use Rattle.net.specs.Tables.{over, RowHolds, ArcTold, ArcRoom, ArcsTold, ArcsRoom};
+ghost use Rattle.net.specs.Tables.{over, RowHolds, arcStopped, ArcTold, ArcRoom, ArcsTold, ArcsRoom};
 
 // One step over the arcs: the arc's slot, the variables in its expression, and the place after it.
 pub enum ArcStep {
     Done,
     More { slot: usize, uses: u32, next: usize },
     Stop { number: u8, place: usize },
+}
+
+// A fault's number and place.
+fn stop(number: u8, place: usize) -> ArcStep
+    ensures { λ r. ⌜ r ≡ ArcStep.Stop number place ⌝ }
+{
+    ArcStep::Stop { number, place }
+}
+
+// The fault of an expression; a whole one stops nothing.
+fn stopped(e: Read) -> ArcStep
+    ensures { λ r. ⌜ r ≡ arcStopped e ⌝ }
+{
+    match e {
+        Read::Fault { number, place } => ArcStep::Stop { number, place },
+        Read::Whole {
+            next: _,
+            set: _,
+            uses: _,
+        } => ArcStep::Done,
+    }
 }
 
 // The arc command at a place, over places by their sets.
@@ -44,39 +67,35 @@ fn arc_at(
     if 0x18 < b {
         return ArcStep::Done;
     }
-    if s.len() <= at + 1 {
-        return ArcStep::Stop {
-            number: 2,
-            place: s.len(),
-        };
+    let next = after(s, at);
+    if s.len() < next {
+        return stop(2, s.len());
     }
     let p = s[at + 1] as usize;
     if firsts.len() <= p {
-        return ArcStep::Stop {
-            number: 5,
-            place: at,
-        };
+        return stop(5, at);
     }
     let slot = (b - 0x16) as usize * 32 + p;
     if 0 < row[slot] {
-        return ArcStep::Stop {
-            number: 9,
-            place: at,
-        };
+        return stop(9, at);
     }
-    match read_expression(s, sizes, vars, firsts[p], seconds[p], 16, at + 2) {
-        Read::Fault { number, place } => ArcStep::Stop { number, place },
-        Read::Whole { next, set: _, uses } => ArcStep::More { slot, uses, next },
+    let e = read_expression(s, sizes, vars, firsts[p], seconds[p], 16, next);
+    let Read::Whole {
+        next: end,
+        set: _,
+        uses,
+    } = e
+    else {
+        return stopped(e);
+    };
+    ArcStep::More {
+        slot,
+        uses,
+        next: end,
     }
 }
 
-// The variables in the arcs' expressions and the place after the arcs; or the first fault.
-pub enum Gathered {
-    Whole { uses: u32, next: usize },
-    Fault { number: u8, place: usize },
-}
-
-// The arcs of one transition.
+// The arcs of one transition: the place after them and the variables in their expressions; or the first fault.
 pub fn read_arcs(
     s: &[u8],
     sizes: &[u8],
@@ -85,7 +104,7 @@ pub fn read_arcs(
     seconds: &[u8],
     row: &mut [u16],
     start: usize,
-) -> Gathered
+) -> Read
     requires { ⌜ length (now s) ≤ 16384 ⌝ }
     requires { ⌜ length (now vars) ≤ 32 ⌝ }
     requires { ⌜ length (now firsts) ≤ 32 ⌝ }
@@ -100,10 +119,14 @@ pub fn read_arcs(
     loop {
         match arc_at(s, sizes, vars, firsts, seconds, row, at) {
             ArcStep::Done => {
-                return Gathered::Whole { uses, next: at };
+                return Read::Whole {
+                    next: at,
+                    set: 0,
+                    uses,
+                };
             }
             ArcStep::Stop { number, place } => {
-                return Gathered::Fault { number, place };
+                return fault(number, place);
             }
             ArcStep::More {
                 slot,

@@ -1,6 +1,8 @@
 // Reads arc expressions.
 use crate::Read;
+use crate::fault;
 use crate::read_colour;
+use crate::table::after;
 use reading::word_at;
 ghost use mathlib.Core.Path.{_≡_};
 ghost use mathlib.Core.List.{List, []};
@@ -15,17 +17,25 @@ ghost use Rattle.net.specs.Told.{expressionTold, placeOf};
 ghost use Rattle.net.specs.Evaluated.{Small, measured, joins};
 
 // A count of one colour, of the place's set; else the fault is at the command.
-fn one_at(s: &[u8], sizes: &[u8], vars: &[u8], set: u8, count: u32, left: u8, at: usize) -> Read
+fn one_at(
+    s: &[u8],
+    sizes: &[u8],
+    vars: &[u8],
+    set: u8,
+    count: u32,
+    left: u8,
+    at: usize,
+    next: usize,
+) -> Read
     requires { ⌜ length (now vars) ≤ 32 ⌝ }
-    requires { ⌜ at < length (now s) ⌝ }
     requires { ⌜ count ≤ 65535 ⌝ }
     ensures is { λ r. ⌜ ((places : List Place) → r ≡ expressionTold (amount (net (now (sizes .entry)) (now (vars .entry)) places [] [])
-        (readColour (now (s .entry)) (net (now (sizes .entry)) (now (vars .entry)) places [] []) left) (single set) count at (at + 3))) ⌝ }
+        (readColour (now (s .entry)) (net (now (sizes .entry)) (now (vars .entry)) places [] []) left) (single set) count at next)) ⌝ }
     ensures small { λ r. ⌜ Small r ⌝ }
 {
-    let a = read_colour(s, sizes, vars, left, at + 3);
+    let a = read_colour(s, sizes, vars, left, next);
     let Read::Whole {
-        next,
+        next: end,
         set: found,
         uses,
     } = a
@@ -34,15 +44,12 @@ fn one_at(s: &[u8], sizes: &[u8], vars: &[u8], set: u8, count: u32, left: u8, at
     };
     if found == set as u32 {
         return Read::Whole {
-            next,
+            next: end,
             set: count,
             uses,
         };
     }
-    Read::Fault {
-        number: 6,
-        place: at,
-    }
+    fault(6, at)
 }
 
 // A count of two colours, one of each of the place's sets.
@@ -55,15 +62,15 @@ fn two_at(
     count: u32,
     left: u8,
     at: usize,
+    next: usize,
 ) -> Read
     requires { ⌜ length (now vars) ≤ 32 ⌝ }
-    requires { ⌜ at < length (now s) ⌝ }
     requires { ⌜ count ≤ 65535 ⌝ }
     ensures is { λ r. ⌜ ((places : List Place) → r ≡ expressionTold (amount (net (now (sizes .entry)) (now (vars .entry)) places [] [])
-        (readColour (now (s .entry)) (net (now (sizes .entry)) (now (vars .entry)) places [] []) left) (pair first second) count at (at + 3))) ⌝ }
+        (readColour (now (s .entry)) (net (now (sizes .entry)) (now (vars .entry)) places [] []) left) (pair first second) count at next)) ⌝ }
     ensures small { λ r. ⌜ Small r ⌝ }
 {
-    let a = read_colour(s, sizes, vars, left, at + 3);
+    let a = read_colour(s, sizes, vars, left, next);
     let Read::Whole {
         next: more,
         set: one,
@@ -74,7 +81,7 @@ fn two_at(
     };
     let b = read_colour(s, sizes, vars, left, more);
     let Read::Whole {
-        next,
+        next: end,
         set: two,
         uses: others,
     } = b
@@ -84,20 +91,14 @@ fn two_at(
     if one == first as u32 {
         if two == second as u32 {
             return Read::Whole {
-                next,
+                next: end,
                 set: count,
                 uses: uses | others,
             };
         }
-        return Read::Fault {
-            number: 6,
-            place: at,
-        };
+        return fault(6, at);
     }
-    Read::Fault {
-        number: 6,
-        place: at,
-    }
+    fault(6, at)
 }
 
 // 0x40: a count of one colour, or of two where the place has two sets.
@@ -109,18 +110,19 @@ fn amount_at(
     second: u8,
     left: u8,
     at: usize,
+    next: usize,
 ) -> Read
     requires { ⌜ length (now vars) ≤ 32 ⌝ }
     requires { ⌜ at < length (now s) ⌝ }
     ensures is { λ r. ⌜ ((places : List Place) → r ≡ expressionTold (amount (net (now (sizes .entry)) (now (vars .entry)) places [] [])
-        (readColour (now (s .entry)) (net (now (sizes .entry)) (now (vars .entry)) places [] []) left) (placeOf first second) (wordAt (now (s .entry)) (at + 1)) at (at + 3))) ⌝ }
+        (readColour (now (s .entry)) (net (now (sizes .entry)) (now (vars .entry)) places [] []) left) (placeOf first second) (wordAt (now (s .entry)) (at + 1)) at next)) ⌝ }
     ensures small { λ r. ⌜ Small r ⌝ }
 {
     let count = word_at(s, at + 1) as u32;
     if second == 255 {
-        return one_at(s, sizes, vars, first, count, left, at);
+        return one_at(s, sizes, vars, first, count, left, at, next);
     }
-    two_at(s, sizes, vars, first, second, count, left, at)
+    two_at(s, sizes, vars, first, second, count, left, at, next)
 }
 
 // A ceiling may not pass 65,535.
@@ -129,10 +131,7 @@ fn capped(ceiling: u32, next: usize, uses: u32, at: usize) -> Read
     ensures small { λ r. ⌜ Small r ⌝ }
 {
     if 65535 < ceiling {
-        return Read::Fault {
-            number: 8,
-            place: at,
-        };
+        return fault(8, at);
     }
     Read::Whole {
         next,
@@ -151,14 +150,14 @@ fn joined(
     less: bool,
     left: u8,
     at: usize,
+    next: usize,
 ) -> Read
     requires { ⌜ length (now vars) ≤ 32 ⌝ }
-    requires { ⌜ at < length (now s) ⌝ }
     ensures is { λ r. ⌜ ((places : List Place) → r ≡ expressionTold (reader.capped at
-        (twoOf (readExpression (now (s .entry)) (net (now (sizes .entry)) (now (vars .entry)) places [] []) (placeOf first second) left) (joins less) (at + 1)))) ⌝ }
+        (twoOf (readExpression (now (s .entry)) (net (now (sizes .entry)) (now (vars .entry)) places [] []) (placeOf first second) left) (joins less) next))) ⌝ }
     ensures small { λ r. ⌜ Small r ⌝ }
 {
-    let e = read_expression(s, sizes, vars, first, second, left, at + 1);
+    let e = read_expression(s, sizes, vars, first, second, left, next);
     let Read::Whole {
         next: more,
         set: one,
@@ -169,7 +168,7 @@ fn joined(
     };
     let f = read_expression(s, sizes, vars, first, second, left, more);
     let Read::Whole {
-        next,
+        next: end,
         set: two,
         uses: others,
     } = f
@@ -177,9 +176,9 @@ fn joined(
         return f;
     };
     if less {
-        return capped(one, next, uses | others, at);
+        return capped(one, end, uses | others, at);
     }
-    capped(one + two, next, uses | others, at)
+    capped(one + two, end, uses | others, at)
 }
 
 // 0x44: a factor times an expression.
@@ -191,19 +190,25 @@ fn multiplied(
     second: u8,
     left: u8,
     at: usize,
+    next: usize,
 ) -> Read
     requires { ⌜ length (now vars) ≤ 32 ⌝ }
     requires { ⌜ at < length (now s) ⌝ }
     ensures is { λ r. ⌜ ((places : List Place) → r ≡ expressionTold (reader.capped at (under (times (wordAt (now (s .entry)) (at + 1)))
-        (readExpression (now (s .entry)) (net (now (sizes .entry)) (now (vars .entry)) places [] []) (placeOf first second) left (at + 3))))) ⌝ }
+        (readExpression (now (s .entry)) (net (now (sizes .entry)) (now (vars .entry)) places [] []) (placeOf first second) left next)))) ⌝ }
     ensures small { λ r. ⌜ Small r ⌝ }
 {
     let factor = word_at(s, at + 1) as u32;
-    let a = read_expression(s, sizes, vars, first, second, left, at + 3);
-    let Read::Whole { next, set, uses } = a else {
+    let a = read_expression(s, sizes, vars, first, second, left, next);
+    let Read::Whole {
+        next: end,
+        set,
+        uses,
+    } = a
+    else {
         return a;
     };
-    capped(factor * set, next, uses, at)
+    capped(factor * set, end, uses, at)
 }
 
 // The arc expression at a place of the file, on a net's place given by its sets (second 255: it has one set), with so many levels left.
@@ -221,81 +226,34 @@ pub fn read_expression(
     ensures small { λ r. ⌜ Small r ⌝ }
 {
     if s.len() <= at {
-        return Read::Fault {
-            number: 2,
-            place: s.len(),
-        };
+        return fault(2, s.len());
     }
     let b = s[at];
+    if b < 0x40 {
+        return fault(3, at);
+    }
+    if 0x44 < b {
+        return fault(3, at);
+    }
+    let next = after(s, at);
+    if s.len() < next {
+        return fault(2, s.len());
+    }
+    if left < 1 {
+        return fault(7, at);
+    }
     if b == 0x40 {
-        if s.len() <= at + 2 {
-            return Read::Fault {
-                number: 2,
-                place: s.len(),
-            };
-        }
-        if left < 1 {
-            return Read::Fault {
-                number: 7,
-                place: at,
-            };
-        }
-        return amount_at(s, sizes, vars, first, second, left - 1, at);
+        return amount_at(s, sizes, vars, first, second, left - 1, at, next);
     }
     if b == 0x41 {
-        if s.len() <= at + 2 {
-            return Read::Fault {
-                number: 2,
-                place: s.len(),
-            };
-        }
-        if left < 1 {
-            return Read::Fault {
-                number: 7,
-                place: at,
-            };
-        }
         return Read::Whole {
-            next: at + 3,
+            next,
             set: word_at(s, at + 1) as u32,
             uses: 0,
         };
     }
-    if b == 0x42 {
-        if left < 1 {
-            return Read::Fault {
-                number: 7,
-                place: at,
-            };
-        }
-        return joined(s, sizes, vars, first, second, false, left - 1, at);
-    }
-    if b == 0x43 {
-        if left < 1 {
-            return Read::Fault {
-                number: 7,
-                place: at,
-            };
-        }
-        return joined(s, sizes, vars, first, second, true, left - 1, at);
-    }
     if b == 0x44 {
-        if s.len() <= at + 2 {
-            return Read::Fault {
-                number: 2,
-                place: s.len(),
-            };
-        }
-        if left < 1 {
-            return Read::Fault {
-                number: 7,
-                place: at,
-            };
-        }
-        return multiplied(s, sizes, vars, first, second, left - 1, at);
+        return multiplied(s, sizes, vars, first, second, left - 1, at, next);
     }
-    Read::Fault {
-        number: 3,
-        place: at,
-    }
+    joined(s, sizes, vars, first, second, b == 0x43, left - 1, at, next)
 }

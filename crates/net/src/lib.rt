@@ -51,6 +51,13 @@ pub enum Read {
     Fault { number: u8, place: usize },
 }
 
+// The fault with a number, at a place.
+pub fn fault(number: u8, place: usize) -> Read
+    ensures { λ r. ⌜ r ≡ Read.Fault number place ⌝ }
+{
+    Read::Fault { number, place }
+}
+
 // An element, or 0 past the end.
 fn entry(l: &[u8], i: usize) -> u8
     ensures { λ r. ⌜ r ≡ getD (now (l .entry)) i 0 ⌝ }

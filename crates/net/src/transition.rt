@@ -1,9 +1,10 @@
 // One transition: its guard, its arcs, and its end.
 use crate::Read;
-use crate::arc::Gathered;
 use crate::arc::read_arcs;
 use crate::entry;
+use crate::fault;
 use crate::read_guard_if;
+use crate::table::after;
 use reading::byte_at;
 ghost use mathlib.Core.Path.{_≡_};
 ghost use mathlib.Core.List.{List, []};
@@ -12,7 +13,7 @@ ghost use lib.ListN.{length, getD};
 ghost use Rattle.reading.specs.Basics.{if_then_else_};
 ghost use Rattle.net.specs.Net.{net, Place, Transition, bindingSpace};
 ghost use Rattle.net.specs.Told.{bits};
-ghost use Rattle.net.specs.Tables.{over, inSet, chosen, sizeFor, productOf, inTransition, guardPlace, ClosedTold, ClosedRoom, inside, TransitionTold, TransitionRoom, TransitionFew};
+ghost use Rattle.net.specs.Tables.{over, inSet, chosen, sizeFor, productOf, inTransition, guardPlace, ClosedTold, ClosedRoom, inside, transitionStopped, TransitionTold, TransitionRoom, TransitionFew};
 ghost use Rattle.net.specs.Reader.{transitionPart};
 ghost use mathlib.Core.Option.{some};
 
@@ -65,13 +66,7 @@ fn bindings(sizes: &[u8], vars: &[u8], set: u32) -> usize
     product
 }
 
-// The binding space with a transition that ends, or the fault at its end.
-pub enum Closed {
-    Whole { space: usize },
-    Fault { number: u8, place: usize },
-}
-
-// The end of a transition with these variables, after a binding space.
+// The end of a transition with these variables, after a binding space: the space with it in the place of a set, or the fault.
 fn close_at(
     s: &[u8],
     sizes: &[u8],
@@ -80,7 +75,7 @@ fn close_at(
     space: usize,
     at: usize,
     end: usize,
-) -> Closed
+) -> Read
     requires { ⌜ length (now vars) ≤ 32 ⌝ }
     requires { ⌜ space ≤ 65536 ⌝ }
     ensures is { λ r. ⌜ ((places : List Place) (transitions : List Transition) (t : Transition) → set ≡ bits (λ v. inTransition v t) 32
@@ -89,25 +84,20 @@ fn close_at(
     ensures room { λ r. ⌜ ClosedRoom r ⌝ }
 {
     if byte_at(s, end) == 0x15 {
-        return Closed::Fault {
-            number: 3,
-            place: end,
-        };
+        return fault(3, end);
     }
     if 4 < count_in(set, vars.len()) {
-        return Closed::Fault {
-            number: 10,
-            place: at,
-        };
+        return fault(10, at);
     }
     let more = space + bindings(sizes, vars, set);
     if 65536 < more {
-        return Closed::Fault {
-            number: 11,
-            place: at,
-        };
+        return fault(11, at);
     }
-    Closed::Whole { space: more }
+    Read::Whole {
+        next: end,
+        set: more as u32,
+        uses: set,
+    }
 }
 
 // Where a guard stands, or 0 without one.
@@ -119,7 +109,7 @@ fn guard_place(s: &[u8], at: usize) -> u16
         return 0;
     }
     if s[at] == 0x15 {
-        return (at + 1) as u16;
+        return after(s, at) as u16;
     }
     0
 }
@@ -139,7 +129,21 @@ pub enum TransitionStep {
     },
 }
 
-// The transition whose command stands at a place.
+// A fault of what is read; a whole reading stops nothing.
+fn stopped(e: Read) -> TransitionStep
+    ensures { λ r. ⌜ r ≡ transitionStopped e ⌝ }
+{
+    match e {
+        Read::Fault { number, place } => TransitionStep::Stop { number, place },
+        Read::Whole {
+            next: _,
+            set: _,
+            uses: _,
+        } => TransitionStep::Done,
+    }
+}
+
+// The transition whose command stands at a place and ends before next.
 fn transition_in(
     s: &[u8],
     sizes: &[u8],
@@ -149,6 +153,7 @@ fn transition_in(
     space: usize,
     row: &mut [u16],
     at: usize,
+    next: usize,
 ) -> TransitionStep
     requires { ⌜ length (now s) ≤ 16384 ⌝ }
     requires { ⌜ length (now vars) ≤ 32 ⌝ }
@@ -156,39 +161,45 @@ fn transition_in(
     requires { ⌜ length (now seconds) ≡ length (now firsts) ⌝ }
     requires { ⌜ length (now row) ≡ 96 ⌝ }
     requires { ⌜ space ≤ 65536 ⌝ }
-    requires { ⌜ at < length (now s) ⌝ }
+    requires { ⌜ at < next ⌝ }
+    requires { ⌜ next ≤ length (now s) ⌝ }
     ensures is { λ r. ⌜ ((transitions : List Transition) → bindingSpace (over (now (sizes .entry)) (now (vars .entry)) (now (firsts .entry)) (now (seconds .entry))) transitions ≡ space
         → TransitionTold (now (s .entry)) (over (now (sizes .entry)) (now (vars .entry)) (now (firsts .entry)) (now (seconds .entry))) transitions
-        (some (inside (now (s .entry)) (over (now (sizes .entry)) (now (vars .entry)) (now (firsts .entry)) (now (seconds .entry))) transitions at)) (λ i. getD (now (row .exit)) i 0) r) ⌝ }
+        (some (inside (now (s .entry)) (over (now (sizes .entry)) (now (vars .entry)) (now (firsts .entry)) (now (seconds .entry))) transitions at next)) (λ i. getD (now (row .exit)) i 0) r) ⌝ }
     ensures room { λ r. ⌜ TransitionRoom (length (now (s .entry))) at r ⌝ }
 {
-    match read_guard_if(s, sizes, vars, at + 1) {
-        Read::Fault { number, place } => TransitionStep::Stop { number, place },
-        Read::Whole { next, set: _, uses } => match read_arcs(
-            s,
-            sizes,
-            vars,
-            firsts,
-            seconds,
-            row,
-            next,
-        ) {
-            Gathered::Fault { number, place } => TransitionStep::Stop { number, place },
-            Gathered::Whole {
-                uses: more,
-                next: end,
-            } => {
-                match close_at(s, sizes, vars, uses | more, space, at, end) {
-                    Closed::Fault { number, place } => TransitionStep::Stop { number, place },
-                    Closed::Whole { space } => TransitionStep::More {
-                        guard: guard_place(s, at + 1),
-                        uses: uses | more,
-                        space,
-                        next: end,
-                    },
-                }
-            }
-        },
+    let guard = read_guard_if(s, sizes, vars, next);
+    let Read::Whole {
+        next: more,
+        set: _,
+        uses,
+    } = guard
+    else {
+        return stopped(guard);
+    };
+    let arcs = read_arcs(s, sizes, vars, firsts, seconds, row, more);
+    let Read::Whole {
+        next: end,
+        set: _,
+        uses: others,
+    } = arcs
+    else {
+        return stopped(arcs);
+    };
+    let closed = close_at(s, sizes, vars, uses | others, space, at, end);
+    let Read::Whole {
+        next: _,
+        set: total,
+        uses: _,
+    } = closed
+    else {
+        return stopped(closed);
+    };
+    TransitionStep::More {
+        guard: guard_place(s, next),
+        uses: uses | others,
+        space: total as usize,
+        next: end,
     }
 }
 
@@ -229,6 +240,7 @@ pub fn transition_at(
                 place: at,
             };
         }
+        let next = after(s, at);
         let from = count * 96;
         let to = from + 96;
         return transition_in(
@@ -240,6 +252,7 @@ pub fn transition_at(
             space,
             &mut arcs[from..to],
             at,
+            next,
         );
     }
     TransitionStep::Done

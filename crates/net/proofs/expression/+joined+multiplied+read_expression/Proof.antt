@@ -1,13 +1,11 @@
 use borrow.Author.Needs.{needs}
 use native.Mathlib.Omega.{arith}
 use native.Mathlib.Nat.{mul-le-mul}
-use mathlib.Core.Path.{refl, sym, _∙_}
+use mathlib.Core.Path.{sym, _∙_}
 use mathlib.Core.Bool.{true, false}
-use Rattle.reading.proofs.Commands.{tests, needed-past, needed-stray, needs-cut, needs-fails, needs-goes}
 use Rattle.net.specs.Net.{ceiling, inExpression}
 use Rattle.net.specs.Told.{bits}
-use Rattle.net.proofs.Shut.{commands}
-use Rattle.net.proofs.Expressions.{joined-first, joined-second, joined-whole, times-first, times-whole, told-in, told-out}
+use Rattle.net.proofs.Expressions.{joined-first, joined-second, joined-whole, times-first, times-whole, expression-past, expression-below, expression-above, expression-cut, expression-deep, amount-goes, all-goes, times-goes, joined-goes}
 use Prim.Native.Nat.{ℕ, _+_, _<_, _≤_}
 use borrow.Fn.Kinds.{In}
 use borrow.Fn.PlainCycle.{Measures, is, falls, and}
@@ -22,6 +20,8 @@ use Rattle.net.proofs.expression.read_expression.Kinds as read-expressi
 use Rattle.net.proofs.expression.+joined+multiplied+read_expression.Lts-read_expression as read-expression-lts
 use Rattle.net.proofs.expression.amount_at.Reads as amount-at-reads
 use Rattle.net.proofs.expression.capped.Reads as capped-reads
+use Rattle.net.proofs.fault.Reads as fault-reads
+use Rattle.net.proofs.table.after.Reads as after-reads
 use Rattle.reading.proofs.word_at.Reads as word-at-reads
 use Rattle.net.proofs.expression.+joined+multiplied+read_expression.{statement}
 use Rattle.net.proofs.expression.+joined+multiplied+read_expression.Tie.{close}
@@ -66,7 +66,7 @@ read-expression-below t =
     read-expression.Pre
 
 pub +joined+multiplied+read-expression-spec : {M : Type 1} → statement M
-unfolding bits ceiling commands inExpression
+unfolding bits ceiling inExpression
 +joined+multiplied+read-expression-spec =
     close μ-joined μ-multiplied μ-read-expression (λ t. joined-lts.spec (
       read-expression-below t,
@@ -76,7 +76,6 @@ unfolding bits ceiling commands inExpression
     )
     (joined-at t)
     joined.Post
-    (λ c. search needs)
     (λ c κs. search needs)
     (λ c. search needs)
     (λ c. search needs)
@@ -103,7 +102,6 @@ unfolding bits ceiling commands inExpression
     (λ c. search needs)
     (λ c κs. search needs)
     (λ c. search needs)
-    (λ c. search needs)
     (λ c κs. search needs)
     (λ c. search needs)
     (λ c. search needs)
@@ -112,41 +110,40 @@ unfolding bits ceiling commands inExpression
     (λ c κs. search needs)
     (λ c. (λ places. c .capped .ensures .0 ∙ rw (c .before .before .before .before .before .word-at .ensures .0) (times-whole _ _ _ _ _ _ _ (sym (c .before .before .a .given .1) ∙ c .before .before .before .before .read-expression .ensures .0 places)), c .capped .ensures .1)))
     λ t. read-expression-lts.spec (
+      fault-reads.Asked,
+      fault-reads.Learnt,
+      after-reads.Asked,
+      after-reads.Learnt,
       amount-at-reads.Asked,
       amount-at-reads.Learnt,
       word-at-reads.Asked,
       word-at-reads.Learnt,
-      joined-below t,
-      joined.Post,
       multiplied-below t,
       multiplied.Post,
+      joined-below t,
+      joined.Post,
     )
     (read-expression-at t)
     read-expression.Post
-    (λ c. (λ places. told-out _ _ _ _ _ (needed-past _ _ _ refl (search needs)), tt))
-    (λ c. search needs)
-    (λ c. search needs)
-    (λ c. (λ places. told-out _ _ _ _ _ (needs-cut _ _ 0x40 _ (search needs) refl (omega arith)), tt))
-    (λ c. (λ places. told-out _ _ _ _ _ (needs-fails _ _ 0x40 _ (search needs) refl (omega arith) (search tests)), tt))
     (λ c κs. search needs)
-    (λ c. (λ places. c .amount-at .ensures .0 places ∙ told-in _ _ _ _ _ (search needs) (needs-goes _ _ 0x40 _ (search needs) refl (omega arith) (search tests)), c .amount-at .ensures .1))
-    (λ c. search needs)
-    (λ c. (λ places. told-out _ _ _ _ _ (needs-cut _ _ 0x41 _ (search needs) refl (omega arith)), tt))
-    (λ c. (λ places. told-out _ _ _ _ _ (needs-fails _ _ 0x41 _ (search needs) refl (omega arith) (search tests)), tt))
-    (λ c. search needs)
+    (λ c. (λ places. c .fault .ensures ∙ expression-past _ _ _ _ _ (search needs), rw (c .fault .ensures) tt))
     (λ c. search needs)
     (λ c κs. search needs)
+    (λ c. (λ places. c .fault2 .ensures ∙ expression-below _ _ _ _ _ (search needs) (search needs), rw (c .fault2 .ensures) tt))
+    (λ c κs. search needs)
+    (λ c. (λ places. c .fault3 .ensures ∙ expression-above _ _ _ _ _ (search needs) (search needs), rw (c .fault3 .ensures) tt))
+    (λ c κs. search needs)
+    (λ c κs. search needs)
+    (λ c. (λ places. c .fault4 .ensures ∙ expression-cut _ _ _ _ _ (c .before .before .after .ensures) (search needs) (search needs) (search needs), rw (c .fault4 .ensures) tt))
+    (λ c κs. search needs)
+    (λ c. (λ places. c .fault5 .ensures ∙ expression-deep _ _ _ _ _ (c .before .before .before .after .ensures) (search needs) (search needs) (search needs) (search needs), rw (c .fault5 .ensures) tt))
+    (λ c κs. search needs)
+    (λ c. (λ places. c .amount-at .ensures .0 places ∙ amount-goes _ _ _ _ _ (c .before .before .before .before .after .ensures) (search needs) (search needs) (search needs), c .amount-at .ensures .1))
     (λ c. search needs)
-    (λ c. (λ places. rw (c .word-at .ensures .0) (told-in _ _ _ _ _ (search needs) (needs-goes _ _ 0x41 _ (search needs) refl (omega arith) (search tests))), search needs))
-    (λ c. (λ places. told-out _ _ _ _ _ (needs-fails _ _ 0x42 _ (search needs) refl (omega arith) (search tests)), tt))
     (λ c κs. search needs)
-    (λ c. (λ places. c .joined .ensures .0 places ∙ told-in _ _ _ _ _ (search needs) (needs-goes _ _ 0x42 _ (search needs) refl (omega arith) (search tests)), c .joined .ensures .1))
-    (λ c. (λ places. told-out _ _ _ _ _ (needs-fails _ _ 0x43 _ (search needs) refl (omega arith) (search tests)), tt))
-    (λ c κs. search needs)
-    (λ c. (λ places. c .joined2 .ensures .0 places ∙ told-in _ _ _ _ _ (search needs) (needs-goes _ _ 0x43 _ (search needs) refl (omega arith) (search tests)), c .joined2 .ensures .1))
     (λ c. search needs)
-    (λ c. (λ places. told-out _ _ _ _ _ (needs-cut _ _ 0x44 _ (search needs) refl (omega arith)), tt))
-    (λ c. (λ places. told-out _ _ _ _ _ (needs-fails _ _ 0x44 _ (search needs) refl (omega arith) (search tests)), tt))
+    (λ c. (λ places. rw (c .word-at .ensures .0) (all-goes _ _ _ _ _ (c .before .before .before .before .before .after .ensures) (search needs) (search needs) (search needs)), search needs))
     (λ c κs. search needs)
-    (λ c. (λ places. c .multiplied .ensures .0 places ∙ told-in _ _ _ _ _ (search needs) (needs-goes _ _ 0x44 _ (search needs) refl (omega arith) (search tests)), c .multiplied .ensures .1))
-    (λ c. (λ places. told-out _ _ _ _ _ (needed-stray _ _ _ (search needs) (search tests depth 9)), tt))
+    (λ c. (λ places. c .multiplied .ensures .0 places ∙ times-goes _ _ _ _ _ (c .before .before .before .before .before .before .after .ensures) (search needs) (search needs) (search needs), c .multiplied .ensures .1))
+    (λ c κs. search needs)
+    (λ c. (λ places. c .joined .ensures .0 places ∙ joined-goes _ _ _ _ _ (c .before .before .before .before .before .before .after .ensures) (search needs) (search needs) (search needs) (search needs) (search needs) (search needs) (search needs), c .joined .ensures .1))
