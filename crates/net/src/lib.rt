@@ -73,13 +73,6 @@ fn alone(v: u8) -> u32
     1u32 << v
 }
 
-// A fault, as the answer of a reading.
-fn fault(number: u8, place: usize) -> Read
-    ensures { λ r. ⌜ r ≡ Read.Fault number place ⌝ }
-{
-    Read::Fault { number, place }
-}
-
 // A whole reading: the place after it, its set and its variables.
 fn whole_read(next: usize, set: u32, uses: u32) -> Read
     ensures { λ r. ⌜ r ≡ Read.Whole next set uses ⌝ }
