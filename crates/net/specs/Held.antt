@@ -29,7 +29,7 @@ abbrev pub closeTold : Net → Part → Answer Net
 closeTold n (part.Whole count total next) = fine n next
 closeTold n (part.Fault number place) = fault number place
 
--- a fault of a part refuses the file
+-- a fault of a part refuses the file; a part without one gives no number of the list
 abbrev pub refusal : Part → NetRead
 refusal (part.Whole count total next) = net-read.Refused 0 next
 refusal (part.Fault number place) = net-read.Refused number place

@@ -36,11 +36,7 @@ fn read_opening(s: &[u8]) -> Part
             return stopped(2, s.len());
         }
         if s[1] == 1 {
-            return Part::Whole {
-                count: 0,
-                total: 0,
-                next,
-            };
+            return Part::Whole(0, 0, next);
         }
         return stopped(5, 0);
     }
@@ -60,11 +56,7 @@ fn read_closing(s: &[u8], at: usize) -> Part
         if next < s.len() {
             return stopped(15, next);
         }
-        return Part::Whole {
-            count: 0,
-            total: 0,
-            next,
-        };
+        return Part::Whole(0, 0, next);
     }
     stopped(3, at)
 }
@@ -85,16 +77,12 @@ pub enum NetRead {
     },
 }
 
-// The refusal at a part's fault.
+// The refusal at a part's fault; number 0 where it has none.
 fn refused(part: Part) -> NetRead
     ensures { λ r. ⌜ r ≡ refusal part ⌝ }
 {
     match part {
-        Part::Whole {
-            count: _,
-            total: _,
-            next,
-        } => NetRead::Refused {
+        Part::Whole(_, _, next) => NetRead::Refused {
             number: 0,
             place: next,
         },
@@ -136,34 +124,19 @@ pub fn read_net(
         };
     }
     let part = read_opening(s);
-    let Part::Whole { next, .. } = part else {
+    let Part::Whole(_, _, next) = part else {
         return refused(part);
     };
     let part = read_sets(s, sizes, next);
-    let Part::Whole {
-        count: sets,
-        next,
-        ..
-    } = part
-    else {
+    let Part::Whole(sets, _, next) = part else {
         return refused(part);
     };
     let part = read_variables(s, &sizes[..sets], vars, next);
-    let Part::Whole {
-        count: variables,
-        next,
-        ..
-    } = part
-    else {
+    let Part::Whole(variables, _, next) = part else {
         return refused(part);
     };
     let part = read_places(s, &sizes[..sets], firsts, seconds, starts, next);
-    let Part::Whole {
-        count: places,
-        total,
-        next,
-    } = part
-    else {
+    let Part::Whole(places, total, next) = part else {
         return refused(part);
     };
     let part = read_transitions(
@@ -177,20 +150,15 @@ pub fn read_net(
         arcs,
         next,
     );
-    let Part::Whole {
-        count: transitions,
-        total: space,
-        next,
-    } = part
-    else {
+    let Part::Whole(transitions, space, next) = part else {
         return refused(part);
     };
     let part = read_tokens(s, starts, places, total, initial, named, next);
-    let Part::Whole { next, .. } = part else {
+    let Part::Whole(_, _, next) = part else {
         return refused(part);
     };
     let part = read_closing(s, next);
-    let Part::Whole { .. } = part else {
+    let Part::Whole(_, _, _) = part else {
         return refused(part);
     };
     NetRead::Whole {

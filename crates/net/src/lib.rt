@@ -269,15 +269,8 @@ fn set_at(s: &[u8], count: usize, at: usize) -> SetStep
 
 // A part of the file that was read: how many things it has, what they come to together, and the place after it; or the first fault.
 pub enum Part {
-    Whole {
-        count: usize,
-        total: usize,
-        next: usize,
-    },
-    Fault {
-        number: u8,
-        place: usize,
-    },
+    Whole(usize, usize, usize),
+    Fault { number: u8, place: usize },
 }
 
 // The set part: the sizes go into the front of a lent list of 16.
@@ -291,11 +284,7 @@ pub fn read_sets(s: &[u8], sizes: &mut [u8], start: usize) -> Part
     loop {
         match set_at(s, count, at) {
             SetStep::Done => {
-                return Part::Whole {
-                    count,
-                    total: 0,
-                    next: at,
-                };
+                return Part::Whole(count, 0, at);
             }
             SetStep::Stop { number, place } => {
                 return Part::Fault { number, place };
@@ -346,11 +335,7 @@ pub fn read_variables(s: &[u8], sets: &[u8], vars: &mut [u8], start: usize) -> P
     loop {
         match variable_at(s, sets, count, at) {
             SetStep::Done => {
-                return Part::Whole {
-                    count,
-                    total: 0,
-                    next: at,
-                };
+                return Part::Whole(count, 0, at);
             }
             SetStep::Stop { number, place } => {
                 return Part::Fault { number, place };

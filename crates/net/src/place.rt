@@ -35,11 +35,7 @@ pub fn read_places(
     loop {
         match place_at(s, sets, count, total, at) {
             PlaceStep::Done => {
-                return Part::Whole {
-                    count,
-                    total,
-                    next: at,
-                };
+                return Part::Whole(count, total, at);
             }
             PlaceStep::Stop { number, place } => {
                 return Part::Fault { number, place };

@@ -108,11 +108,7 @@ pub fn read_tokens(
     loop {
         match token_at(s, starts, places, total, named, at) {
             TokenStep::Done => {
-                return Part::Whole {
-                    count: 0,
-                    total: 0,
-                    next: at,
-                };
+                return Part::Whole(0, 0, at);
             }
             TokenStep::Stop { number, place } => {
                 return Part::Fault { number, place };

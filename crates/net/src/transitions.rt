@@ -35,11 +35,7 @@ pub fn read_transitions(
     loop {
         match transition_at(s, sizes, vars, firsts, seconds, count, space, arcs, at) {
             TransitionStep::Done => {
-                return Part::Whole {
-                    count,
-                    total: space,
-                    next: at,
-                };
+                return Part::Whole(count, space, at);
             }
             TransitionStep::Stop { number, place } => {
                 return Part::Fault { number, place };
