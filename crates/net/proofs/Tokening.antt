@@ -12,7 +12,7 @@ use Rattle.reading.specs.Reading.{fine, fault, whole}
 use Rattle.reading.proofs.Commands.{end, other, passes, done, fails, later, both-hold, first-fails, second-fails, standing-past, standing-none, stands-cut, stands-fails, stands-goes}
 use Rattle.reading.proofs.Parts.{Reading, begins, goes-on, ends, stops}
 use Rattle.net.specs.Net.{Place, single, Tokens, Net, coloursOf, placeAt, tokensOn}
-use Rattle.net.specs.Reader.{tokensPart}
+use Rattle.net.specs.Reader.{widthOf, tokensPart}
 use Rattle.net.specs.Tables.{startOf, Started, Rising, flatAt, countOf, flag, Holds, tokenStep, TokenRoom, TokensRead}
 use Rattle.net.specs.declared.token.TokenStep.{TokenStep}
 use Rattle.net.specs.declared.token.TokenStep.the-variants.{Done, More, Stop}
@@ -108,6 +108,11 @@ pub is-named : (o : Option Tokens) → 0 < flag o → absent o ≡ false
 is-named none lt = absurd (omega arith)
 is-named (some t) lt = refl
 
+-- the place after the command
+pub after-tokens : (s : List ℕ) (at : ℕ) → byteAt s at ≡ 0x19 → {next : ℕ} → ((w : ℕ) → widthOf (byteAt s at) ≡ some w → next ≡ at + (1 + w)) → next ≡ at + 6
+unfolding commands
+after-tokens s at e is-next = is-next 5 (ap widthOf e)
+
 module _ (s : List ℕ) (n : Net) (tokens : List Tokens) (at : ℕ) where
   pub tokens-past : length s ≤ at → tokensPart s n tokens at ≡ none
   unfolding commands tokensPart
@@ -144,10 +149,10 @@ module _ (s : List ℕ) (n : Net) (tokens : List Tokens) (at : ℕ) where
           unfolding commands tokensPart
           tokens-again e = stands-fails _ _ 0x19 _ stands refl whole-there (later there (fails (rw (← place-is, ← rank-is) e)))
 
-          pub tokens-go : {count : ℕ} → tokensOn tokens p rank ≡ none → count ≡ wordAt s (at + 4)
-              → tokensPart s n tokens at ≡ some (fine (with tokens (record { place = p; rank = rank; count = count })) (at + 6))
+          pub tokens-go : {count next : ℕ} → tokensOn tokens p rank ≡ none → count ≡ wordAt s (at + 4) → next ≡ at + 6
+              → tokensPart s n tokens at ≡ some (fine (with tokens (record { place = p; rank = rank; count = count })) next)
           unfolding commands tokensPart
-          tokens-go e f = rw (place-is, rank-is, f) (stands-goes _ _ 0x19 _ stands refl whole-there (passes there (passes (rw (← place-is, ← rank-is, e)) done)))
+          tokens-go e f is-next = rw (place-is, rank-is, f, is-next) (stands-goes _ _ 0x19 _ stands refl whole-there (passes there (passes (rw (← place-is, ← rank-is, e)) done)))
 
 -- ---- the loop
 -- a table over the flat places, with one more of the tokens

@@ -2,6 +2,7 @@
 use crate::Part;
 use crate::clear::clear_bytes;
 use crate::clear::clear_words;
+use crate::table::after;
 use reading::word_at;
 ghost use mathlib.Core.Path.{_≡_};
 ghost use mathlib.Core.List.{List, []};
@@ -28,6 +29,13 @@ pub enum TokenStep {
     },
 }
 
+// A fault's number and place.
+fn stop(number: u8, place: usize) -> TokenStep
+    ensures { λ r. ⌜ r ≡ TokenStep.Stop number place ⌝ }
+{
+    TokenStep::Stop { number, place }
+}
+
 // The tokens command at a place; a flat place that has had its command is marked by 1.
 fn token_at(
     s: &[u8],
@@ -47,39 +55,28 @@ fn token_at(
         return TokenStep::Done;
     }
     if s[at] == 0x19 {
-        if s.len() <= at + 5 {
-            return TokenStep::Stop {
-                number: 2,
-                place: s.len(),
-            };
+        let next = after(s, at);
+        if s.len() < next {
+            return stop(2, s.len());
         }
         let p = s[at + 1] as usize;
         let rank = word_at(s, at + 2);
         if places <= p {
-            return TokenStep::Stop {
-                number: 5,
-                place: at,
-            };
+            return stop(5, at);
         }
         let flat = starts[p] + rank;
         if starts[p + 1] <= flat {
-            return TokenStep::Stop {
-                number: 5,
-                place: at,
-            };
+            return stop(5, at);
         }
         if 0 < named[flat] {
-            return TokenStep::Stop {
-                number: 9,
-                place: at,
-            };
+            return stop(9, at);
         }
         return TokenStep::More {
             place: p,
             rank,
             count: word_at(s, at + 4) as u16,
             flat,
-            next: at + 6,
+            next,
         };
     }
     TokenStep::Done
