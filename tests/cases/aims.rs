@@ -1,15 +1,11 @@
-//! Files and lists that are made to reach one line of the table each, out of random nets and flat files.
+//! Files that are made to reach one line of the table each, out of random nets and flat files.
 use super::dice::Dice;
 use super::flats::{self, put_arc};
-use super::lists;
 use super::nets::{self, Maker, Scale};
 use crate::coverage::{CUTS, RANGES};
-use crate::plain;
-use crate::stream::{Call, Case, CALLS};
 use crate::walk::{walk, width, Need, Walk, FLAT_NEEDS, NET_NEEDS};
 
 type Make = Box<dyn Fn(&mut Dice, Scale) -> Vec<u8>>;
-type MakeCase = Box<dyn Fn(&mut Dice, Scale) -> Case>;
 
 /// A file to be made: for which side, with which refusal (0: none), and how.
 pub struct FileAim {
@@ -40,14 +36,14 @@ pub fn file_aims() -> Vec<FileAim> {
 // ---- Files with a fault at a chosen place ----
 
 /// A net in which every command stands, each in every place where it may.
-const RICH: &[u8] = &[
+pub const RICH: &[u8] = &[
     0x01, 1, 0x10, 2, 0x10, 3, 0x11, 0, 0x11, 1, 0x12, 0, 0x13, 0, 1, 0x14, 0x15, 0x22, 0x23, 0x21, 0x20, 0x24, 0x30, 0, 0x31, 0, 1, 0x22, 0x25, 0x32, 0x30,
     1, 0x33, 0x31, 1, 2, 0x23, 0x24, 0x31, 0, 0, 0x30, 0, 0x20, 0x16, 0, 0x42, 0x40, 1, 0, 0x30, 0, 0x43, 0x44, 1, 0, 0x41, 2, 0, 0x40, 1, 0, 0x31, 0, 1, 0x17,
     1, 0x43, 0x42, 0x40, 1, 0, 0x31, 0, 0, 0x31, 1, 0, 0x41, 1, 0, 0x40, 1, 0, 0x30, 0, 0x30, 1, 0x18, 0, 0x41, 3, 0, 0x14, 0x15, 0x24, 0x30, 0, 0x30, 0, 0x16,
     0, 0x40, 1, 0, 0x31, 0, 0, 0x14, 0x19, 0, 0, 0, 3, 0, 0x1F,
 ];
 /// The same for flat files.
-const RICH_FLAT: &[u8] = &[
+pub const RICH_FLAT: &[u8] = &[
     0x02, 1, 0x50, 3, 0, 0x50, 0, 0, 0x51, 0x52, 0, 0, 1, 0, 0x53, 1, 0, 1, 0, 0x54, 1, 0, 2, 0, 0x51, 0x51, 0x53, 0, 0, 1, 0, 0x51, 0x52, 1, 0, 2, 0, 0x5F,
 ];
 
@@ -125,36 +121,13 @@ fn cuts(out: &mut Vec<FileAim>) {
     }
 }
 
-/// A command with this byte in a sound file, its operands put out of range.
 fn ranges(out: &mut Vec<FileAim>) {
     for (byte, whys) in RANGES {
         let flat = byte == 0x02 || byte > 0x50;
         for &why in whys {
             aim(out, flat, 5, move |dice, scale| {
                 let (mut file, at) = find(dice, scale, flat, |_, w, i| w.steps.get(i).is_some_and(|step| step.byte == byte));
-                let w = walk(&file, flat, at);
-                let count = |bytes: &[u8]| w.steps.iter().filter(|step| bytes.contains(&step.byte)).count();
-                let (sets, variables, places) = (count(&[0x10]), count(&[0x11]), count(&[0x12, 0x13]));
-                let past = |dice: &mut Dice, n: usize| dice.among(&[n as u8, n as u8, 255]);
-                match (byte, why) {
-                    (_, "0") => file[at + 1] = 0,
-                    (0x10, _) => file[at + 1] = past(dice, 65),
-                    (0x01 | 0x02, _) => file[at + 1] = past(dice, 2),
-                    (_, "set" | "first set") => file[at + 1] = past(dice, sets),
-                    (_, "second set") => file[at + 2] = past(dice, sets),
-                    (0x30, _) => file[at + 1] = past(dice, variables),
-                    (0x31, _) => file[at + 2] = size_of(&file, &w, file[at + 1]).max(if dice.percent(30) { 255 } else { 0 }),
-                    (0x19, "rank") => {
-                        let rank = colours_of(&file, &w, file[at + 1]);
-                        file[at + 2..at + 4].copy_from_slice(&rank.to_le_bytes());
-                    }
-                    (0x16..=0x19, _) => file[at + 1] = past(dice, places),
-                    (_, "place") => {
-                        let place = dice.among(&[count(&[0x50]) as u16, 65535]);
-                        file[at + 1..at + 3].copy_from_slice(&place.to_le_bytes());
-                    }
-                    _ => file[at + 3..at + 5].fill(0),
-                }
+                put_out_of_range(dice, &mut file, at, flat, why);
                 file
             });
         }
@@ -167,6 +140,32 @@ fn ranges(out: &mut Vec<FileAim>) {
             file.push(0x5F);
             file
         });
+    }
+}
+
+/// Puts an operand of the command at a place out of range.
+fn put_out_of_range(dice: &mut Dice, file: &mut [u8], at: usize, flat: bool, why: &str) {
+    let w = walk(file, flat, at);
+    let count = |bytes: &[u8]| w.steps.iter().filter(|step| bytes.contains(&step.byte)).count();
+    let mut past = |n: usize| dice.among(&[n as u8, n as u8, 255]);
+    match (file[at], why) {
+        (_, "0") => file[at + 1] = 0,
+        (0x10, _) => file[at + 1] = past(65),
+        (0x01 | 0x02, _) => file[at + 1] = past(2),
+        (_, "set" | "first set") => file[at + 1] = past(count(&[0x10])),
+        (_, "second set") => file[at + 2] = past(count(&[0x10])),
+        (0x30, _) => file[at + 1] = past(count(&[0x11])),
+        (0x31, _) => file[at + 2] = past(size_of(file, &w, file[at + 1]) as usize),
+        (0x19, "rank") => {
+            let rank = colours_of(file, &w, file[at + 1]);
+            file[at + 2..at + 4].copy_from_slice(&rank.to_le_bytes());
+        }
+        (0x16..=0x19, _) => file[at + 1] = past(count(&[0x12, 0x13])),
+        (_, "place") => {
+            let place = dice.among(&[count(&[0x50]) as u16, 65535]);
+            file[at + 1..at + 3].copy_from_slice(&place.to_le_bytes());
+        }
+        _ => file[at + 3..at + 5].fill(0),
     }
 }
 
@@ -273,48 +272,36 @@ fn closed(mut file: Vec<u8>) -> Vec<u8> {
 
 fn expressions(out: &mut Vec<FileAim>) {
     for (need, openers) in [(Need::Guard, &GUARDS[..]), (Need::Colour, &COLOURS), (Need::Term, &TERMS)] {
-        for &byte in openers {
-            let operands = move |file: &mut Vec<u8>, fill: u8| {
-                file.push(byte);
-                file.extend(vec![fill; width(byte)]);
-            };
-            aim(out, false, 7, move |dice, _| {
-                let mut file = down_to(dice, need, 17);
-                operands(&mut file, 0);
-                closed(file)
-            });
-            if [0x20, 0x30, 0x31, 0x41].contains(&byte) {
-                aim(out, false, 0, move |dice, _| {
-                    let mut file = down_to(dice, need, 16);
-                    operands(&mut file, 0);
-                    closed(file)
-                });
-            }
-            if width(byte) > 0 {
-                aim(out, false, 2, move |dice, _| {
-                    let mut file = down_to(dice, need, 17);
-                    operands(&mut file, 0);
-                    file.truncate(file.len() - 1 - dice.below(width(byte)));
-                    file
-                });
-            }
-            if [0x30, 0x31].contains(&byte) {
-                aim(out, false, 5, move |dice, _| {
-                    let mut file = down_to(dice, need, 17);
-                    operands(&mut file, 2);
-                    file
-                });
-            }
-        }
+        openers.iter().for_each(|&byte| levels(out, need, byte));
         aim(out, false, 2, move |dice, _| down_to(dice, need, 17));
-        aim(out, false, 3, move |dice, _| {
-            let mut file = down_to(dice, need, 17);
-            file.push(0x1F);
-            file
-        });
+        aim(out, false, 3, move |dice, _| [down_to(dice, need, 17), vec![0x1F]].concat());
     }
     mixed(out);
     heavy(out);
+}
+
+/// A command that opens an expression at levels 16 and 17: whole, cut, and with operands out of range.
+fn levels(out: &mut Vec<FileAim>, need: Need, byte: u8) {
+    let at_level = move |dice: &mut Dice, level: usize, operand: u8| {
+        let mut file = down_to(dice, need, level);
+        file.push(byte);
+        file.extend(vec![operand; width(byte)]);
+        file
+    };
+    aim(out, false, 7, move |dice, _| closed(at_level(dice, 17, 0)));
+    if [0x20, 0x30, 0x31, 0x41].contains(&byte) {
+        aim(out, false, 0, move |dice, _| closed(at_level(dice, 16, 0)));
+    }
+    if width(byte) > 0 {
+        aim(out, false, 2, move |dice, _| {
+            let mut file = at_level(dice, 17, 0);
+            file.truncate(file.len() - 1 - dice.below(width(byte)));
+            file
+        });
+    }
+    if [0x30, 0x31].contains(&byte) {
+        aim(out, false, 5, move |dice, _| at_level(dice, 17, 2));
+    }
 }
 
 fn mixed(out: &mut Vec<FileAim>) {
@@ -522,182 +509,4 @@ fn limits(out: &mut Vec<FileAim>) {
         maker.tokens();
         [maker.out, vec![0x1F]].concat()
     });
-}
-
-// ---- Cases of calls ----
-
-/// A case of a call on a file, with whatever else the call is lent.
-pub fn case_on(dice: &mut Dice, call: Call, file: Vec<u8>) -> Case {
-    let shape = if call.is_flat() { lists::shape_of_flat(&file) } else { lists::shape_of_net(&file) };
-    let mut case = Case::new(call, file);
-    if call.has_marking() {
-        case.marking = lists::marking(dice, &shape);
-    }
-    if call.has_list() {
-        case.list = if call.is_flat() { lists::images(dice, &shape) } else { lists::orders(dice, &lists::transitions_of(&case.file)) };
-    }
-    if call.has_output() {
-        let needed = match call {
-            Call::Unfold => shape.flat_length,
-            Call::Images => case.list.len() / 6 * 5,
-            Call::FireOrders => case.list.len() / 6,
-            _ => case.list.len() / 5,
-        };
-        case.output = lists::output(dice, needed);
-    }
-    if call == Call::RowOrder {
-        let rows = shape.rows as u32;
-        case.row = dice.among(&[0, rows / 2, rows.saturating_sub(1), rows, rows + 1, u32::MAX]);
-    }
-    case
-}
-
-/// The calls of a side.
-pub fn calls(flat: bool) -> Vec<Call> {
-    CALLS.into_iter().filter(|call| call.is_flat() == flat).collect()
-}
-
-/// Cases made for a line of a call.
-pub fn call_aims() -> Vec<MakeCase> {
-    let mut out: Vec<MakeCase> = vec![];
-    for call in CALLS {
-        let numbers: &[u8] = if call.is_flat() { &[2, 3, 4, 5, 9, 15] } else { &[1, 2, 3, 4, 5, 6, 7, 8, 9, 10, 11, 15] };
-        for &number in numbers {
-            let aims: Vec<FileAim> = file_aims().into_iter().filter(|aim| aim.flat == call.is_flat() && aim.number == number).collect();
-            let most = if call.is_flat() && number == 4 { 1 } else { aims.len() };
-            out.push(Box::new(move |dice, scale| {
-                let file = (aims[dice.below(most)].make)(dice, scale);
-                case_on(dice, call, file)
-            }));
-        }
-        lent_aims(call, &mut out);
-    }
-    out
-}
-
-/// A sound case of a call: a file with flat places, rows and bindings, a list of two items, everything as long as it must be.
-fn fitting(dice: &mut Dice, scale: Scale, call: Call) -> Case {
-    loop {
-        let file = if dice.percent(20) {
-            if call.is_flat() { RICH_FLAT.to_vec() } else { RICH.to_vec() }
-        } else if call.is_flat() {
-            flats::sound(dice, scale)
-        } else {
-            nets::sound(dice, scale)
-        };
-        let shape = if call.is_flat() { lists::shape_of_flat(&file) } else { lists::shape_of_net(&file) };
-        if shape.places == 0 || shape.rows < 2 {
-            continue;
-        }
-        let mut case = Case::new(call, file);
-        case.marking = if call.has_marking() { vec![3; shape.places] } else { vec![] };
-        if call.has_list() {
-            case.list = if call.is_flat() { vec![0x61, 1, 0, 0, 0, 0x61, 0, 0, 0, 0] } else { vec![0x60, 0, 0, 0, 0, 0, 0x60, 1, 0, 0, 0, 0] };
-        }
-        case.output = vec![0xAA; if call == Call::Unfold { shape.flat_length } else if call == Call::Images { 10 } else if call.fires() { 2 } else { 0 }];
-        case.row = shape.rows as u32 - 1;
-        return case;
-    }
-}
-
-/// Lent buffers that are too short, too long, ragged or empty, alone and together.
-fn lent_aims(call: Call, out: &mut Vec<MakeCase>) {
-    let mut vary = |change: fn(&mut Case, &mut Dice)| {
-        out.push(Box::new(move |dice: &mut Dice, scale: Scale| {
-            let mut case = fitting(dice, scale, call);
-            change(&mut case, dice);
-            case
-        }))
-    };
-    vary(|_, _| {});
-    if call.has_marking() {
-        vary(|case, _| case.marking.truncate(case.marking.len() - 1));
-        vary(|case, _| case.marking.push(0));
-        vary(|case, _| case.marking.clear());
-        vary(|case, _| case.marking.fill(0));
-        vary(|case, _| case.marking.fill(65535));
-    }
-    if call.has_list() {
-        vary(|case, _| case.list.truncate(1));
-        vary(|case, _| case.list.truncate(7));
-        vary(|case, _| case.list.truncate(8));
-        vary(|case, _| case.list.truncate(9));
-        vary(|case, _| case.list.truncate(10));
-        vary(|case, _| case.list.truncate(11));
-        vary(|case, _| case.list.extend([0x60, 0, 0]));
-        vary(|case, _| case.list.push(0x61));
-        vary(|case, _| {
-            case.list.push(0x60);
-            case.output.clear();
-        });
-        vary(|case, _| case.list.clear());
-        vary(|case, _| case.list.truncate(if case.call.is_flat() { 5 } else { 6 }));
-        vary(|case, _| {
-            case.list.clear();
-            case.output.clear();
-        });
-    }
-    if call.fires() {
-        vary(|case, _| {
-            case.marking.pop();
-            case.list.push(0);
-        });
-        vary(|case, _| {
-            case.marking.push(9);
-            case.output.pop();
-        });
-    }
-    if call.has_output() {
-        vary(|case, _| case.output.truncate(case.output.len() - 1));
-        vary(|case, _| case.output.clear());
-        vary(|case, dice| case.output.extend(vec![7; 1 + dice.below(9)]));
-    }
-    if call == Call::RowOrder {
-        vary(|case, _| case.row = 0);
-        vary(|case, _| case.row += 1);
-        vary(|case, _| case.row = u32::MAX);
-    }
-}
-
-/// Cases of both engines on the two-gauge net and on a small net with a guard: every answer, every way to name nothing.
-pub fn fixed() -> Vec<Case> {
-    let two_gauge = [
-        0x01, 1, 0x10, 2, 0x11, 0, 0x12, 0, 0x12, 0, 0x14, 0x16, 0, 0x40, 1, 0, 0x30, 0, 0x17, 1, 0x40, 1, 0, 0x32, 0x30, 0, 0x18, 1, 0x40, 2, 0, 0x30, 0, 0x19, 0,
-        0, 0, 3, 0, 0x1F,
-    ];
-    let mut guarded = two_gauge[..11].to_vec();
-    guarded.extend([0x15, 0x24, 0x30, 0, 0x31, 0, 1]);
-    guarded.extend(&two_gauge[11..]);
-    let mut out = vec![];
-    for net in [two_gauge.to_vec(), guarded] {
-        let mut flat = vec![0; 100];
-        let length = plain::unfold(&net, &mut flat).unwrap_or(0);
-        flat.truncate(length);
-        out.extend([Case::new(Call::NetSizes, net.clone()), Case::new(Call::FlatSizes, flat.clone())]);
-        out.push(Case { output: vec![0xAA; length + 3], ..Case::new(Call::Unfold, net.clone()) });
-        for marking in [[3, 0, 0, 0], [0, 1, 0, 2], [0, 1, 0, 1], [1, 0, 0, 65535], [0, 1, 65535, 0], [0, 0, 0, 0], [3, 3, 0, 0]] {
-            for row in [0u8, 1, 2] {
-                let order = [0x60, 0, row, 0, 0, 0];
-                let others = [[0x61, 0, 1, 0, 0, 0], [0x60, 1, 0, 0, 0, 0], [0x60, 0, 1, 1, 0, 0], [0x60, 0, 1, 0, 0, 1], [0x60, 0, 255, 0, 0, 0]];
-                let orders = [order.repeat(4), others.concat()].concat();
-                let images = [vec![0x61, row, 0, 0, 0].repeat(4), vec![0x60, 0, 0, 0, 0, 0x61, 0, 0, 1, 0, 0x61, 255, 255, 255, 255]].concat();
-                let lent = |call, file: &Vec<u8>, list: &Vec<u8>, length| Case {
-                    marking: if call == Call::Images { vec![] } else { marking.to_vec() },
-                    list: list.clone(),
-                    output: vec![7; length],
-                    ..Case::new(call, file.clone())
-                };
-                out.push(lent(Call::FireOrders, &net, &orders, 9));
-                out.push(lent(Call::FireImages, &flat, &images, 7));
-                out.push(lent(Call::Images, &net, &orders, 45));
-            }
-            out.push(Case { marking: marking.to_vec(), ..Case::new(Call::FirstOrder, net.clone()) });
-            out.push(Case { marking: marking.to_vec(), ..Case::new(Call::FirstRow, flat.clone()) });
-        }
-        out.extend([0, 1, 2, u32::MAX].map(|row| Case { row, ..Case::new(Call::RowOrder, net.clone()) }));
-    }
-    for call in [Call::FirstOrder, Call::FirstRow] {
-        out.push(Case::new(call, if call.is_flat() { vec![0x02, 1, 0x5F] } else { vec![0x01, 1, 0x1F] }));
-    }
-    out
 }

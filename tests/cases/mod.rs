@@ -1,13 +1,15 @@
 //! Cases by a seed: each case of a seed has a number, and comes out the same whenever it is made again.
 pub mod aims;
+pub mod calls;
 pub mod damage;
 pub mod dice;
 pub mod flats;
 pub mod lists;
 pub mod nets;
 
-use crate::stream::Case;
-use aims::{call_aims, calls, case_on, file_aims, fixed, FileAim};
+use crate::stream::{Call, Case};
+use aims::{file_aims, FileAim};
+use calls::{call_aims, calls, case_on, fixed, MakeCase};
 use dice::Dice;
 use nets::Scale;
 
@@ -17,7 +19,7 @@ pub struct Cases {
     scale: Scale,
     fixed: Vec<Case>,
     files: Vec<FileAim>,
-    calls: Vec<Box<dyn Fn(&mut Dice, Scale) -> Case>>,
+    calls: Vec<MakeCase>,
 }
 
 impl Cases {
@@ -52,7 +54,11 @@ impl Cases {
         let Some(aim) = self.files.get(number) else { return (self.calls[number - self.files.len()])(dice, self.scale) };
         let file = (aim.make)(dice, self.scale);
         let lean = self.scale == Scale::Small && (aim.number == 3 || file.len() > 2000);
-        let call = if lean { if aim.flat { crate::stream::Call::FlatSizes } else { crate::stream::Call::NetSizes } } else { dice.among(&calls(aim.flat)) };
+        let call = match (lean, aim.flat) {
+            (true, true) => Call::FlatSizes,
+            (true, false) => Call::NetSizes,
+            _ => dice.among(&calls(aim.flat)),
+        };
         case_on(dice, call, file)
     }
 

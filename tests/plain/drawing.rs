@@ -7,25 +7,29 @@ use super::{First, Order};
 
 pub const ORDER: usize = 6;
 
-/// The transition and the binding that six bytes name.
-pub fn named<'a>(net: &'a Net, order: &[u8]) -> Option<(&'a Transition, Binding)> {
+/// The transition that six bytes name, where they name a binding of it.
+#[inline]
+pub fn named<'a>(net: &'a Net, order: &[u8]) -> Option<&'a Transition> {
     let transition = net.transitions.get(order[1] as usize).filter(|_| order[0] == 0x60)?;
-    let (colours, unused) = order[2..].split_at(transition.variables.len());
+    let (colours, unused) = order[2..ORDER].split_at(transition.variables().len());
+    let fits = transition.variables().iter().zip(colours).all(|(used, &colour)| colour < used.size);
+    (fits && unused.iter().all(|&byte| byte == 0)).then_some(transition)
+}
+
+/// The binding that six bytes give a transition's variables.
+fn binding_of(transition: &Transition, order: &[u8]) -> Binding {
     let mut binding = [0; 33];
-    for (&v, &colour) in transition.variables.iter().zip(colours) {
-        if colour >= net.variables[v as usize].size {
-            return None;
-        }
-        binding[v as usize] = colour;
+    for (used, &colour) in transition.variables().iter().zip(&order[2..]) {
+        binding[used.variable as usize] = colour;
     }
-    unused.iter().all(|&byte| byte == 0).then_some((transition, binding))
+    binding
 }
 
 /// The six bytes that name a binding of the transition with this number.
 pub fn order_of(number: usize, transition: &Transition, binding: &Binding) -> Order {
     let mut order = [0x60, number as u8, 0, 0, 0, 0];
-    for (byte, &v) in order[2..].iter_mut().zip(&transition.variables) {
-        *byte = binding[v as usize];
+    for (byte, used) in order[2..].iter_mut().zip(transition.variables()) {
+        *byte = binding[used.variable as usize];
     }
     order
 }
@@ -77,7 +81,7 @@ pub fn fire_orders(file: &[u8], marking: &mut [u16], orders: &[u8], answers: &mu
     let mut row = Row::default();
     for (order, answer) in orders.chunks_exact(ORDER).zip(answers) {
         *answer = match named(&net, order) {
-            Some((transition, binding)) => row.fire(&net, transition, &binding, marking),
+            Some(transition) => row.fire(&net, transition, &binding_of(transition, order), marking),
             None => 1,
         };
     }
@@ -95,7 +99,7 @@ pub fn first_order(file: &[u8], marking: &[u16]) -> Reading<First<Order>> {
             if row.answer(&net, transition, &binding, marking) == 0 {
                 return Ok(First { found: Some(order_of(number, transition, &binding)), tried });
             }
-            if !net.advance(transition, &mut binding) {
+            if !transition.advance(&mut binding) {
                 break;
             }
         }

@@ -77,8 +77,8 @@ fn read(file: &[u8], mut found: impl FnMut(Row)) -> Reading<(usize, usize)> {
     while file.get(at) == Some(&0x51) {
         unless(rows < MOST_ROWS, 4, at)?;
         rows += 1;
-        let row = read_row(file, at + 1, places)?;
-        at += 1 + ARC * row.arcs.iter().map(|&n| n as usize).sum::<usize>();
+        let (row, end) = read_row(file, at + 1, places)?;
+        at = end;
         found(row);
     }
     match file.get(at) {
@@ -88,21 +88,22 @@ fn read(file: &[u8], mut found: impl FnMut(Row)) -> Reading<(usize, usize)> {
     }
 }
 
-/// Checks the arcs of a row.
+/// Checks the arcs of a row, and gives it with its end.
 #[inline]
-fn read_row(file: &[u8], start: usize, places: usize) -> Reading<Row> {
+fn read_row(file: &[u8], start: usize, places: usize) -> Reading<(Row, usize)> {
     let mut row = Row { start, arcs: [0; 3] };
-    let (mut at, mut last) = (start, (0, 0));
+    let (mut at, mut last) = (start, 0);
     while let Some(&kind @ 0x52..=0x54) = file.get(at) {
-        let Some(arc) = file.get(at..at + ARC) else { return refuse(2, file.len()) };
+        let Some(arc) = file[at..].first_chunk::<ARC>() else { return refuse(2, file.len()) };
         let (place, weight) = (word(&arc[1..]), word(&arc[3..]));
+        let key = (kind as u32) << 16 | place as u32;
         unless((place as usize) < places && weight > 0, 5, at)?;
-        unless((kind, place) > last, 9, at)?;
-        last = (kind, place);
+        unless(key > last, 9, at)?;
+        last = key;
         row.arcs[kind as usize - 0x52] += 1;
         at += ARC;
     }
-    Ok(row)
+    Ok((row, at))
 }
 
 /// Checks a flat file and a marking for it, and gives where the rows are.

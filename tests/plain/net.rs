@@ -8,15 +8,15 @@ const MOST_SETS: usize = 16;
 const MOST_THINGS: usize = 32; // variables, places, transitions
 const MOST_COLOURS: usize = 4096;
 const MOST_BINDINGS: usize = 65536;
-const MOST_VARIABLES: u32 = 4; // of one transition
+const MOST_VARIABLES: usize = 4; // of one transition
 const DEEPEST: u8 = 16;
 const HIGHEST: u32 = 65535;
 
 /// A variable: its set, and how many colours that has.
 #[derive(Clone, Copy)]
-pub struct Variable {
+struct Variable {
     set: u8,
-    pub size: u8,
+    size: u8,
 }
 
 /// A place: its one or two sets, its first flat place, and how many colours it has.
@@ -34,6 +34,13 @@ pub struct Arc {
     term: u16,
 }
 
+/// A variable that a transition uses: its number, and how many colours it has.
+#[derive(Clone, Copy, Default)]
+pub struct Used {
+    pub variable: u8,
+    pub size: u8,
+}
+
 /// A transition: its guard (none: true), its arcs of each kind by rising place, its variables by rising number, and how many
 /// bindings it has.
 pub struct Transition {
@@ -41,15 +48,38 @@ pub struct Transition {
     pub inputs: Vec<Arc>,
     pub outputs: Vec<Arc>,
     pub inhibitors: Vec<Arc>,
-    pub variables: Vec<u8>,
+    variables: [Used; MOST_VARIABLES],
+    count: usize,
     pub bindings: usize,
+}
+
+impl Transition {
+    /// Its variables.
+    #[inline]
+    pub fn variables(&self) -> &[Used] {
+        &self.variables[..self.count]
+    }
+
+    /// Goes on to the next binding; false, and back at the first, after the last one.
+    #[inline]
+    pub fn advance(&self, binding: &mut Binding) -> bool {
+        for used in self.variables().iter().rev() {
+            let colour = &mut binding[used.variable as usize];
+            *colour += 1;
+            if *colour < used.size {
+                return true;
+            }
+            *colour = 0;
+        }
+        false
+    }
 }
 
 /// A net that was read.
 #[derive(Default)]
 pub struct Net {
     sets: Vec<u8>,
-    pub variables: Vec<Variable>,
+    variables: Vec<Variable>,
     places: Vec<Place>,
     pub transitions: Vec<Transition>,
     pub initial: Vec<u16>,
@@ -64,20 +94,6 @@ impl Net {
     #[inline]
     pub fn holds(&self, transition: &Transition, binding: &Binding) -> bool {
         transition.guard.map_or(true, |guard| holds(&self.guards, guard, binding))
-    }
-
-    /// Goes on to a transition's next binding; false, and back at the first, after the last one.
-    #[inline]
-    pub fn advance(&self, transition: &Transition, binding: &mut Binding) -> bool {
-        for &v in transition.variables.iter().rev() {
-            let colour = &mut binding[v as usize];
-            *colour += 1;
-            if *colour < self.variables[v as usize].size {
-                return true;
-            }
-            *colour = 0;
-        }
-        false
     }
 
     /// Puts the weights above 0 that arcs of one kind give into a list, by rising flat place.
@@ -176,13 +192,25 @@ impl Reader<'_> {
             guard = Some(self.guard(1)?);
         }
         let [inputs, outputs, inhibitors] = self.arcs()?;
-        unless(self.used.count_ones() <= MOST_VARIABLES, 10, start)?;
-        let variables: Vec<u8> = (0..32).filter(|v| self.used >> v & 1 == 1).collect();
-        let bindings = variables.iter().map(|&v| self.net.variables[v as usize].size as usize).product();
+        let (variables, count, bindings) = self.bindings(start)?;
+        self.net.transitions.push(Transition { guard, inputs, outputs, inhibitors, variables, count, bindings });
+        Ok(())
+    }
+
+    /// The variables that the transition at this place uses, how many they are, and how many bindings they have: 10 and 11.
+    fn bindings(&mut self, start: usize) -> Reading<([Used; MOST_VARIABLES], usize, usize)> {
+        let count = self.used.count_ones() as usize;
+        unless(count <= MOST_VARIABLES, 10, start)?;
+        let (mut variables, mut left, mut bindings) = ([Used::default(); MOST_VARIABLES], self.used, 1);
+        for used in &mut variables[..count] {
+            let variable = left.trailing_zeros() as u8;
+            *used = Used { variable, size: self.net.variables[variable as usize].size };
+            bindings *= used.size as usize;
+            left &= left - 1;
+        }
         self.net.bindings += bindings;
         unless(self.net.bindings <= MOST_BINDINGS, 11, start)?;
-        self.net.transitions.push(Transition { guard, inputs, outputs, inhibitors, variables, bindings });
-        Ok(())
+        Ok((variables, count, bindings))
     }
 
     /// Reads a transition's arcs, up to a byte that neither opens one nor a guard.

@@ -2,6 +2,7 @@
 use super::commands::{unless, Reading, Refusal};
 use super::drawing::{named, order_of, ORDER};
 use super::expressions::{Binding, Room};
+use super::firing::Weight;
 use super::net::{read, Net, Transition};
 use super::Order;
 
@@ -24,7 +25,7 @@ pub fn unfold(file: &[u8], output: &mut [u8]) -> Reading<usize> {
                 write_row(&net, transition, &binding, (&mut room, &mut weights), &mut flat);
                 unless(flat.len() < output.len(), 14, 0)?;
             }
-            if !net.advance(transition, &mut binding) {
+            if !transition.advance(&mut binding) {
                 break;
             }
         }
@@ -36,7 +37,7 @@ pub fn unfold(file: &[u8], output: &mut [u8]) -> Reading<usize> {
 }
 
 /// Writes the row of a binding whose guard holds.
-fn write_row(net: &Net, transition: &Transition, binding: &Binding, (room, weights): (&mut Room, &mut Vec<super::firing::Weight>), flat: &mut Vec<u8>) {
+fn write_row(net: &Net, transition: &Transition, binding: &Binding, (room, weights): (&mut Room, &mut Vec<Weight>), flat: &mut Vec<u8>) {
     flat.push(0x51);
     for (kind, arcs) in [(0x52, &transition.inputs), (0x53, &transition.outputs), (0x54, &transition.inhibitors)] {
         net.load(arcs, binding, room, weights);
@@ -56,14 +57,14 @@ pub fn images(file: &[u8], orders: &[u8], output: &mut [u8]) -> Reading<usize> {
     unless(IMAGE * count <= output.len(), 14, 0)?;
     let firsts = first_bindings(&net);
     let place = |order: &[u8]| {
-        let (transition, binding) = named(&net, order)?;
-        let colours = transition.variables.iter().map(|&v| (net.variables[v as usize].size as usize, binding[v as usize] as usize));
-        Some(firsts[order[1] as usize] + colours.fold(0, |at, (size, colour)| at * size + colour))
+        let within = named(&net, order)?.variables().iter().zip(&order[2..]);
+        Some(firsts[order[1] as usize] + within.fold(0, |at, (used, &colour)| at * used.size as usize + colour as usize))
     };
-    let needed = orders.chunks_exact(ORDER).filter_map(place).max().map_or(0, |last| last + 1);
+    let places: Vec<Option<usize>> = orders.chunks_exact(ORDER).map(place).collect();
+    let needed = places.iter().flatten().max().map_or(0, |last| last + 1);
     let rows = number_rows(&net, needed);
-    for (order, image) in orders.chunks_exact(ORDER).zip(output.chunks_exact_mut(IMAGE)) {
-        let row = place(order).map_or(NO_ROW, |at| rows[at]);
+    for (place, image) in places.iter().zip(output.chunks_exact_mut(IMAGE)) {
+        let row = place.map_or(NO_ROW, |at| rows[at]);
         image[0] = 0x61;
         image[1..].copy_from_slice(&row.to_le_bytes());
     }
@@ -92,7 +93,7 @@ fn number_rows(net: &Net, needed: usize) -> Vec<u32> {
             let holds = net.holds(transition, &binding);
             rows.push(if holds { next } else { NO_ROW });
             next += holds as u32;
-            if !net.advance(transition, &mut binding) {
+            if !transition.advance(&mut binding) {
                 break;
             }
         }
@@ -116,7 +117,7 @@ pub fn row_order(file: &[u8], row: u32) -> Reading<Option<Order>> {
                 }
                 left -= 1;
             }
-            if !net.advance(transition, &mut binding) {
+            if !transition.advance(&mut binding) {
                 break;
             }
         }

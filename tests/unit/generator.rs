@@ -2,7 +2,7 @@
 use crate::cases::{aims, dice::Dice, flats, nets, nets::Scale, Cases};
 use crate::coverage::{table, Seen};
 use crate::plain;
-use crate::stream::{printed, read_all};
+use crate::stream::{printed, read_all, Call, Case, Said};
 
 #[test]
 fn sound_files_are_sound() {
@@ -57,9 +57,9 @@ fn what_is_left_out_or_beyond_shows() {
         seen.note(&case, &case.expected());
     }
     assert!(seen.faults().iter().any(|line| line.starts_with("did not occur")));
-    let case = cases.case(0);
+    let case = Case::new(Call::NetSizes, vec![0x01, 1, 0x10, 2, 0x1F]);
     let mut wrong = case.expected();
-    wrong.said = crate::stream::Said::Refused { number: 9, place: 2 };
+    wrong.said = Said::Refused { number: 9, place: 2 };
     seen.note(&case, &wrong);
     assert!(seen.faults().contains(&"is not in the table: net 9 at 0x10".to_string()));
 }
