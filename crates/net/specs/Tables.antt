@@ -1,7 +1,7 @@
 -- What the tables of a net hold, that a reading leaves for later calls.
 use mathlib.Core.Path.{_≡_}
-use Prim.Native.Nat.{_<_, _≤_, _^_}
-use Rattle.reading.specs.Basics.{ℕ, _+_, _*_, _/_, _%_, Bool, _||_, List, [], _∷_, Option, none, some, Option·map, given, if_then_else_, with, any, keep, below, map, sum, product, length, getD, take, eqb, byteAt}
+use Prim.Native.Nat.{_<_, _≤_}
+use Rattle.reading.specs.Basics.{ℕ, _+_, _*_, Bool, _||_, List, [], _∷_, Option, none, some, Option·map, given, if_then_else_, with, any, map, sum, length, getD, take, eqb, byteAt}
 use Rattle.reading.specs.Reading.{Answer, fine, fault, _andThen_, whole}
 use Rattle.net.specs.Net.{Guard, always, Expression, Place, Arc, Transition, Tokens, Net, net, coloursOf, placeAt, arcOn, tokensOn, inGuard, inExpression, variablesOf, bindingSpace}
 use Rattle.net.specs.Reader.{readGuard, readGuardIf, readExpression, arcPart, ended, transitionPart, tokensPart}
@@ -169,20 +169,6 @@ ArcsRoom len start (read.Whole next set uses) = (start ≤ next) × (start ≤ l
 ArcsRoom len start (read.Fault number place) = Unit {0}
 
 -- ---- transitions
--- whether a number is in a set that is kept as bits; those below n that are
-abbrev pub inSet : ℕ → ℕ → Bool
-inSet set v = eqb (set / 2 ^ v % 2) 1
-
-abbrev pub chosen : ℕ → ℕ → List ℕ
-chosen set n = keep (inSet set) (below n)
-
--- the size of a variable's set, and of all those in a set of variables together
-abbrev pub sizeFor : List ℕ → List ℕ → ℕ → ℕ
-sizeFor sizes vars v = getD sizes (getD vars v 0) 0
-
-abbrev pub productOf : List ℕ → List ℕ → ℕ → ℕ → ℕ
-productOf sizes vars set n = product (map (sizeFor sizes vars) (chosen set n))
-
 -- a variable stands in a transition
 abbrev pub inTransition : ℕ → Transition → Bool
 inTransition v t = inGuard v (t .guard) || any (λ a. inExpression v (a .expression)) (t .arcs)

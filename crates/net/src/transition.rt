@@ -1,70 +1,21 @@
 // One transition: its guard, its arcs, and its end.
 use crate::Read;
 use crate::arc::read_arcs;
-use crate::entry;
+use crate::bindings_of;
+use crate::count_of;
 use crate::fault;
 use crate::read_guard_if;
 use crate::table::after;
 use reading::byte_at;
 ghost use mathlib.Core.Path.{_≡_};
 ghost use mathlib.Core.List.{List, []};
-ghost use Prim.Native.Nat.{ℕ, _≤_, _<_, _+_, _*_, _/_, _%_, _^_};
+ghost use Prim.Native.Nat.{ℕ, _≤_, _<_, _+_, _*_};
 ghost use lib.ListN.{length, getD};
-ghost use Rattle.reading.specs.Basics.{if_then_else_};
 ghost use Rattle.net.specs.Net.{net, Place, Transition, bindingSpace};
 ghost use Rattle.net.specs.Told.{bits};
-ghost use Rattle.net.specs.Tables.{over, inSet, chosen, sizeFor, productOf, inTransition, guardPlace, ClosedTold, ClosedRoom, inside, transitionStopped, TransitionTold, TransitionRoom, TransitionFew};
+ghost use Rattle.net.specs.Tables.{over, inTransition, guardPlace, ClosedTold, ClosedRoom, inside, transitionStopped, TransitionTold, TransitionRoom, TransitionFew};
 ghost use Rattle.net.specs.Reader.{transitionPart};
 ghost use mathlib.Core.Option.{some};
-
-// 1 where v is in the set, else 0.
-fn bit(set: u32, v: usize) -> usize
-    requires { ⌜ v < 32 ⌝ }
-    ensures { λ r. ⌜ r ≡ set / 2 ^ v % 2 ⌝ }
-{
-    ((set >> (v as u32)) & 1) as usize
-}
-
-// How many numbers below n are in the set.
-fn count_in(set: u32, n: usize) -> usize
-    requires { ⌜ n ≤ 32 ⌝ }
-    ensures { λ r. ⌜ r ≡ length (chosen set n) ⌝ }
-{
-    let mut count: usize = 0;
-    let mut v = 0;
-    while v < n {
-        count += bit(set, v);
-        v += 1;
-    }
-    count
-}
-
-// The size of a variable's set, or 1 where the variable is not in the set of variables.
-fn factor(sizes: &[u8], vars: &[u8], set: u32, v: usize) -> usize
-    requires { ⌜ v < 32 ⌝ }
-    ensures { λ r. ⌜ r ≡ (if inSet set v then sizeFor (now (sizes .entry)) (now (vars .entry)) v else 1) ⌝ }
-{
-    if bit(set, v) == 1 {
-        return entry(sizes, entry(vars, v) as usize) as usize;
-    }
-    1
-}
-
-// The product of the set sizes of at most four variables.
-fn bindings(sizes: &[u8], vars: &[u8], set: u32) -> usize
-    requires { ⌜ length (now vars) ≤ 32 ⌝ }
-    requires { ⌜ length (chosen set (length (now vars))) ≤ 4 ⌝ }
-    ensures is { λ r. ⌜ r ≡ productOf (now (sizes .entry)) (now (vars .entry)) set (length (now (vars .entry))) ⌝ }
-    ensures small { λ r. ⌜ r ≤ 4228250625 ⌝ }
-{
-    let mut product: usize = 1;
-    let mut v = 0;
-    while v < vars.len() {
-        product = product * factor(sizes, vars, set, v);
-        v += 1;
-    }
-    product
-}
 
 // The end of a transition with these variables, after a binding space: the space with it in the place of a set, or the fault.
 fn close_at(
@@ -86,10 +37,10 @@ fn close_at(
     if byte_at(s, end) == 0x15 {
         return fault(3, end);
     }
-    if 4 < count_in(set, vars.len()) {
+    if 4 < count_of(set, vars.len()) {
         return fault(10, at);
     }
-    let more = space + bindings(sizes, vars, set);
+    let more = space + bindings_of(set, sizes, vars);
     if 65536 < more {
         return fault(11, at);
     }

@@ -1,6 +1,11 @@
 use native.Mathlib.Omega.{arith}
-use mathlib.Core.Path.{sym, _∙_}
-use Rattle.net.proofs.Closing.{at-most-four, space-is, closes-stray, closes-many, closes-wide, closes}
+use mathlib.Core.Path.{refl, sym, _∙_}
+use mathlib.Core.List.{[]}
+use Prim.Native.Nat.{_≤_}
+use lib.ListN.{length}
+use Rattle.net.specs.Net.{net, variablesOf}
+use Rattle.net.specs.Tables.{inTransition}
+use Rattle.net.proofs.Closing.{counted, multiplied, few-kept, space-is, closes-stray, closes-many, closes-wide, closes}
 use borrow.Author.Needs.{needs}
 use Rattle.net.proofs.transition.close_at.Statement.{statement}
 use Rattle.net.proofs.transition.close_at.Tie as tie
@@ -11,13 +16,13 @@ close-at-spec =
     (tie.spec
     (λ c κs. search needs)
     (λ c κs. search needs)
-    (λ c. rw (c .fault .ensures) (λ places ts t e f. closes-stray _ _ places (c .before .before .before .before .before .before .pre .0) t _ e ts f (c .before .before .before .before .before .before .args .s .now) (c .before .before .before .before .before .before .args .at) (c .before .before .before .before .before .before .args .end) (sym (c .before .before .byte-at .ensures .0) ∙ c .before .if1 .taken), tt))
+    (λ c. rw (c .fault .ensures) (λ places ts t e f. closes-stray (c .before .before .before .before .before .before .args .sizes .now) (c .before .before .before .before .before .before .args .vars .now) places t ts f (c .before .before .before .before .before .before .args .s .now) (c .before .before .before .before .before .before .args .at) (c .before .before .before .before .before .before .args .end) (sym (c .before .before .byte-at .ensures .0) ∙ c .before .if1 .taken), tt))
     (λ c κs. search needs)
     (λ c κs. search needs)
-    (λ c. rw (c .fault2 .ensures) (λ places ts t e f. closes-many _ _ places (c .before .before .before .before .before .before .before .before .pre .0) t _ e ts f (c .before .before .before .before .before .before .before .before .args .s .now) (c .before .before .before .before .before .before .before .before .args .at) (c .before .before .before .before .before .before .before .before .args .end) (λ z. c .before .before .before .if1 .left (c .before .before .before .before .byte-at .ensures .0 ∙ z)) (omega (arith, c .before .before .count-in .ensures)), tt))
-    (λ c κs. (search needs, (omega (arith, c .before .count-in .ensures))))
+    (λ c. rw (c .fault2 .ensures) (λ places ts t e f. let k = counted (c .before .before .before .before .before .before .before .before .args .sizes .now) (c .before .before .before .before .before .before .before .before .args .vars .now) places t (c .before .before .count-of .ensures .1 (λ v. inTransition v t) e (c .before .before .before .before .before .before .before .before .pre .0)) in closes-many (c .before .before .before .before .before .before .before .before .args .sizes .now) (c .before .before .before .before .before .before .before .before .args .vars .now) places t ts f (c .before .before .before .before .before .before .before .before .args .s .now) (c .before .before .before .before .before .before .before .before .args .at) (c .before .before .before .before .before .before .before .before .args .end) (λ z. c .before .before .before .if1 .left (c .before .before .before .before .byte-at .ensures .0 ∙ z)) (omega arith), tt))
+    (λ c κs. search needs)
     (λ c. search needs)
     (λ c κs. search needs)
-    (λ c. rw (c .fault3 .ensures) (λ places ts t e f. closes-wide _ _ places (c .before .before .before .before .before .before .before .before .before .before .pre .0) t _ e ts f (c .before .before .before .before .before .before .before .before .before .before .args .s .now) (c .before .before .before .before .before .before .before .before .before .before .args .at) (c .before .before .before .before .before .before .before .before .before .before .args .end) (λ z. c .before .before .before .before .before .if1 .left (c .before .before .before .before .before .before .byte-at .ensures .0 ∙ z)) (omega (arith, c .before .before .before .before .count-in .ensures)) (c .before .before .bindings .ensures .0) (search needs), tt))
+    (λ c. rw (c .fault3 .ensures) (λ places ts t e f. let k = counted (c .before .before .before .before .before .before .before .before .before .before .args .sizes .now) (c .before .before .before .before .before .before .before .before .before .before .args .vars .now) places t (c .before .before .before .before .count-of .ensures .1 (λ v. inTransition v t) e (c .before .before .before .before .before .before .before .before .before .before .pre .0)) in let h : length (variablesOf (net (c .before .before .before .before .before .before .before .before .before .before .args .sizes .now) (c .before .before .before .before .before .before .before .before .before .before .args .vars .now) places [] []) t) ≤ 4 = omega arith in let m = multiplied (c .before .before .before .before .before .before .before .before .before .before .args .sizes .now) (c .before .before .before .before .before .before .before .before .before .before .args .vars .now) places t (c .before .before .bindings-of .ensures .0 (net (c .before .before .before .before .before .before .before .before .before .before .args .sizes .now) (c .before .before .before .before .before .before .before .before .before .before .args .vars .now) places [] []) (λ v. inTransition v t) refl refl (c .before .before .before .before .before .before .before .before .before .before .pre .0) e (few-kept (c .before .before .before .before .before .before .before .before .before .before .args .sizes .now) (c .before .before .before .before .before .before .before .before .before .before .args .vars .now) places t h)) in closes-wide (c .before .before .before .before .before .before .before .before .before .before .args .sizes .now) (c .before .before .before .before .before .before .before .before .before .before .args .vars .now) places t ts f (c .before .before .before .before .before .before .before .before .before .before .args .s .now) (c .before .before .before .before .before .before .before .before .before .before .args .at) (c .before .before .before .before .before .before .before .before .before .before .args .end) (λ z. c .before .before .before .before .before .if1 .left (c .before .before .before .before .before .before .byte-at .ensures .0 ∙ z)) h m (search needs), tt))
     (λ c. search needs)
-    (λ c. (λ places ts t e f. (closes _ _ places (c .before .before .before .before .before .before .before .before .before .pre .0) t _ e ts f (c .before .before .before .before .before .before .before .before .before .args .s .now) (c .before .before .before .before .before .before .before .before .before .args .at) (c .before .before .before .before .before .before .before .before .before .args .end) (λ z. c .before .before .before .before .if1 .left (c .before .before .before .before .before .byte-at .ensures .0 ∙ z)) (omega (arith, c .before .before .before .count-in .ensures)) (c .before .bindings .ensures .0) (search needs), space-is _ _ places (c .before .before .before .before .before .before .before .before .before .pre .0) t _ e ts f (c .before .bindings .ensures .0), at-most-four _ _ places (c .before .before .before .before .before .before .before .before .before .pre .0) t _ e (omega (arith, c .before .before .before .count-in .ensures))), search needs)))
+    (λ c. (λ places ts t e f. let k = counted (c .before .before .before .before .before .before .before .before .before .args .sizes .now) (c .before .before .before .before .before .before .before .before .before .args .vars .now) places t (c .before .before .before .count-of .ensures .1 (λ v. inTransition v t) e (c .before .before .before .before .before .before .before .before .before .pre .0)) in let h : length (variablesOf (net (c .before .before .before .before .before .before .before .before .before .args .sizes .now) (c .before .before .before .before .before .before .before .before .before .args .vars .now) places [] []) t) ≤ 4 = omega arith in let m = multiplied (c .before .before .before .before .before .before .before .before .before .args .sizes .now) (c .before .before .before .before .before .before .before .before .before .args .vars .now) places t (c .before .bindings-of .ensures .0 (net (c .before .before .before .before .before .before .before .before .before .args .sizes .now) (c .before .before .before .before .before .before .before .before .before .args .vars .now) places [] []) (λ v. inTransition v t) refl refl (c .before .before .before .before .before .before .before .before .before .pre .0) e (few-kept (c .before .before .before .before .before .before .before .before .before .args .sizes .now) (c .before .before .before .before .before .before .before .before .before .args .vars .now) places t h)) in (closes (c .before .before .before .before .before .before .before .before .before .args .sizes .now) (c .before .before .before .before .before .before .before .before .before .args .vars .now) places t ts f (c .before .before .before .before .before .before .before .before .before .args .s .now) (c .before .before .before .before .before .before .before .before .before .args .at) (c .before .before .before .before .before .before .before .before .before .args .end) (λ z. c .before .before .before .before .if1 .left (c .before .before .before .before .before .byte-at .ensures .0 ∙ z)) h m (search needs), space-is (c .before .before .before .before .before .before .before .before .before .args .sizes .now) (c .before .before .before .before .before .before .before .before .before .args .vars .now) places t ts f m, h), search needs)))
