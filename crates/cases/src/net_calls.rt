@@ -116,8 +116,8 @@ pub fn first_order_case() {
 pub fn net_sizes_case() {
     let mut file = [0u8; 131072];
     let n = read_bytes(&mut file);
-    match net::net_sizes(&file[..n]) {
-        net::NetReply::Counted {
+    match net_file::net_sizes(&file[..n]) {
+        net_file::NetReply::Counted {
             places,
             transitions,
             bindings,
@@ -128,6 +128,6 @@ pub fn net_sizes_case() {
             say_number(transitions as u64);
             say_line(b" bindings ", bindings);
         }
-        net::NetReply::Refused { number, place } => say_refused(number, place),
+        net_file::NetReply::Refused { number, place } => say_refused(number, place),
     }
 }

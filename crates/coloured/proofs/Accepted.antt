@@ -4,11 +4,11 @@ use Prim.Native.Nat.{_≤_, _<_}
 use Rattle.reading.specs.Basics.{ℕ, List, [], take}
 use Rattle.reading.specs.Reading.{refused}
 use Rattle.net.specs.Net.{Net, net, flatPlaceCount}
-use Rattle.net.specs.Reader.{readNet}
-use Rattle.net.specs.Tables.{Started, TransitionsHold}
-use Rattle.net.specs.Held.{NetHolds, NetHeld, NetTold}
-use Rattle.net.specs.declared.file.NetRead.{NetRead}
-use Rattle.net.specs.declared.file.NetRead.the-variants.{Whole, Refused}
+use Rattle.net_file.specs.Parts.{readNet}
+use Rattle.net_file.specs.Tables.{Started, TransitionsHold}
+use Rattle.net_file.specs.Held.{NetHolds, NetHeld, NetTold}
+use Rattle.net_file.specs.declared.file.NetRead.{NetRead}
+use Rattle.net_file.specs.declared.file.NetRead.the-variants.{Whole, Refused}
 use Rattle.coloured.specs.Ready.{Ready}
 use Rattle.coloured.proofs.Tabled.{drawing}
 

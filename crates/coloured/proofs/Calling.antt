@@ -10,7 +10,7 @@ use Rattle.firing.proofs.Running as running
 use Rattle.firing.proofs.Running.{called}
 use Rattle.net.specs.Net.{Net, flatPlaceCount, sizesOf}
 use Rattle.net.specs.Told.{bits}
-use Rattle.net.specs.Reader.{readNet}
+use Rattle.net_file.specs.Parts.{readNet}
 use Rattle.coloured.specs.Effect.{transitionAt, bindings}
 use Rattle.coloured.specs.Orders.{orderOf, fireOrder, fireOrders, firstOrder}
 use Rattle.coloured.specs.Numbers.{digits, those, sizesOver, Coloured}

@@ -9,7 +9,7 @@ use lib.ListN.{length-map}
 use lib.Seq.{take-length, take-suc, length-take-le, getD-take}
 use Rattle.reading.specs.Basics.{ℕ, zero, suc, _+_, _*_, _/_, _%_, Bool, true, false, ltb, List, [], _∷_, _++_, map, flatMap, some, Option·map, length, take, getD, getElem?, with, numbersFrom, below, sum, product}
 use Rattle.reading.proofs.Lists.{map-same, map-getD, of-from}
-use Rattle.net.proofs.Totals.{sum-with}
+use Rattle.net_file.proofs.Totals.{sum-with}
 use Rattle.net.specs.Net.{always, Transition, Net, sizesOf, bindingSpace}
 use Rattle.coloured.specs.Effect.{transitionAt, choices, bindings}
 use Rattle.coloured.specs.Numbers.{digits, number, before}

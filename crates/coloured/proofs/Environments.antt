@@ -11,7 +11,7 @@ use Rattle.reading.specs.Basics.{ℕ, _+_, _/_, _%_, Bool, true, false, List, [
 use Rattle.reading.proofs.Lists.{All, end, also, in-all, of-from}
 use Rattle.net.specs.Net.{Net}
 use Rattle.net.specs.Told.{bits}
-use Rattle.net.proofs.Spaces.{member-bits, keep-bits, below-next}
+use Rattle.net_file.proofs.Spaces.{member-bits, keep-bits, below-next}
 use Rattle.coloured.specs.Effect.{standsFor}
 use Rattle.coloured.specs.Numbers.{digits, Coloured, member, sizeIn, Bound}
 use Rattle.coloured.proofs.Digits.{digits-with, digits-length}

@@ -12,7 +12,7 @@ use Rattle.net.specs.Net.{Guard, Expression, Place, Net, net}
 use Rattle.net.specs.Reader.{readGuard, readExpression}
 use Rattle.net.specs.Values.{holds, weight}
 use Rattle.net.specs.Evaluated.{bound, placeBy, Held, Skips, Weighs}
-use Rattle.net.specs.Tables.{GuardHolds}
+use Rattle.net_file.specs.Tables.{GuardHolds}
 use Rattle.net.specs.declared.evaluate.Ranked.{Ranked}
 use Rattle.net.specs.declared.evaluate.Weighed.{Weighed}
 use Rattle.net.specs.declared.evaluate.Tested.{Tested}

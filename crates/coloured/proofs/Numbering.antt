@@ -10,7 +10,7 @@ use lib.Seq.{length-take-le, getD-take, getD-drop, drop-drop, take-nil, drop-con
 use Rattle.reading.specs.Basics.{ℕ, zero, suc, _+_, _*_, Bool, true, false, _&&_, List, [], _∷_, map, length, take, drop, eqb, ltb, if_then_else_, numbersFrom, below, keep, every, product, byteAt}
 use Rattle.net.specs.Net.{Net}
 use Rattle.net.specs.Told.{bits}
-use Rattle.net.proofs.Spaces.{keep-bits}
+use Rattle.net_file.proofs.Spaces.{keep-bits}
 use Rattle.coloured.specs.Orders.{fits}
 use Rattle.coloured.specs.Numbers.{number, those, sizesOver, member, sizeIn, numberOf}
 use Rattle.coloured.specs.declared.binding.Numbered.{Numbered}

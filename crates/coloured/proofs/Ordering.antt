@@ -8,8 +8,8 @@ use lib.Seq.{drop-drop, getD-take, getD-drop}
 use Rattle.reading.specs.Basics.{ℕ, _+_, _-_, _*_, Bool, true, false, not, _&&_, _||_, List, [], _∷_, none, some, length, take, drop, eqb, ltb, if_then_else_, byteAt, product, any, getD}
 use Rattle.reading.proofs.Lists.{In, in-cases}
 use Rattle.net.specs.Net.{Arc, Transition, variablesOf, Colour, variable, constant, successor, predecessor, Guard, always, opposite, both, either, equal, less, Expression, one, two, all, plus, minus, times, Net, sizeOf, setOf, inColour, inGuard, inExpression, sizesOf}
-use Rattle.net.specs.Limits.{Limits}
-use Rattle.net.proofs.Spaces.{standsIn}
+use Rattle.net_file.specs.Limits.{Limits}
+use Rattle.net_file.proofs.Spaces.{standsIn}
 use Rattle.coloured.specs.Effect.{transitionAt, standsFor}
 use Rattle.coloured.specs.Orders.{fits, named}
 use Rattle.coloured.specs.Numbers.{digits, number, those, sizesOver, Coloured, Bound, numberOf}

@@ -9,10 +9,10 @@ use Rattle.firing.specs.Arcs.{Proper, rowIn, weights}
 use Rattle.firing.specs.Loops.{stoppedAt}
 use Rattle.firing.proofs.Running.{Searching}
 use Rattle.net.specs.Net.{Net, Transition, always, sizesOf, variablesOf, flatPlaceCount}
-use Rattle.net.specs.Limits.{Limits}
+use Rattle.net_file.specs.Limits.{Limits}
 use Rattle.net.specs.Told.{bits}
-use Rattle.net.proofs.Limits.{limits}
-use Rattle.net.proofs.Formed.{formed}
+use Rattle.net_file.proofs.Limits.{limits}
+use Rattle.net_file.proofs.Formed.{formed}
 use Rattle.coloured.specs.Effect.{Binding, transitionAt, bindings, effect}
 use Rattle.coloured.specs.Orders.{orderOf, named, fireOrder}
 use Rattle.coloured.specs.Numbers.{Coloured, Bound, before}

@@ -11,7 +11,7 @@ use Rattle.firing.specs.Loops.{stoppedAt}
 use Rattle.firing.proofs.Running.{Searching, search-begin, search-none, Tried, Stretch, stretch, stopped-in, stopped-out}
 use Rattle.net.specs.Net.{Net, sizeOf, sizesOf}
 use Rattle.net.specs.Told.{bits}
-use Rattle.net.proofs.Spaces.{bindings-counted}
+use Rattle.net_file.proofs.Spaces.{bindings-counted}
 use Rattle.coloured.specs.Effect.{transitionAt, bindings}
 use Rattle.coloured.specs.Orders.{orderOf, fireOrder}
 use Rattle.coloured.specs.Numbers.{before}

@@ -6,7 +6,7 @@ use lib.Seq.{getD-take}
 use Rattle.reading.specs.Basics.{ℕ, zero, suc, Bool, true, false, not, List, [], _∷_, map, length, getD, take, eqb, if_then_else_, sum}
 use Rattle.net.specs.Net.{single, pair, Net, net, coloursOf, placeAt}
 use Rattle.net.specs.Evaluated.{isPair}
-use Rattle.net.specs.Tables.{placesOf, Started, TransitionsHold}
+use Rattle.net_file.specs.Tables.{placesOf, Started, TransitionsHold}
 use Rattle.coloured.specs.Drawing.{Drawing}
 
 -- a place is a pair where its second set is not 255

@@ -7,8 +7,8 @@ use Rattle.reading.specs.Basics.{ℕ, Bool, true, false, _&&_, _||_, List, [], 
 use Rattle.reading.proofs.Lists.{In, here, there}
 use Rattle.reading.proofs.Gives.{both-first, both-second}
 use Rattle.net.specs.Net.{Colour, variable, constant, successor, predecessor, Guard, always, opposite, both, either, equal, less, Expression, one, two, all, plus, minus, times, Place, single, pair, Arc, Transition, Net, setOf, setsOf, inColour, inGuard, inExpression}
-use Rattle.net.specs.Formed.{colourFormed, guardFormed, comparable, ofSets, expressionFormed, Formed}
-use Rattle.net.proofs.Formed.{its-guard, its-expression}
+use Rattle.net_file.specs.Formed.{colourFormed, guardFormed, comparable, ofSets, expressionFormed, Formed}
+use Rattle.net_file.proofs.Formed.{its-guard, its-expression}
 use Rattle.coloured.specs.Drawing.{standsIn}
 
 -- one of two stands

@@ -7,7 +7,7 @@ use Rattle.firing.specs.Firing.{Weights}
 use Rattle.net.specs.Net.{Transition, Net, net, coloursOf, placeAt, flatPlaceCount, arcOn, inGuard, inExpression, variablesOf}
 use Rattle.net.specs.Reader.{readExpression}
 use Rattle.net.specs.Evaluated.{isPair}
-use Rattle.net.specs.Tables.{Slot, GuardHolds}
+use Rattle.net_file.specs.Tables.{Slot, GuardHolds}
 use Rattle.coloured.specs.Effect.{Binding, transitionAt, standsFor, arcWeight, effect}
 
 -- ---- arcs

@@ -8,7 +8,7 @@ use Rattle.net.specs.Net.{Guard, Expression, Place, Net, net, coloursOf, placeA
 use Rattle.net.specs.Reader.{readExpression}
 use Rattle.net.specs.Values.{holds, weight}
 use Rattle.net.specs.Evaluated.{bound, placeBy}
-use Rattle.net.specs.Tables.{GuardHolds}
+use Rattle.net_file.specs.Tables.{GuardHolds}
 use Rattle.coloured.specs.Effect.{Binding, transitionAt, effect}
 use Rattle.coloured.specs.Drawing.{rankArcs, placeArcs, kindArcs, Appended, Drawing, Binds, RowLoaded}
 use Rattle.coloured.specs.declared.effect.Loaded.{Loaded}

@@ -5,7 +5,7 @@ use Rattle.reading.specs.Basics.{ℕ, _+_, List, [], _∷_, map, length, getD, 
 use Rattle.reading.specs.Reading.{accepted}
 use Rattle.firing.specs.Firing.{Fired, fired, fire, First, found, nothing, first}
 use Rattle.net.specs.Net.{Net, sizesOf, flatPlaceCount}
-use Rattle.net.specs.Reader.{readNet}
+use Rattle.net_file.specs.Parts.{readNet}
 use Rattle.net.specs.Told.{bits}
 use Rattle.coloured.specs.Effect.{Binding, transitionAt, bindings, effect}
 use Rattle.coloured.specs.Orders.{orderOf, fireOrder}

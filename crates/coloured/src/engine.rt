@@ -7,7 +7,7 @@ use crate::effect::load_effect;
 use firing::Ends;
 use firing::answer;
 use firing::fire_row;
-use net::bindings_of;
+use net_file::bindings_of;
 use reading::byte_at;
 ghost use mathlib.Core.Path.{_≡_};
 ghost use Prim.Native.Nat.{ℕ, _<_, _+_, _*_, _/_, _≤_};

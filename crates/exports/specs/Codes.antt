@@ -5,7 +5,7 @@ use Rattle.reading.specs.Reading.{Outcome, accepted, refused}
 use Rattle.firing.specs.Firing.{First, found, nothing}
 use Rattle.firing.specs.Calls.{FireCall}
 use Rattle.flat.specs.Flat.{Sizes}
-use Rattle.net.specs.Calls.{NetSizes}
+use Rattle.net_file.specs.Calls.{NetSizes}
 use Rattle.unfolding.specs.Unfolding.{WriteCall}
 
 -- the code, the numbers behind `first`, `second` and `third`, and the lists lent for writing, as they are afterwards

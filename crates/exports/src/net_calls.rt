@@ -3,7 +3,7 @@ use crate::give::give;
 use crate::give::order_bytes;
 ghost use mathlib.Core.Path.{_≡_};
 ghost use Rattle.reading.specs.Basics.{[], _∷_};
-ghost use Rattle.net.specs.Calls.{netSizes};
+ghost use Rattle.net_file.specs.Calls.{netSizes};
 ghost use Rattle.coloured.specs.Orders.{fireOrders, firstOrder};
 ghost use Rattle.exports.specs.Codes.{returned, fireCode, firstOrderCode, netCode};
 
@@ -17,8 +17,8 @@ pub extern "C" fn kwz_net_sizes(
 ) -> u8
     ensures { λ r. ⌜ returned r (now (first .exit) ∷ now (second .exit) ∷ now (third .exit) ∷ []) [] ≡ netCode (netSizes (now (net .entry))) ⌝ }
 {
-    match net::net_sizes(net) {
-        net::NetReply::Counted {
+    match net_file::net_sizes(net) {
+        net_file::NetReply::Counted {
             places,
             transitions,
             bindings,
@@ -26,7 +26,7 @@ pub extern "C" fn kwz_net_sizes(
             *third = bindings;
             give(1, places, transitions, first, second)
         }
-        net::NetReply::Refused { number, place } => {
+        net_file::NetReply::Refused { number, place } => {
             *third = 0;
             give(0, number as usize, place, first, second)
         }

@@ -8,15 +8,15 @@ use Rattle.reading.specs.Reading.{accepted, refused}
 use Rattle.reading.proofs.Keeps.{both-true}
 use Rattle.reading.proofs.Lists.{at-below, at-in, getD-at}
 use Rattle.net.specs.Net.{Colour, variable, constant, successor, predecessor, Guard, always, opposite, both, either, equal, less, Net, setOf, inColour, inGuard}
-use Rattle.net.specs.Reader.{readNet}
-use Rattle.net.specs.Formed.{colourFormed, guardFormed}
-use Rattle.net.proofs.Limits.{limits}
-use Rattle.net.proofs.Formed.{formed, its-guard}
+use Rattle.net_file.specs.Parts.{readNet}
+use Rattle.net_file.specs.Formed.{colourFormed, guardFormed}
+use Rattle.net_file.proofs.Limits.{limits}
+use Rattle.net_file.proofs.Formed.{formed, its-guard}
 use Rattle.coloured.specs.Effect.{transitionAt}
 use Rattle.unfolding.specs.Walked.{Tables}
-use Rattle.net.specs.Held.{NetHolds, NetHeld, NetTold}
-use Rattle.net.specs.declared.file.NetRead.{NetRead}
-use Rattle.net.specs.declared.file.NetRead.the-variants.{Whole, Refused}
+use Rattle.net_file.specs.Held.{NetHolds, NetHeld, NetTold}
+use Rattle.net_file.specs.declared.file.NetRead.{NetRead}
+use Rattle.net_file.specs.declared.file.NetRead.the-variants.{Whole, Refused}
 
 -- ---- the variables of a guard are the net's
 either-of : {C : Type 0} (a b : Bool) → a || b ≡ true → (a ≡ true → C) → (b ≡ true → C) → C

@@ -12,7 +12,7 @@ use Rattle.firing.specs.Arcs.{row, weights}
 use Rattle.firing.proofs.Agree.{fire-same, fire-length}
 use Rattle.flat.specs.Flat.{fireRow, fireImage}
 use Rattle.net.specs.Net.{Net, flatPlaceCount}
-use Rattle.net.specs.Limits.{Limits}
+use Rattle.net_file.specs.Limits.{Limits}
 use Rattle.coloured.specs.Effect.{Binding, effect}
 use Rattle.coloured.specs.Orders.{named, fireOrder}
 use Rattle.firing.specs.Arcs.{rowOf}

@@ -12,9 +12,9 @@ use Rattle.firing.specs.Firing.{Fired, run, ending}
 use Rattle.firing.specs.Calls.{FireCall, fireChecks, fireCall}
 use Rattle.flat.specs.Flat.{fireImage, fireImages}
 use Rattle.net.specs.Net.{Net, flatPlaceCount}
-use Rattle.net.specs.Reader.{readNet}
-use Rattle.net.specs.Limits.{Limits}
-use Rattle.net.proofs.Limits.{limits}
+use Rattle.net_file.specs.Parts.{readNet}
+use Rattle.net_file.specs.Limits.{Limits}
+use Rattle.net_file.proofs.Limits.{limits}
 use Rattle.coloured.specs.Orders.{fireOrder, fireOrders}
 use Rattle.unfolding.specs.Unfolding.{unfolded, flatFile, rowNumber, image, images, WriteCall, writing, unfoldCall, imagesCall}
 use Rattle.unfolding.specs.Demand3.{twoAsOne, asRow, asRows, FireCallsAgree}

@@ -10,8 +10,8 @@ use Rattle.firing.specs.Firing.{Weights, Fired, First, found, nothing, oneMore,
 use Rattle.firing.specs.Calls.{firstCall}
 use Rattle.flat.specs.Flat.{Flat, readFlat, fireRow, fireImage, firstRow}
 use Rattle.net.specs.Net.{Net, flatPlaceCount}
-use Rattle.net.specs.Reader.{readNet}
-use Rattle.net.proofs.Limits.{limits}
+use Rattle.net_file.specs.Parts.{readNet}
+use Rattle.net_file.proofs.Limits.{limits}
 use Rattle.coloured.specs.Effect.{Binding, bindings, effect}
 use Rattle.coloured.specs.Orders.{orderOf, fireOrder, firstOrder}
 use Rattle.coloured.proofs.Named.{order-names}

@@ -9,7 +9,7 @@ use lib.Seq.{take-suc, take-length}
 use Rattle.reading.specs.Basics.{ℕ, zero, suc, _+_, List, [], _∷_, _++_, map, flatMap, length, getD, take, given, with, numbersFrom, below, sum}
 use Rattle.reading.proofs.Lists.{map-map, map-same, of-from}
 use Rattle.net.specs.Net.{Net, coloursOf, placeAt, flatPlaceCount, tokensOn}
-use Rattle.net.proofs.Spaces.{below-next}
+use Rattle.net_file.proofs.Spaces.{below-next}
 use Rattle.coloured.specs.Effect.{FlatPlace, flatPlaces}
 use Rattle.coloured.specs.Drawing.{startOf}
 use Rattle.coloured.proofs.Split.{start-next, start-low}

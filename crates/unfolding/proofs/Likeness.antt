@@ -12,8 +12,8 @@ use Rattle.flat.specs.Flat.{fireImage}
 use Rattle.flat.specs.Flat as flat
 use Rattle.flat.proofs.RoundTrip.{round-trip}
 use Rattle.net.specs.Net.{Net, flatPlaceCount}
-use Rattle.net.specs.Limits.{Limits}
-use Rattle.net.proofs.Limits.{limits}
+use Rattle.net_file.specs.Limits.{Limits}
+use Rattle.net_file.proofs.Limits.{limits}
 use Rattle.coloured.specs.Effect.{flatPlaces}
 use Rattle.coloured.specs.Orders.{fireOrder}
 use Rattle.coloured.proofs.FlatPlaces.{flat-places}

@@ -5,7 +5,7 @@ use borrow.Author.Tests.{le-leb, lt-leb, eq-eqb, ne-eqb}
 use Rattle.reading.specs.Basics.{ℕ, _*_, _/_, _%_, List, none, some, length, over}
 use Rattle.reading.specs.Reading.{Outcome, accepted, refused, failing}
 use Rattle.net.specs.Net.{Net, variablesOf}
-use Rattle.net.specs.Reader.{readNet}
+use Rattle.net_file.specs.Parts.{readNet}
 use Rattle.coloured.specs.Effect.{transitionAt}
 use Rattle.coloured.specs.Orders.{orderOf}
 use Rattle.coloured.specs.Numbers.{digits, those, sizesOver}

@@ -8,7 +8,7 @@ use Rattle.reading.specs.Basics.{ℕ, true, false, List, [], _∷_, _++_, Optio
 use Rattle.reading.proofs.Lists.{In, Apart, length-filterMap}
 use Rattle.firing.specs.Firing.{Weights, fired, fire}
 use Rattle.net.specs.Net.{Net}
-use Rattle.net.specs.Limits.{Limits}
+use Rattle.net_file.specs.Limits.{Limits}
 use Rattle.coloured.specs.Effect.{Binding, bindings, effect}
 use Rattle.coloured.specs.Orders.{orderOf, named, fireOrder}
 use Rattle.coloured.proofs.Bindings.{bindings-length}

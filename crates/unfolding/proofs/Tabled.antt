@@ -14,7 +14,7 @@ use Rattle.net.specs.Reader.{readGuard}
 use Rattle.net.specs.Told.{bits}
 use Rattle.net.specs.Values.{holds}
 use Rattle.net.specs.Evaluated.{Held}
-use Rattle.net.specs.Limits.{Limits}
+use Rattle.net_file.specs.Limits.{Limits}
 use Rattle.net.specs.declared.evaluate.Tested.{Tested}
 use Rattle.net.proofs.Alike.{holds-alike, holds-bound}
 use Rattle.coloured.specs.Effect.{Binding, transitionAt, standsFor, bindings}

@@ -10,8 +10,8 @@ use Rattle.reading.specs.Reading.{Outcome, accepted, refused, failing}
 use Rattle.flat.specs.Flat.{rowBytes, writeFlat}
 use Rattle.flat.proofs.Written.{placeBytes, length-places}
 use Rattle.net.specs.Net.{Net}
-use Rattle.net.specs.Reader.{readNet}
-use Rattle.net.specs.Held.{NetHeld}
+use Rattle.net_file.specs.Parts.{readNet}
+use Rattle.net_file.specs.Held.{NetHeld}
 use Rattle.coloured.proofs.Accepted.{ready}
 use Rattle.unfolding.specs.Unfolding.{unfolded, flatFile, WriteCall, unfoldCall, line, program}
 use Rattle.unfolding.specs.Pieces.{transitionBytes, Tabled}

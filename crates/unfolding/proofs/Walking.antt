@@ -11,7 +11,7 @@ use Rattle.firing.specs.Firing.{Weights}
 use Rattle.firing.proofs.Running.{take-with, split-here}
 use Rattle.net.specs.Net.{Net, variablesOf}
 use Rattle.net.specs.Values.{holds}
-use Rattle.net.specs.Limits.{Limits}
+use Rattle.net_file.specs.Limits.{Limits}
 use Rattle.coloured.specs.Effect.{Binding, transitionAt, standsFor, weightsOf, bindings, effect}
 use Rattle.coloured.specs.Orders.{orderOf, named}
 use Rattle.coloured.proofs.Named.{order-names, named-order, orders-apart}

@@ -6,8 +6,9 @@ use Rattle.firing.specs.Firing.{fire, run, ending, First, found, nothing, first
 use Rattle.firing.specs.Calls.{fireCall, firstCall}
 use Rattle.flat.specs.Flat.{writeFlat}
 use Rattle.net.specs.Net.{constant, Expression, one, all, minus, net, setOf, ceiling, inColour, inGuard, inExpression, variablesOf, bindingSpace}
-use Rattle.net.specs.Examples.{twoGauges}
-use Rattle.net.specs.Reader.{widthOf, readColour, readGuard, readExpression, setPart, variablePart, placePart, readGuardIf, arcPart, transitionPart, tokensPart, readNet}
+use Rattle.net_file.specs.Examples.{twoGauges}
+use Rattle.net.specs.Reader.{widthOf, readColour, readGuard, readExpression, readGuardIf}
+use Rattle.net_file.specs.Parts.{setPart, variablePart, placePart, arcPart, transitionPart, tokensPart, readNet}
 use Rattle.net.specs.Values.{colour, holds, weight}
 use Rattle.coloured.specs.Effect.{choices, bindings, standsFor, flatPlaces, effect}
 use Rattle.coloured.specs.Orders.{fits, named, fireOrder, fireOrders, firstOrder}

@@ -7,7 +7,7 @@ use Rattle.firing.specs.Firing.{Fired, fired, run, First, found, nothing}
 use Rattle.firing.specs.Calls.{FireCall}
 use Rattle.flat.specs.Flat.{Flat, readFlat, fireImage, fireImages, firstRow}
 use Rattle.net.specs.Net.{Net, flatPlaceCount}
-use Rattle.net.specs.Reader.{readNet}
+use Rattle.net_file.specs.Parts.{readNet}
 use Rattle.coloured.specs.Effect.{effect}
 use Rattle.coloured.specs.Orders.{named, fireOrder, fireOrders, firstOrder}
 use Rattle.unfolding.specs.Unfolding.{unfolded, flatFile, rowNumber, orderOfRow, image, images, unfoldCall, imagesCall, orderCall}

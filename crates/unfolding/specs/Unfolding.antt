@@ -5,7 +5,7 @@ use Rattle.firing.specs.Firing.{Weights}
 use Rattle.firing.specs.Arcs.{rowOf}
 use Rattle.flat.specs.Flat.{Flat, writeFlat}
 use Rattle.net.specs.Net.{Net, flatPlaceCount, tokensOn}
-use Rattle.net.specs.Reader.{readNet}
+use Rattle.net_file.specs.Parts.{readNet}
 use Rattle.coloured.specs.Effect.{FlatPlace, bindings, flatPlaces, effect}
 use Rattle.coloured.specs.Orders.{orderOf}
 

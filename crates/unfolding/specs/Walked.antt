@@ -3,8 +3,8 @@ use mathlib.Core.Path.{_≡_}
 use Prim.Native.Nat.{_≤_, _<_}
 use Rattle.reading.specs.Basics.{ℕ, _+_, Bool, true, _||_, List, [], _∷_, filterMap, Option·map, none, some, length, take, getD, getElem?, any}
 use Rattle.net.specs.Net.{Transition, Net, net, inGuard, inExpression, sizesOf}
-use Rattle.net.specs.Limits.{Limits}
-use Rattle.net.specs.Tables.{GuardHolds}
+use Rattle.net_file.specs.Limits.{Limits}
+use Rattle.net_file.specs.Tables.{GuardHolds}
 use Rattle.net.specs.Told.{bits}
 use Rattle.coloured.specs.Effect.{Binding, transitionAt, bindings, effect}
 use Rattle.coloured.specs.Orders.{orderOf}

@@ -2,7 +2,7 @@
 use crate::write::write_row;
 use coloured::Loaded;
 use coloured::load_binding;
-use net::bindings_of;
+use net_file::bindings_of;
 ghost use mathlib.Core.Path.{_≡_};
 ghost use Prim.Native.Nat.{ℕ, _+_, _*_, _≤_, _<_};
 ghost use lib.ListN.{length, getD};

@@ -1,12 +1,12 @@
 // The way back: from a row number to its binding.
 use crate::walk::count_one;
-use net::bindings_of;
+use net_file::bindings_of;
 ghost use mathlib.Core.Path.{_≡_};
 ghost use Prim.Native.Nat.{ℕ, _≤_, _<_, _+_};
 ghost use lib.ListN.{length};
 ghost use Rattle.reading.specs.Basics.{product};
 ghost use Rattle.net.specs.Net.{Net, sizesOf};
-ghost use Rattle.net.specs.Limits.{Limits};
+ghost use Rattle.net_file.specs.Limits.{Limits};
 ghost use Rattle.coloured.specs.Effect.{transitionAt};
 ghost use Rattle.coloured.specs.Numbers.{before};
 ghost use Rattle.unfolding.specs.Walked.{passed, Listed, Tables, SoughtTold, SoughtRoom, LocatedTold, LocatedRoom};

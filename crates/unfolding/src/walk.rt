@@ -1,14 +1,14 @@
 // The walk over all bindings in order, which gives each its row number.
 use coloured::set_binding;
-use net::bindings_of;
 use net::eval_guard;
+use net_file::bindings_of;
 ghost use mathlib.Core.Path.{_≡_};
 ghost use Prim.Native.Nat.{ℕ, _≤_, _<_, _+_};
 ghost use lib.ListN.{length, set};
 ghost use Rattle.reading.specs.Basics.{product};
 ghost use Rattle.net.specs.Net.{Net, Transition, variablesOf, sizesOf};
 ghost use Rattle.net.specs.Values.{holds};
-ghost use Rattle.net.specs.Limits.{Limits};
+ghost use Rattle.net_file.specs.Limits.{Limits};
 ghost use Rattle.coloured.specs.Effect.{transitionAt, standsFor, bindings};
 ghost use Rattle.coloured.specs.Numbers.{digits, before};
 ghost use Rattle.unfolding.specs.Walked.{passed, Numbers, Bases, Listed, Tables};

@@ -7,7 +7,7 @@ use Rattle.coloured.proofs.fire_orders.Tie as tie
 use Rattle.coloured.proofs.fire_orders.Reads as reads
 use Rattle.coloured.proofs.fire_orders.Lts as lts
 use Rattle.coloured.proofs.fire_on.Reads as fire-on-reads
-use Rattle.net.proofs.read_net.Reads as read-net-reads
+use Rattle.net_file.proofs.read_net.Reads as read-net-reads
 
 -- src/lib.rt:117:9
 slice-aggregate-read-net : tie.Need-slice-aggregate-read-net

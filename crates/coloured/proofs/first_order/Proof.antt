@@ -7,7 +7,7 @@ use Rattle.coloured.proofs.first_order.Tie as tie
 use Rattle.coloured.proofs.first_order.Reads as reads
 use Rattle.coloured.proofs.first_order.Lts as lts
 use Rattle.coloured.proofs.first_on.Reads as first-on-reads
-use Rattle.net.proofs.read_net.Reads as read-net-reads
+use Rattle.net_file.proofs.read_net.Reads as read-net-reads
 
 -- src/lib.rt:240:9
 slice-aggregate-read-net : tie.Need-slice-aggregate-read-net

@@ -4,7 +4,7 @@ use mathlib.Core.Path.{ap, sym}
 use lib.Bits.{and-mask}
 use lib.Dec.{eqb}
 use Prim.Native.Nat.{_/_, _^_}
-use Rattle.net.proofs.Spaces.{past}
+use Rattle.net_file.proofs.Spaces.{past}
 use Rattle.coloured.proofs.binding.has.Statement.{statement}
 use Rattle.coloured.proofs.binding.has.Tie as tie
 

@@ -1,7 +1,7 @@
 use borrow.Author.Needs.{needs}
 use mathlib.Core.Path.{sym, ap, _∙_}
 use Rattle.reading.specs.Basics.{[], _∷_}
-use Rattle.net.specs.Calls.{netReply}
+use Rattle.net_file.specs.Calls.{netReply}
 use Rattle.exports.specs.Codes.{netCode}
 use Rattle.exports.proofs.net_calls.kwz_net_sizes.Statement.{statement}
 use Rattle.exports.proofs.net_calls.kwz_net_sizes.Tie as tie

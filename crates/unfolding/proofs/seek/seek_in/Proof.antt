@@ -5,7 +5,7 @@ use Prim.Native.Nat.{ℕ, _≤_, _<_, _+_, _-_}
 use lib.ListN.{length}
 use Rattle.reading.specs.Basics.{product}
 use Rattle.net.specs.Net.{Net, sizesOf}
-use Rattle.net.specs.Limits.{Limits}
+use Rattle.net_file.specs.Limits.{Limits}
 use Rattle.coloured.specs.Effect.{transitionAt}
 use Rattle.coloured.specs.Numbers.{before}
 use Rattle.unfolding.specs.Walked.{passed, Listed}

@@ -1,0 +1,21 @@
+-- What an accepted net keeps to.
+use Prim.Native.Nat.{_≤_, _<_}
+use mathlib.Core.Path.{_≡_}
+use Rattle.reading.specs.Basics.{ℕ, true, [], length, getD, ltb, every}
+use Rattle.net.specs.Net.{always, Net, sizeOf, setsOf, placeAt, flatPlaceCount, variablesOf, bindingSpace}
+
+pub record Limits (n : Net) : Type 0 where
+  -- at most 16 sets, each of 1 to 64 colours
+  pub sets : length (n .sets) ≤ 16
+  pub sizes : (i : ℕ) → i < length (n .sets) → (1 ≤ sizeOf n i) × (sizeOf n i ≤ 64)
+  -- at most 32 variables, each of a set
+  pub variables : length (n .variables) ≤ 32
+  pub variable-sets : (v : ℕ) → v < length (n .variables) → getD (n .variables) v 0 < length (n .sets)
+  -- at most 32 places, each of sets, with at most 4,096 colours together
+  pub places : length (n .places) ≤ 32
+  pub place-sets : (p : ℕ) → p < length (n .places) → every (λ set. ltb set (length (n .sets))) (setsOf (placeAt n p)) ≡ true
+  pub flat-places : flatPlaceCount n ≤ 4096
+  -- at most 32 transitions, each of at most 4 variables, with at most 65,536 bindings together
+  pub transitions : length (n .transitions) ≤ 32
+  pub few-variables : (t : ℕ) → t < length (n .transitions) → length (variablesOf n (getD (n .transitions) t (record { guard = always; arcs = [] }))) ≤ 4
+  pub space : bindingSpace n (n .transitions) ≤ 65536

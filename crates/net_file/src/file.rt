@@ -1,0 +1,172 @@
+// The whole net file, part after part, into lent tables.
+use crate::Part;
+use crate::place::read_places;
+use crate::read_sets;
+use crate::read_variables;
+use crate::token::read_tokens;
+use crate::transitions::read_transitions;
+use net::after;
+ghost use mathlib.Core.Path.{_≡_};
+ghost use Prim.Native.Nat.{ℕ};
+ghost use lib.ListN.{length};
+ghost use Rattle.reading.specs.Reading.{Answer};
+ghost use Rattle.net.specs.Net.{Net};
+ghost use Rattle.net_file.specs.declared.Part.the-variants as part;
+ghost use Rattle.net_file.specs.Steps.{Bare};
+ghost use Rattle.net_file.specs.Held.{opened, openTold, closed, closeTold, refusal, NetTold};
+
+// A part that ends at a fault.
+fn stopped(number: u8, place: usize) -> Part
+    ensures { λ r. ⌜ r ≡ part.Fault number place ⌝ }
+{
+    Part::Fault { number, place }
+}
+
+// The first command: 0x01 and edition 1.
+fn read_opening(s: &[u8]) -> Part
+    ensures bare { λ r. ⌜ Bare r ⌝ }
+    ensures told { λ r. ⌜ ((content : ℕ → Answer Net) → opened (now (s .entry)) content ≡ openTold content r) ⌝ }
+{
+    if s.len() < 1 {
+        return stopped(2, s.len());
+    }
+    if s[0] == 0x01 {
+        let next = after(s, 0);
+        if s.len() < next {
+            return stopped(2, s.len());
+        }
+        if s[1] == 1 {
+            return Part::Whole(0, 0, next);
+        }
+        return stopped(5, 0);
+    }
+    stopped(3, 0)
+}
+
+// The last command: 0x1F, and nothing after it.
+fn read_closing(s: &[u8], at: usize) -> Part
+    ensures bare { λ r. ⌜ Bare r ⌝ }
+    ensures told { λ r. ⌜ ((n : Net) → closed (now (s .entry)) n at ≡ closeTold n r) ⌝ }
+{
+    if s.len() <= at {
+        return stopped(2, s.len());
+    }
+    if s[at] == 0x1F {
+        let next = after(s, at);
+        if next < s.len() {
+            return stopped(15, next);
+        }
+        return Part::Whole(0, 0, next);
+    }
+    stopped(3, at)
+}
+
+// A net file that was read: its counts, its flat places and its binding space; or the refusal.
+pub enum NetRead {
+    Whole {
+        sets: usize,
+        variables: usize,
+        places: usize,
+        total: usize,
+        transitions: usize,
+        space: usize,
+    },
+    Refused {
+        number: u8,
+        place: usize,
+    },
+}
+
+// The refusal at a part's fault; number 0 where it has none.
+fn refused(part: Part) -> NetRead
+    ensures { λ r. ⌜ r ≡ refusal part ⌝ }
+{
+    match part {
+        Part::Whole(_, _, next) => NetRead::Refused {
+            number: 0,
+            place: next,
+        },
+        Part::Fault { number, place } => NetRead::Refused { number, place },
+    }
+}
+
+// The whole net file: what it holds goes into the lent tables; named is for the reading alone.
+pub fn read_net(
+    s: &[u8],
+    sizes: &mut [u8],
+    vars: &mut [u8],
+    firsts: &mut [u8],
+    seconds: &mut [u8],
+    starts: &mut [usize],
+    uses: &mut [u32],
+    guards: &mut [u16],
+    arcs: &mut [u16],
+    initial: &mut [u16],
+    named: &mut [u8],
+) -> NetRead
+    requires { ⌜ length (now sizes) ≡ 16 ⌝ }
+    requires { ⌜ length (now vars) ≡ 32 ⌝ }
+    requires { ⌜ length (now firsts) ≡ 32 ⌝ }
+    requires { ⌜ length (now seconds) ≡ 32 ⌝ }
+    requires { ⌜ length (now starts) ≡ 33 ⌝ }
+    requires { ⌜ length (now uses) ≡ 32 ⌝ }
+    requires { ⌜ length (now guards) ≡ 32 ⌝ }
+    requires { ⌜ length (now arcs) ≡ 3072 ⌝ }
+    requires { ⌜ length (now initial) ≡ 4096 ⌝ }
+    requires { ⌜ length (now named) ≡ 4096 ⌝ }
+    ensures { λ r. ⌜ NetTold (now (s .entry)) (now (sizes .exit)) (now (vars .exit)) (now (firsts .exit)) (now (seconds .exit)) (now (starts .exit))
+        (now (uses .exit)) (now (guards .exit)) (now (arcs .exit)) (now (initial .exit)) r ⌝ }
+{
+    if 16384 < s.len() {
+        return NetRead::Refused {
+            number: 1,
+            place: 16384,
+        };
+    }
+    let part = read_opening(s);
+    let Part::Whole(_, _, next) = part else {
+        return refused(part);
+    };
+    let part = read_sets(s, sizes, next);
+    let Part::Whole(sets, _, next) = part else {
+        return refused(part);
+    };
+    let part = read_variables(s, &sizes[..sets], vars, next);
+    let Part::Whole(variables, _, next) = part else {
+        return refused(part);
+    };
+    let part = read_places(s, &sizes[..sets], firsts, seconds, starts, next);
+    let Part::Whole(places, total, next) = part else {
+        return refused(part);
+    };
+    let part = read_transitions(
+        s,
+        &sizes[..sets],
+        &vars[..variables],
+        &firsts[..places],
+        &seconds[..places],
+        uses,
+        guards,
+        arcs,
+        next,
+    );
+    let Part::Whole(transitions, space, next) = part else {
+        return refused(part);
+    };
+    let part = read_tokens(s, starts, places, total, initial, named, next);
+    let Part::Whole(_, _, next) = part else {
+        return refused(part);
+    };
+    let part = read_closing(s, next);
+    let Part::Whole(_, _, _) = part else {
+        return refused(part);
+    };
+    NetRead::Whole {
+        sets,
+        variables,
+        places,
+        total,
+        transitions,
+        space,
+    }
+}
