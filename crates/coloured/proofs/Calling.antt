@@ -8,13 +8,12 @@ use Rattle.firing.specs.Firing.{First, found, nothing, first}
 use Rattle.firing.specs.Loops.{Ran}
 use Rattle.firing.proofs.Running as running
 use Rattle.firing.proofs.Running.{called}
-use Rattle.net.specs.Net.{Net, flatPlaceCount, sizesOf}
+use Rattle.net.specs.Net.{Net, flatPlaceCount, sizesOf, inTransition}
 use Rattle.net.specs.Told.{bits}
 use Rattle.net_file.specs.Parts.{readNet}
 use Rattle.coloured.specs.Effect.{transitionAt, bindings}
 use Rattle.coloured.specs.Orders.{orderOf, fireOrder, fireOrders, firstOrder}
 use Rattle.coloured.specs.Numbers.{digits, those, sizesOver, Coloured}
-use Rattle.coloured.specs.Drawing.{standsIn}
 use Rattle.coloured.specs.Loading.{binding}
 use Rattle.coloured.specs.Ready.{Ready, numbered, searchTold, SearchWithin, bytesOf}
 use Rattle.coloured.specs.declared.order.Order.{Order}
@@ -72,8 +71,8 @@ module _ {s : List ℕ} {n : Net} {sizes vars seconds starts uses guards arcs : 
         let few = limited ready .transitions in
         let same : t % 256 ≡ t = omega (arith, within .0) in
         let bytes : bytesOf o ≡ orderOf (numbered n t i) =
-        told n (λ v. standsIn v (transitionAt n t)) (ready .drawing .sets) (ready .drawing .variables) (limited ready .variables) (is ∙ ready .used t (within .0)) (limits-coloured n (limited ready))
-        ∙ ap (λ k. orderOf (binding k (digits (sizesOver n (those n (λ v. standsIn v (transitionAt n t)))) i))) same
+        told n (λ v. inTransition v (transitionAt n t)) (ready .drawing .sets) (ready .drawing .variables) (limited ready .variables) (is ∙ ready .used t (within .0)) (limits-coloured n (limited ready))
+        ∙ ap (λ k. orderOf (binding k (digits (sizesOver n (those n (λ v. inTransition v (transitionAt n t)))) i))) same
         ∙ ap (λ z. orderOf (binding t (digits z i))) (transition-sizes n (transitionAt n t)) in
         ap (λ b. accepted (found b tried)) bytes ∙ first-is (f .0 ∙ ap (searchTold n) e)
 

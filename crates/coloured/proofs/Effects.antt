@@ -11,12 +11,12 @@ use Rattle.firing.specs.Arcs.{Arc, arcsOf, row, rowIn, rowOf, weights, Proper}
 use Rattle.firing.proofs.Agree.{fire-same}
 use Rattle.firing.proofs.Weighted.{row-agrees, row-proper}
 use Rattle.net.specs.Net as net
-use Rattle.net.specs.Net.{Transition, Net, net, flatPlaceCount, arcOn, variablesOf, inGuard, inExpression}
+use Rattle.net.specs.Net.{Transition, Net, net, flatPlaceCount, arcOn, variablesOf, inGuard, inExpression, inTransition}
 use Rattle.net.specs.Values.{holds, weight}
 use Rattle.net.specs.Evaluated.{bound}
 use Rattle.net.proofs.Alike.{holds-alike, holds-bound, weight-bound}
 use Rattle.coloured.specs.Effect.{Binding, FlatPlace, transitionAt, standsFor, flatPlaces, arcWeight, weightsOf, effect}
-use Rattle.coloured.specs.Drawing.{kindArcs, Appended, Drawing, standsIn, Binds, RowLoaded}
+use Rattle.coloured.specs.Drawing.{kindArcs, Appended, Drawing, Binds, RowLoaded}
 use Rattle.coloured.specs.Loading.{KindLoaded, GuardTold, binding}
 use Rattle.coloured.proofs.Split.{split, start-low, kind-few}
 use Rattle.coloured.proofs.Appending.{arcs-kept}
@@ -46,7 +46,7 @@ in-any test [] a m e = absurd (List·Memᴰ·not-nil m)
 in-any test (b ∷ l) a m e = in-cases (λ q. or-left (test b) _ (ap test (sym q) ∙ e)) (λ k. or-right (test b) _ (in-any test l a k e)) m
 
 -- ---- colours of a binding
-module _ (n : Net) (t : Transition) (env other : ℕ → ℕ) (same : (v : ℕ) → standsIn v t ≡ true → env v ≡ other v) where
+module _ (n : Net) (t : Transition) (env other : ℕ → ℕ) (same : (v : ℕ) → inTransition v t ≡ true → env v ≡ other v) where
   -- the guard, and each arc's weights
   guard-as : holds n env (t .guard) ≡ holds n other (t .guard)
   guard-as = holds-bound n env other (t .guard) (λ v e. same v (or-left _ (any (λ a. inExpression v (a .expression)) (t .arcs)) e))

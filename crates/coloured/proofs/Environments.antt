@@ -10,10 +10,10 @@ use lib.Seq.{getD-set-same, getD-set-other}
 use Rattle.reading.specs.Basics.{ℕ, _+_, _/_, _%_, Bool, true, false, List, [], _∷_, map, length, getD, eqb, if_then_else_, with, below, keep}
 use Rattle.reading.proofs.Lists.{All, end, also, in-all, of-from}
 use Rattle.net.specs.Net.{Net}
-use Rattle.net.specs.Told.{bits}
+use Rattle.net.specs.Told.{bits, member, sizeIn}
 use Rattle.net_file.proofs.Spaces.{member-bits, keep-bits, below-next}
 use Rattle.coloured.specs.Effect.{standsFor}
-use Rattle.coloured.specs.Numbers.{digits, Coloured, member, sizeIn, Bound}
+use Rattle.coloured.specs.Numbers.{digits, Coloured, Bound}
 use Rattle.coloured.proofs.Digits.{digits-with, digits-length}
 
 -- a test is not both

@@ -7,9 +7,8 @@ use borrow.Author.Tests.{lt-ltb, le-ltb, eq-eqb, ne-eqb}
 use lib.Seq.{drop-drop, getD-take, getD-drop}
 use Rattle.reading.specs.Basics.{ℕ, _+_, _-_, _*_, Bool, true, false, not, _&&_, _||_, List, [], _∷_, none, some, length, take, drop, eqb, ltb, if_then_else_, byteAt, product, any, getD}
 use Rattle.reading.proofs.Lists.{In, in-cases}
-use Rattle.net.specs.Net.{Arc, Transition, variablesOf, Colour, variable, constant, successor, predecessor, Guard, always, opposite, both, either, equal, less, Expression, one, two, all, plus, minus, times, Net, sizeOf, setOf, inColour, inGuard, inExpression, sizesOf}
+use Rattle.net.specs.Net.{Arc, Transition, variablesOf, Colour, variable, constant, successor, predecessor, Guard, always, opposite, both, either, equal, less, Expression, one, two, all, plus, minus, times, Net, sizeOf, setOf, inColour, inGuard, inExpression, sizesOf, inTransition}
 use Rattle.net_file.specs.Limits.{Limits}
-use Rattle.net_file.proofs.Spaces.{standsIn}
 use Rattle.coloured.specs.Effect.{transitionAt, standsFor}
 use Rattle.coloured.specs.Orders.{fits, named}
 use Rattle.coloured.specs.Numbers.{digits, number, those, sizesOver, Coloured, Bound, numberOf}
@@ -24,12 +23,12 @@ use Rattle.coloured.proofs.Numbering.{drop-take}
 pub limits-coloured : (n : Net) → Limits n → Coloured n
 limits-coloured n l v lt = l .sizes (getD (n .variables) v 0) (l .variable-sets v lt) .0
 
-pub transition-numbered : (n : Net) (t : Transition) (colours : List ℕ) {r : Numbered} → r ≡ numberOf (sizesOver n (those n (standsIn (t .guard) (t .arcs)))) colours → r ≡ numberOf (sizesOf n t) colours
+pub transition-numbered : (n : Net) (t : Transition) (colours : List ℕ) {r : Numbered} → r ≡ numberOf (sizesOver n (those n (λ v. inTransition v t))) colours → r ≡ numberOf (sizesOf n t) colours
 unfolding variablesOf
 transition-numbered n t colours e = e
 
 -- the sizes of a transition's variables
-pub transition-sizes : (n : Net) (t : Transition) → sizesOver n (those n (standsIn (t .guard) (t .arcs))) ≡ sizesOf n t
+pub transition-sizes : (n : Net) (t : Transition) → sizesOver n (those n (λ v. inTransition v t)) ≡ sizesOf n t
 unfolding variablesOf
 transition-sizes n t = refl
 
@@ -91,7 +90,7 @@ order-byte orders at k lt = getD-take 6 (drop at orders) k 0 lt ∙ getD-drop at
 
 -- ---- the slots of the code hold the binding's colours
 -- of every variable that stands in the transition
-pub agrees : (n : Net) (t : Transition) (i : ℕ) (env : List ℕ) → ((v : ℕ) → standsIn (t .guard) (t .arcs) v ≡ true → v < length (n .variables))
-    → Bound n (standsIn (t .guard) (t .arcs)) i env → (v : ℕ) → standsIn (t .guard) (t .arcs) v ≡ true → getD env v 0 ≡ standsFor (variablesOf n t) (digits (sizesOf n t) i) v
+pub agrees : (n : Net) (t : Transition) (i : ℕ) (env : List ℕ) → ((v : ℕ) → inTransition v t ≡ true → v < length (n .variables))
+    → Bound n (λ v. inTransition v t) i env → (v : ℕ) → inTransition v t ≡ true → getD env v 0 ≡ standsFor (variablesOf n t) (digits (sizesOf n t) i) v
 unfolding variablesOf
 agrees n t i env inside given v e = given v (inside v e) e

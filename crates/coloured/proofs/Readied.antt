@@ -8,7 +8,7 @@ use Rattle.firing.specs.Firing.{Fired, fired, fire, First, found, nothing, firs
 use Rattle.firing.specs.Arcs.{Proper, rowIn, weights}
 use Rattle.firing.specs.Loops.{stoppedAt}
 use Rattle.firing.proofs.Running.{Searching}
-use Rattle.net.specs.Net.{Net, Transition, always, sizesOf, variablesOf, flatPlaceCount}
+use Rattle.net.specs.Net.{Net, Transition, always, sizesOf, variablesOf, flatPlaceCount, inTransition}
 use Rattle.net_file.specs.Limits.{Limits}
 use Rattle.net.specs.Told.{bits}
 use Rattle.net_file.proofs.Limits.{limits}
@@ -16,7 +16,7 @@ use Rattle.net_file.proofs.Formed.{formed}
 use Rattle.coloured.specs.Effect.{Binding, transitionAt, bindings, effect}
 use Rattle.coloured.specs.Orders.{orderOf, named, fireOrder}
 use Rattle.coloured.specs.Numbers.{Coloured, Bound, before}
-use Rattle.coloured.specs.Drawing.{standsIn, Binds}
+use Rattle.coloured.specs.Drawing.{Binds}
 use Rattle.coloured.specs.Loading.{binding, EffectTold}
 use Rattle.coloured.specs.Ready.{Ready, numbered, fireBinding}
 use Rattle.coloured.specs.declared.effect.Loaded.{Loaded}
@@ -41,7 +41,7 @@ module _ {s : List ℕ} {n : Net} {sizes vars seconds starts uses guards arcs : 
       let it = at-below (n .transitions) t inside in
       let at : In (transitionAt n t) (n .transitions) = subst (λ u. In u (n .transitions)) (sym (getD-at (n .transitions) t (record { guard = always; arcs = [] }) (it .1))) (at-in (n .transitions) t (it .1)) in
       agrees n (transitionAt n t) i env (used-below n (formed s n (ready .read)) (transitionAt n t) at)
-      (set n (λ v. standsIn v (transitionAt n t)) (ready .drawing .sets) (ready .drawing .variables) (limited .variables) (e ∙ ready .used t inside) (limits-coloured n limited) (limited .variables))
+      (set n (λ v. inTransition v (transitionAt n t)) (ready .drawing .sets) (ready .drawing .variables) (limited .variables) (e ∙ ready .used t inside) (limits-coloured n limited) (limited .variables))
 
   -- a binding's effect, loaded and fired
   module _ (t i : ℕ) (m : List ℕ) (sized : length m ≡ flatPlaceCount n) where

@@ -9,13 +9,12 @@ use lib.ListN.{length-map}
 use Rattle.firing.specs.Firing.{First, found, nothing, first}
 use Rattle.firing.specs.Loops.{stoppedAt}
 use Rattle.firing.proofs.Running.{Searching, search-begin, search-none, Tried, Stretch, stretch, stopped-in, stopped-out}
-use Rattle.net.specs.Net.{Net, sizeOf, sizesOf}
+use Rattle.net.specs.Net.{Net, sizeOf, sizesOf, inTransition}
 use Rattle.net.specs.Told.{bits}
 use Rattle.net_file.proofs.Spaces.{bindings-counted}
 use Rattle.coloured.specs.Effect.{transitionAt, bindings}
 use Rattle.coloured.specs.Orders.{orderOf, fireOrder}
 use Rattle.coloured.specs.Numbers.{before}
-use Rattle.coloured.specs.Drawing.{standsIn}
 use Rattle.coloured.specs.Ready.{Ready, numbered, fireBinding}
 use Rattle.coloured.proofs.Named.{order-names}
 use Rattle.coloured.proofs.Digits.{bindings-at, before-next, before-all}

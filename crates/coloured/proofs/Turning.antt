@@ -5,12 +5,11 @@ use native.Mathlib.Omega.{arith}
 use native.Mathlib.Nat.{add-zero}
 use Rattle.reading.specs.Basics.{ℕ, _+_, _*_, Bool, List, none, some, length, getD, take, drop, byteAt}
 use Rattle.firing.specs.Firing.{Fired, fired}
-use Rattle.net.specs.Net.{Net, sizesOf}
+use Rattle.net.specs.Net.{Net, sizesOf, inTransition}
 use Rattle.net.specs.Told.{bits}
 use Rattle.coloured.specs.Effect.{Binding, transitionAt}
 use Rattle.coloured.specs.Orders.{named, fireOrder}
 use Rattle.coloured.specs.Numbers.{those, sizesOver, numberOf}
-use Rattle.coloured.specs.Drawing.{standsIn}
 use Rattle.coloured.specs.Ready.{Ready, numbered, fireBinding}
 use Rattle.coloured.specs.declared.binding.Numbered.{Numbered}
 use Rattle.coloured.specs.declared.binding.Numbered.the-variants.{At, Nothing}
@@ -55,7 +54,7 @@ module _ {s : List ℕ} {n : Net} {sizes vars seconds starts uses guards arcs : 
   number-is : r ≡ numberOf (sizesOf n (transitionAt n (byteAt (order n orders m i) 1))) (drop 2 (order n orders m i))
   number-is =
       transition-numbered n (transitionAt n t) (take 4 (drop (i * 6 + 2) orders))
-      (told n (λ v. standsIn v (transitionAt n t)) (ready .drawing .sets) (ready .drawing .variables) (limited ready .variables) (is ∙ ready .used t inside))
+      (told n (λ v. inTransition v (transitionAt n t)) (ready .drawing .sets) (ready .drawing .variables) (limited ready .variables) (is ∙ ready .used t inside))
       ∙ ap (λ k. numberOf (sizesOf n (transitionAt n k)) (take 4 (drop (i * 6 + 2) orders))) (sym its)
       ∙ ap (numberOf (sizesOf n (transitionAt n (byteAt (order n orders m i) 1)))) (sym (order-colours orders (i * 6)))
 

@@ -4,7 +4,7 @@ use Prim.Native.Nat.{_≤_, _<_}
 use Rattle.reading.specs.Basics.{ℕ, _+_, _-_, _*_, Bool, true, not, _||_, List, [], map, flatMap, Option, none, some, Option·map, length, getD, take, ltb, eqb, keep, numbersFrom, below, any, sum}
 use Rattle.firing.specs.Arcs.{Arc, arcsIn, rowIn, rowOf}
 use Rattle.firing.specs.Firing.{Weights}
-use Rattle.net.specs.Net.{Transition, Net, net, coloursOf, placeAt, flatPlaceCount, arcOn, inGuard, inExpression, variablesOf}
+use Rattle.net.specs.Net.{Transition, Net, net, coloursOf, placeAt, flatPlaceCount, arcOn, inGuard, inExpression, variablesOf, inTransition}
 use Rattle.net.specs.Reader.{readExpression}
 use Rattle.net.specs.Evaluated.{isPair}
 use Rattle.net_file.specs.Tables.{Slot, GuardHolds}
@@ -52,14 +52,10 @@ pub record Drawing (s : List ℕ) (n : Net) (sizes vars seconds starts guards ar
       (getD arcs (t * 96 + (k * 32 + p)) 0)
 
 -- ---- bindings
--- a variable stands in a transition
-abbrev pub standsIn : ℕ → Transition → Bool
-standsIn v t = inGuard v (t .guard) || any (λ a. inExpression v (a .expression)) (t .arcs)
-
 -- a list of colours, one a variable, gives the variables that stand in the binding's transition its colours
 abbrev pub Binds : Net → Binding → List ℕ → Type 0
 Binds n b env =
-    (v : ℕ) → standsIn v (transitionAt n (b .transition)) ≡ true → getD env v 0 ≡ standsFor (variablesOf n (transitionAt n (b .transition))) (b .colours) v
+    (v : ℕ) → inTransition v (transitionAt n (b .transition)) ≡ true → getD env v 0 ≡ standsFor (variablesOf n (transitionAt n (b .transition))) (b .colours) v
 
 -- the row of a binding's effect lies in two lent lists, of which it takes 12,288 slots at most
 pub record RowLoaded (n : Net) (b : Binding) (places amounts : List ℕ) (takes puts hinders : ℕ) : Type 0 where

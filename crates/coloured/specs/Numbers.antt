@@ -7,6 +7,7 @@ use Rattle.coloured.specs.Effect.{standsFor}
 use Rattle.coloured.specs.Orders.{fits}
 use Rattle.coloured.specs.declared.binding.Numbered.{Numbered}
 use Rattle.coloured.specs.declared.binding.Numbered.the-variants.{At, Nothing}
+use Rattle.net.specs.Told.{member, sizeIn}
 
 -- the colours of number i over these sizes; the last changes fastest
 unfoldable pub digits : List ℕ → ℕ → List ℕ
@@ -34,14 +35,6 @@ sizesOver n variables = map (λ v. sizeOf n (getD (n .variables) v 0)) variables
 -- each variable's set has a colour
 abbrev pub Coloured : Net → Type 0
 Coloured n = (v : ℕ) → v < length (n .variables) → 1 ≤ sizeOf n (getD (n .variables) v 0)
-
--- v is in a set of bits
-abbrev pub member : ℕ → ℕ → Bool
-member uses v = eqb (uses / 2 ^ v % 2) 1
-
--- the size of a variable's set, in the lists of the code
-abbrev pub sizeIn : List ℕ → List ℕ → ℕ → ℕ
-sizeIn sizes vars v = getD sizes (getD vars v 0) 0
 
 -- the slot of each variable that stands holds its colour in binding number i
 abbrev pub Bound : Net → (ℕ → Bool) → ℕ → List ℕ → Type 0

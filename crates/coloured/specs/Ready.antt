@@ -4,13 +4,13 @@ use Prim.Native.Nat.{_≤_, _<_}
 use Rattle.reading.specs.Basics.{ℕ, _+_, List, [], _∷_, map, length, getD, eqb, given, product}
 use Rattle.reading.specs.Reading.{accepted}
 use Rattle.firing.specs.Firing.{Fired, fired, fire, First, found, nothing, first}
-use Rattle.net.specs.Net.{Net, sizesOf, flatPlaceCount}
+use Rattle.net.specs.Net.{Net, sizesOf, flatPlaceCount, inTransition}
 use Rattle.net_file.specs.Parts.{readNet}
 use Rattle.net.specs.Told.{bits}
 use Rattle.coloured.specs.Effect.{Binding, transitionAt, bindings, effect}
 use Rattle.coloured.specs.Orders.{orderOf, fireOrder}
 use Rattle.coloured.specs.Numbers.{digits}
-use Rattle.coloured.specs.Drawing.{Drawing, standsIn}
+use Rattle.coloured.specs.Drawing.{Drawing}
 use Rattle.coloured.specs.Loading.{binding, EffectTold}
 use Rattle.coloured.specs.declared.effect.Loaded.{Loaded}
 use Rattle.coloured.specs.declared.order.Order.{Order}
@@ -21,7 +21,7 @@ use Rattle.coloured.specs.declared.engine.Searched.the-variants as searc
 pub record Ready (s : List ℕ) (n : Net) (sizes vars seconds starts uses guards arcs : List ℕ) (places transitions : ℕ) : Type 0 where
   pub read : readNet s ≡ accepted n
   pub drawing : Drawing s n sizes vars seconds starts guards arcs
-  pub used : (t : ℕ) → t < length (n .transitions) → getD uses t 0 ≡ bits (λ v. standsIn v (transitionAt n t)) 32
+  pub used : (t : ℕ) → t < length (n .transitions) → getD uses t 0 ≡ bits (λ v. inTransition v (transitionAt n t)) 32
   pub places-are : length (n .places) ≡ places
   pub transitions-are : length (n .transitions) ≡ transitions
 

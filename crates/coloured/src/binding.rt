@@ -7,8 +7,8 @@ ghost use lib.ListN.{length, take, drop, set};
 ghost use lib.Dec.{eqb};
 ghost use Rattle.reading.specs.Basics.{every};
 ghost use Rattle.net.specs.Net.{Net};
-ghost use Rattle.net.specs.Told.{bits};
-ghost use Rattle.coloured.specs.Numbers.{those, sizesOver, Coloured, member, sizeIn, Bound, numberOf};
+ghost use Rattle.net.specs.Told.{bits, member, sizeIn};
+ghost use Rattle.coloured.specs.Numbers.{those, sizesOver, Coloured, Bound, numberOf};
 
 // The number of a binding, or nothing where the colours name none.
 pub enum Numbered {

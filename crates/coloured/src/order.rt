@@ -6,9 +6,9 @@ ghost use mathlib.Core.Bool.{Bool, true, false};
 ghost use Prim.Native.Nat.{ℕ, _≤_, _<_, _/_, _%_};
 ghost use lib.ListN.{length};
 ghost use Rattle.net.specs.Net.{Net};
-ghost use Rattle.net.specs.Told.{bits};
+ghost use Rattle.net.specs.Told.{bits, member, sizeIn};
 ghost use Rattle.coloured.specs.Orders.{orderOf};
-ghost use Rattle.coloured.specs.Numbers.{digits, those, sizesOver, Coloured, member, sizeIn};
+ghost use Rattle.coloured.specs.Numbers.{digits, those, sizesOver, Coloured};
 ghost use Rattle.coloured.specs.Ready.{bytesOf};
 
 // An order: a transition and four colours.

@@ -5,9 +5,8 @@ use borrow.Author.Tests.{eq-eqb, ne-eqb, le-leb, lt-leb}
 use Rattle.reading.specs.Basics.{ℕ, _+_, true, false, List, [], map, length, getD, with, keep, below, product, byteAt, leb}
 use Rattle.reading.specs.Reading.{fine, fault}
 use Rattle.reading.proofs.Commands.{passes, done, fails, later}
-use Rattle.net.specs.Net.{Place, Transition, net, sizeOf, variablesOf, sizesOf, bindingSpace}
+use Rattle.net.specs.Net.{Place, Transition, net, sizeOf, variablesOf, sizesOf, bindingSpace, inTransition}
 use Rattle.net_file.specs.Parts.{ended}
-use Rattle.net_file.specs.Tables.{inTransition}
 use Rattle.net.proofs.Answers.{checked-goes, checked-stops}
 use Rattle.net_file.proofs.Totals.{sum-with}
 

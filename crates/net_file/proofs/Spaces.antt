@@ -8,16 +8,12 @@ use native.Mathlib.Omega.{arith}
 use lib.Bits.{bitOr}
 use lib.Pow.{pow-add, pow-pos, pow-mono, high}
 use Rattle.reading.specs.Basics.{ℕ, zero, suc, _+_, _*_, _/_, _%_, Bool, true, false, _||_, List, [], _∷_, map, length, getD, eqb, if_then_else_, with, numbersFrom, below, any, keep, product}
-use Rattle.net.specs.Net.{Net, Guard, Arc, Transition, sizeOf, sizesOf, variablesOf, bindingSpace, inGuard, inExpression}
-use Rattle.net.specs.Told.{bits}
+use Rattle.net.specs.Net.{Net, Guard, Arc, Transition, sizeOf, sizesOf, variablesOf, bindingSpace, inGuard, inExpression, inTransition}
+use Rattle.net.specs.Told.{bits, member, sizeIn}
 use Rattle.net.proofs.Answers.{bits-lt, bits-or}
 use Rattle.net_file.proofs.Totals.{sum-with}
 
 -- ---- members of a set of bits
--- v is in the set
-abbrev pub member : ℕ → ℕ → Bool
-member s v = eqb (s / 2 ^ v % 2) 1
-
 -- a higher bit does not change a lower one
 higher : (x d v : ℕ) → member (x + 2 ^ (suc d + v)) v ≡ member x v
 higher x d v =
@@ -179,10 +175,6 @@ module _ {s : ℕ} {f : ℕ → ℕ} {total v : ℕ} (inv : Multiplied s f total
   pub product-fits : (n : ℕ) → v ≤ n → length (keep (member s) (below n)) ≤ 4 → total ≤ 4228250625
   product-fits n le few = let h : length (keep (member s) (below v)) ≤ 4 = omega (arith, count-grows (member s) v n le) in le-trans (inv .most) (pow-le-pow-right {n = 255} (omega arith) h)
 
--- the size of a variable's set
-abbrev pub sizeIn : List ℕ → List ℕ → ℕ → ℕ
-sizeIn sizes vars v = getD sizes (getD vars v 0) 0
-
 -- at the end it is what the net says
 pub product-ends : (sizes vars : List ℕ) {s total v : ℕ} → Multiplied s (sizeIn sizes vars) total v → v ≡ length vars
     → (n : Net) (p : ℕ → Bool) → n .sets ≡ sizes → n .variables ≡ vars → length (n .variables) ≤ 32 → s ≡ bits p 32
@@ -191,48 +183,11 @@ product-ends sizes vars {s} {total} inv e n p es ev le eb =
     rw (es, ev) (rw (← e) (inv .is ∙ ap (λ l. product (map (sizeIn sizes vars) l)) (keep-bits p eb (omega (arith, rw ev at le)))))
 
 -- ---- transitions
--- a variable stands in the guard or an arc
-abbrev pub standsIn : Guard → List Arc → ℕ → Bool
-standsIn g arcs v = inGuard v g || any (λ a. inExpression v (a .expression)) arcs
-
--- the same tests have the same bits
-bits-same : (p q : ℕ → Bool) → ((v : ℕ) → p v ≡ q v) → (n : ℕ) → bits p n ≡ bits q n
-unfolding bits
-bits-same p q h zero = refl
-bits-same p q h (suc n) = ap₂ (λ b t. b + (if t then 2 ^ n else 0)) (bits-same p q h n) (h n)
-
--- laws of or
-or-none : (a : Bool) → a ≡ a || false
-or-none true = refl
-or-none false = refl
-
-or-assoc : (a b c : Bool) → (a || b) || c ≡ a || (b || c)
-or-assoc true b c = refl
-or-assoc false b c = refl
-
--- one more element
-any-with : {A : Type 0} (p : A → Bool) (l : List A) (a : A) → any p (with l a) ≡ any p l || p a
-unfolding any
-any-with p [] a = sym (or-none (p a))
-any-with p (x ∷ l) a = ap (λ t. p x || t) (any-with p l a) ∙ sym (or-assoc (p x) (any p l) (p a))
-
--- the variables of a guard with no arc yet, and with one arc more
-pub uses-guard : (g : Guard) → bits (λ v. inGuard v g) 32 ≡ bits (standsIn g []) 32
-unfolding any
-uses-guard g = bits-same (λ v. inGuard v g) (λ v. inGuard v g || false) (λ v. or-none (inGuard v g)) 32
-
-pub uses-with : (g : Guard) (arcs : List Arc) (a : Arc) {u w : ℕ} → u ≡ bits (standsIn g arcs) 32 → w ≡ bits (λ v. inExpression v (a .expression)) 32
-    → bitOr u w ≡ bits (standsIn g (with arcs a)) 32
-uses-with g arcs a e f = ap₂ bitOr e f ∙ bits-or (standsIn g arcs) (λ v. inExpression v (a .expression)) 32
-    ∙ bits-same (λ v. standsIn g arcs v || inExpression v (a .expression)) (standsIn g (with arcs a))
-    (λ v. or-assoc (inGuard v g) (any (λ b. inExpression v (b .expression)) arcs) (inExpression v (a .expression))
-    ∙ ap (λ t. inGuard v g || t) (sym (any-with (λ b. inExpression v (b .expression)) arcs a))) 32
-
 -- from what the code says of every test to the transition's variables
-module _ (n : Net) (t : Transition) (le : length (n .variables) ≤ 32) {uses : ℕ} (e : uses ≡ bits (standsIn (t .guard) (t .arcs)) 32) {r : ℕ} where
+module _ (n : Net) (t : Transition) (le : length (n .variables) ≤ 32) {uses : ℕ} (e : uses ≡ bits (λ v. inTransition v t) 32) {r : ℕ} where
   pub variables-counted : ((p : ℕ → Bool) → uses ≡ bits p 32 → length (n .variables) ≤ 32 → r ≡ length (keep p (below (length (n .variables))))) → r ≡ length (variablesOf n t)
   unfolding variablesOf
-  variables-counted h = h (standsIn (t .guard) (t .arcs)) e le
+  variables-counted h = h (λ v. inTransition v t) e le
 
   module _ {sizes vars : List ℕ} (es : n .sets ≡ sizes) (ev : n .variables ≡ vars) where
     -- at most four variables: their sets' sizes multiplied
@@ -240,12 +195,12 @@ module _ (n : Net) (t : Transition) (le : length (n .variables) ≤ 32) {uses : 
         → length (keep p (below (length (m .variables)))) ≤ 4 → r ≡ product (map (λ v. sizeOf m (getD (m .variables) v 0)) (keep p (below (length (m .variables))))))
         → length (variablesOf n t) ≤ 4 → r ≡ product (sizesOf n t)
     unfolding variablesOf
-    bindings-counted h few = h n (standsIn (t .guard) (t .arcs)) es ev le e few
+    bindings-counted h few = h n (λ v. inTransition v t) es ev le e few
 
     -- more than four: too many
     pub bindings-many : ((p : ℕ → Bool) → length vars ≤ 32 → uses ≡ bits p 32 → 4 < length (keep p (below (length vars))) → 65536 < r) → 4 < length (variablesOf n t) → 65536 < r
     unfolding variablesOf
-    bindings-many h many = h (standsIn (t .guard) (t .arcs)) (rw ev at le) e (rw ev at many)
+    bindings-many h many = h (λ v. inTransition v t) (rw ev at le) e (rw ev at many)
 
 -- one transition more adds its bindings
 pub space-with : (n : Net) (transitions : List Transition) (t : Transition) → bindingSpace n (with transitions t) ≡ bindingSpace n transitions + product (sizesOf n t)

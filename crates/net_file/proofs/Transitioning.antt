@@ -10,11 +10,11 @@ use lib.Seq.{length-take-le, getD-append-add, getD-take}
 use Rattle.reading.specs.Basics.{ℕ, _+_, _*_, List, [], _∷_, _++_, Option, some, none, Option·map, given, if_then_else_, length, getD, take, drop, with, any, eqb, ltb, byteAt}
 use Rattle.reading.specs.Reading.{Answer, fine, fault, standing, whole}
 use Rattle.reading.proofs.Commands.{past, end, other, passes, done, fails, standing-past, standing-none, stands-fails, stands-goes}
-use Rattle.net.specs.Net.{Guard, always, Arc, Transition, Place, Net, net, placeAt, arcOn, variablesOf, bindingSpace, inGuard}
+use Rattle.net.specs.Net.{Guard, always, Arc, Transition, Place, Net, net, placeAt, arcOn, variablesOf, bindingSpace, inGuard, inTransition}
 use Rattle.net.specs.Reader.{widthOf, command, readGuard, readGuardIf, readExpression}
 use Rattle.net_file.specs.Parts.{arcPart, ended, transitionPart}
 use Rattle.net.specs.Told.{bits, guardTold}
-use Rattle.net_file.specs.Tables.{placesOf, over, RowHolds, ArcsRead, ArcsTold, guardPlace, GuardHolds, inTransition, ClosedTold, inside, TransitionRead, TransitionTold, TransitionFew}
+use Rattle.net_file.specs.Tables.{placesOf, over, RowHolds, ArcsRead, ArcsTold, guardPlace, GuardHolds, ClosedTold, inside, TransitionRead, TransitionTold, TransitionFew}
 use Rattle.net_file.specs.declared.transition.TransitionStep.{TransitionStep}
 use Rattle.net_file.specs.declared.transition.TransitionStep.the-variants.{Done, More, Stop}
 use Rattle.net.specs.declared.Read.{Read}

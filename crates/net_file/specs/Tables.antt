@@ -3,7 +3,7 @@ use mathlib.Core.Path.{_≡_}
 use Prim.Native.Nat.{_<_, _≤_}
 use Rattle.reading.specs.Basics.{ℕ, _+_, _*_, Bool, _||_, List, [], _∷_, Option, none, some, Option·map, given, if_then_else_, with, any, map, sum, length, getD, take, eqb, byteAt}
 use Rattle.reading.specs.Reading.{Answer, fine, fault, _andThen_, whole}
-use Rattle.net.specs.Net.{Guard, always, Expression, Place, Arc, Transition, Tokens, Net, net, coloursOf, placeAt, arcOn, tokensOn, inGuard, inExpression, variablesOf, bindingSpace}
+use Rattle.net.specs.Net.{Guard, always, Expression, Place, Arc, Transition, Tokens, Net, net, coloursOf, placeAt, arcOn, tokensOn, inGuard, inExpression, variablesOf, bindingSpace, inTransition}
 use Rattle.net.specs.Reader.{readGuard, readGuardIf, readExpression}
 use Rattle.net_file.specs.Parts.{arcPart, ended, transitionPart, tokensPart}
 use Rattle.net.specs.Told.{bits, placeOf}
@@ -170,10 +170,6 @@ ArcsRoom len start (read.Whole next set uses) = (start ≤ next) × (start ≤ l
 ArcsRoom len start (read.Fault number place) = Unit {0}
 
 -- ---- transitions
--- a variable stands in a transition
-abbrev pub inTransition : ℕ → Transition → Bool
-inTransition v t = inGuard v (t .guard) || any (λ a. inExpression v (a .expression)) (t .arcs)
-
 -- where a guard stands: 0 without one
 abbrev pub guardPlace : List ℕ → ℕ → ℕ
 guardPlace s at = if eqb (byteAt s at) 0x15 then at + 1 else 0

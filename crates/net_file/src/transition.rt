@@ -11,9 +11,9 @@ ghost use mathlib.Core.Path.{_≡_};
 ghost use mathlib.Core.List.{List, []};
 ghost use Prim.Native.Nat.{ℕ, _≤_, _<_, _+_, _*_};
 ghost use lib.ListN.{length, getD};
-ghost use Rattle.net.specs.Net.{net, Place, Transition, bindingSpace};
+ghost use Rattle.net.specs.Net.{net, Place, Transition, bindingSpace, inTransition};
 ghost use Rattle.net.specs.Told.{bits};
-ghost use Rattle.net_file.specs.Tables.{over, inTransition, guardPlace, ClosedTold, ClosedRoom, inside, transitionStopped, TransitionTold, TransitionRoom, TransitionFew};
+ghost use Rattle.net_file.specs.Tables.{over, guardPlace, ClosedTold, ClosedRoom, inside, transitionStopped, TransitionTold, TransitionRoom, TransitionFew};
 ghost use Rattle.net_file.specs.Parts.{transitionPart};
 ghost use mathlib.Core.Option.{some};
 

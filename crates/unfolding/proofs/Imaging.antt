@@ -9,7 +9,7 @@ use lib.Seq.{drop-cons, length-take-le}
 use Rattle.reading.specs.Basics.{ℕ, zero, suc, _+_, _*_, _/_, List, [], _∷_, length, take, drop, getD, byteAt, items, over}
 use Rattle.reading.proofs.Lists.{below-at, getD-at}
 use Rattle.firing.proofs.Running.{item-at, length-items}
-use Rattle.net.specs.Net.{Net, variablesOf, sizesOf}
+use Rattle.net.specs.Net.{Net, variablesOf, sizesOf, inTransition}
 use Rattle.coloured.specs.Effect.{transitionAt, bindings}
 use Rattle.coloured.specs.Numbers.{digits, before, those, sizesOver, numberOf}
 use Rattle.coloured.specs.declared.binding.Numbered.{Numbered}
@@ -18,7 +18,7 @@ use Rattle.coloured.proofs.Bindings.{bound, bindings-length}
 use Rattle.coloured.proofs.Digits.{bindings-at}
 use Rattle.coloured.proofs.Ordering.{numbered-at, named-other, named-past, named-nothing, named-at, order-colours, order-byte}
 use Rattle.unfolding.specs.Unfolding.{rowNumber, image, images}
-use Rattle.unfolding.specs.Walked.{Numbers, Bases, stands, Tables}
+use Rattle.unfolding.specs.Walked.{Numbers, Bases, Tables}
 use Rattle.unfolding.specs.Out.{Appended}
 use Rattle.unfolding.proofs.Rows.{noRow}
 use Rattle.unfolding.proofs.Walking.{unnamed-number, named-number}
@@ -57,17 +57,17 @@ module _ {s guards sizes vars uses : List ℕ} {n : Net} {transitions : ℕ} (ta
     few = omega (arith, this, tables .are)
 
     -- the colours as the order has them
-    told : {r : Numbered} → r ≡ numberOf (sizesOver n (those n (stands (transitionAt n t)))) (take 4 (drop (i * 6 + 2) orders))
+    told : {r : Numbered} → r ≡ numberOf (sizesOver n (those n (λ v. inTransition v (transitionAt n t)))) (take 4 (drop (i * 6 + 2) orders))
         → r ≡ numberOf (sizesOf n (transitionAt n (byteAt order 1))) (drop 2 order)
     unfolding variablesOf
     told e = rw (this, order-colours orders (i * 6)) e
 
     -- they name no binding
-    pub no-binding : {r : Numbered} → r ≡ Nothing → r ≡ numberOf (sizesOver n (those n (stands (transitionAt n t)))) (take 4 (drop (i * 6 + 2) orders)) → noRow ≡ rowNumber n order
+    pub no-binding : {r : Numbered} → r ≡ Nothing → r ≡ numberOf (sizesOver n (those n (λ v. inTransition v (transitionAt n t)))) (take 4 (drop (i * 6 + 2) orders)) → noRow ≡ rowNumber n order
     no-binding e h = unnamed-number n (tables .limits) order (named-nothing n order first few (sym e ∙ told h))
 
     -- the number of the binding that they name
-    pub the-number : {bases numbers : List ℕ} {r : Numbered} {index x base : ℕ} → r ≡ At index → r ≡ numberOf (sizesOver n (those n (stands (transitionAt n t)))) (take 4 (drop (i * 6 + 2) orders))
+    pub the-number : {bases numbers : List ℕ} {r : Numbered} {index x base : ℕ} → r ≡ At index → r ≡ numberOf (sizesOver n (those n (λ v. inTransition v (transitionAt n t)))) (take 4 (drop (i * 6 + 2) orders))
         → Bases n bases transitions → Numbers n numbers (length (bindings n)) → length numbers ≡ 65536 → base ≡ getD bases t 0
         → (base + index < length numbers → x ≡ getD numbers (base + index) 0) → x ≡ rowNumber n order
     the-number {bases} {numbers} {r} {index} {x} {base} e h starts held len at read =

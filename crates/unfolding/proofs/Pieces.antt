@@ -11,11 +11,11 @@ use Rattle.reading.proofs.Lists.{map-map}
 use Rattle.firing.specs.Firing.{Weights}
 use Rattle.firing.specs.Arcs.{Row, rowIn, rowOf}
 use Rattle.flat.specs.Flat.{rowBytes}
-use Rattle.net.specs.Net.{Net, sizeOf, variablesOf, sizesOf, flatPlaceCount}
+use Rattle.net.specs.Net.{Net, sizeOf, variablesOf, sizesOf, flatPlaceCount, inTransition}
 use Rattle.net.specs.Told.{bits}
 use Rattle.coloured.specs.Effect.{Binding, transitionAt, choices, bindings, effect}
 use Rattle.coloured.specs.Numbers.{digits}
-use Rattle.coloured.specs.Drawing.{standsIn, RowLoaded}
+use Rattle.coloured.specs.Drawing.{RowLoaded}
 use Rattle.coloured.specs.Loading.{EffectTold}
 use Rattle.coloured.specs.Ready.{Ready, numbered}
 use Rattle.coloured.specs.declared.effect.Loaded.{Loaded}
@@ -167,7 +167,7 @@ module _ {s : List ℕ} {n : Net} {sizes vars seconds starts uses guards arcs : 
   all-given t lt e told =
       let inside : t < length (n .transitions) = omega (arith, ready .transitions-are) in
       ap (λ k. flatMap (bindingBytes n t) (below k))
-      (told n (λ v. standsIn v (transitionAt n t)) (ready .drawing .sets) (ready .drawing .variables) (limited ready .variables) (e ∙ ready .used t inside) (limited ready .few-variables t inside))
+      (told n (λ v. inTransition v (transitionAt n t)) (ready .drawing .sets) (ready .drawing .variables) (limited ready .variables) (e ∙ ready .used t inside) (limited ready .few-variables t inside))
 
   -- the tables are those of one net
   pub same-count : {m : Net} {j : ℕ} → Ready s m sizes vars seconds starts uses guards arcs count j → Ready s m sizes vars seconds starts uses guards arcs count transitions

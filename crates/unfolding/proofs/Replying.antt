@@ -4,13 +4,13 @@ use Prim.Native.Nat.{_≤_, _<_}
 use borrow.Author.Tests.{le-leb, lt-leb, eq-eqb, ne-eqb}
 use Rattle.reading.specs.Basics.{ℕ, _*_, _/_, _%_, List, none, some, length, over}
 use Rattle.reading.specs.Reading.{Outcome, accepted, refused, failing}
-use Rattle.net.specs.Net.{Net, variablesOf}
+use Rattle.net.specs.Net.{Net, variablesOf, inTransition}
 use Rattle.net_file.specs.Parts.{readNet}
 use Rattle.coloured.specs.Effect.{transitionAt}
 use Rattle.coloured.specs.Orders.{orderOf}
 use Rattle.coloured.specs.Numbers.{digits, those, sizesOver}
 use Rattle.unfolding.specs.Unfolding.{WriteCall, images, imagesCall, orderCall}
-use Rattle.unfolding.specs.Walked.{stands, LocatedTold, LocatedRoom}
+use Rattle.unfolding.specs.Walked.{LocatedTold, LocatedRoom}
 use Rattle.coloured.specs.Ready.{bytesOf}
 use Rattle.coloured.specs.declared.order.Order.{Order}
 use Rattle.unfolding.specs.declared.seek.Located.{Located}
@@ -53,7 +53,7 @@ module _ (s : List ℕ) {n : Net} (is : readNet s ≡ accepted n) where
 
   -- the order of a row
   pub order-found : (row : ℕ) {t index : ℕ} {r : Located} (o : Order) → r ≡ At t index → LocatedTold n row r
-      → bytesOf o ≡ orderOf (record { transition = t; colours = digits (sizesOver n (those n (stands (transitionAt n t)))) index }) → accepted (some (bytesOf o)) ≡ orderCall s row
+      → bytesOf o ≡ orderOf (record { transition = t; colours = digits (sizesOver n (those n (λ v. inTransition v (transitionAt n t)))) index }) → accepted (some (bytesOf o)) ≡ orderCall s row
   unfolding orderCall variablesOf
   order-found row o e h f = rw (is, subst (LocatedTold n row) e h) (ap (λ l. accepted (some l)) f)
 

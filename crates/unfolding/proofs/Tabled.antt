@@ -9,7 +9,7 @@ use lib.ListN.{set}
 use lib.Seq.{getD-set-same, getD-set-other}
 use Rattle.reading.specs.Basics.{ℕ, _+_, Bool, true, false, ltb, _||_, List, [], map, some, length, getD, getElem?, keep, below, any, product}
 use Rattle.reading.proofs.Lists.{below-at}
-use Rattle.net.specs.Net.{Transition, Net, net, inGuard, inExpression, sizeOf, variablesOf, sizesOf}
+use Rattle.net.specs.Net.{Transition, Net, net, inGuard, inExpression, sizeOf, variablesOf, sizesOf, inTransition}
 use Rattle.net.specs.Reader.{readGuard}
 use Rattle.net.specs.Told.{bits}
 use Rattle.net.specs.Values.{holds}
@@ -23,7 +23,7 @@ use Rattle.coloured.specs.Numbers.{digits, before, Bound}
 use Rattle.coloured.proofs.Bindings.{bound, bindings-length}
 use Rattle.coloured.proofs.Digits.{bindings-at, before-next, before-all}
 use Rattle.unfolding.specs.Unfolding.{rowNumber}
-use Rattle.unfolding.specs.Walked.{passed, Numbers, Bases, stands, Listed, Tables}
+use Rattle.unfolding.specs.Walked.{passed, Numbers, Bases, Listed, Tables}
 use Rattle.unfolding.proofs.Walking.{passed-none, passed-most, guard-passes, guard-fails, number-passes, number-fails}
 
 -- ---- one guard
@@ -41,7 +41,7 @@ module _ {s sizes vars : List ℕ} {n : Net} {t : Transition} {uses guard : ℕ}
   guard-none h = let e : guard ≡ 0 = omega arith in rw (listed .standing .without e)
 
   -- it is evaluated where it stands
-  pub guard-told : (slots : List ℕ) (r : Tested) → 1 ≤ guard → Bound n (stands t) i slots
+  pub guard-told : (slots : List ℕ) (r : Tested) → 1 ≤ guard → Bound n (λ v. inTransition v t) i slots
       → Held (net sizes vars (n .places) [] []) slots r (readGuard s (net sizes vars (n .places) [] []) 16 guard) → r .holds ≡ holds n env (t .guard)
   unfolding variablesOf
   guard-told slots r h given held =
@@ -157,4 +157,4 @@ pub size-told : {s sizes vars uses guards : List ℕ} {n : Net} {k : ℕ} → Ta
 unfolding variablesOf
 size-told {n = n} tables t lt told =
     let l = tables .each t lt in
-    told n (stands (transitionAt n t)) (l .sets) (l .variables) (tables .limits .variables) (l .used) (tables .limits .few-variables t (omega (arith, tables .are)))
+    told n (λ v. inTransition v (transitionAt n t)) (l .sets) (l .variables) (tables .limits .variables) (l .used) (tables .limits .few-variables t (omega (arith, tables .are)))

@@ -2,7 +2,7 @@
 use mathlib.Core.Path.{_≡_}
 use Prim.Native.Nat.{_≤_, _<_}
 use Rattle.reading.specs.Basics.{ℕ, _+_, Bool, true, _||_, List, [], _∷_, filterMap, Option·map, none, some, length, take, getD, getElem?, any}
-use Rattle.net.specs.Net.{Transition, Net, net, inGuard, inExpression, sizesOf}
+use Rattle.net.specs.Net.{Transition, Net, net, inGuard, inExpression, sizesOf, inTransition}
 use Rattle.net_file.specs.Limits.{Limits}
 use Rattle.net_file.specs.Tables.{GuardHolds}
 use Rattle.net.specs.Told.{bits}
@@ -31,15 +31,11 @@ pub record Bases (n : Net) (bases : List ℕ) (t : ℕ) : Type 0 where
   pub base : (u : ℕ) → u < t → getD bases u 0 ≡ before n u
 
 -- ---- what the walk reads
--- a variable stands in a transition
-abbrev pub stands : Transition → ℕ → Bool
-stands t v = inGuard v (t .guard) || any (λ a. inExpression v (a .expression)) (t .arcs)
-
 -- of one transition: its variables as bits, and where its guard stands
 pub record Listed (s : List ℕ) (n : Net) (sizes vars : List ℕ) (t : Transition) (uses guard : ℕ) : Type 0 where
   pub sets : n .sets ≡ sizes
   pub variables : n .variables ≡ vars
-  pub used : uses ≡ bits (stands t) 32
+  pub used : uses ≡ bits (λ v. inTransition v t) 32
   pub inside : (v : ℕ) → inGuard v (t .guard) ≡ true → v < length (n .variables)
   pub standing : GuardHolds s (net sizes vars (n .places) [] []) (t .guard) guard
 

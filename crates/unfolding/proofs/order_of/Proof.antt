@@ -1,11 +1,11 @@
 use native.Mathlib.Omega.{arith}
 use Rattle.coloured.specs.Effect.{transitionAt}
 use Rattle.coloured.proofs.Ordering.{limits-coloured}
-use Rattle.unfolding.specs.Walked.{stands}
 use Rattle.unfolding.proofs.Replying.{order-none, order-found, located-in}
 use borrow.Author.Needs.{needs}
 use Rattle.unfolding.proofs.order_of.Statement.{statement}
 use Rattle.unfolding.proofs.order_of.Tie as tie
+use Rattle.net.specs.Net.{inTransition}
 
 pub order-of-spec : {M : Type 1} → statement M
 order-of-spec =
@@ -23,4 +23,4 @@ order-of-spec =
     let t = c .before .before .before .transition .given .0 .0 in
     let l = tables .each t (located-in (c .before .before .before .before .before .before .before .before .before .before .before .args .transitions) (c .before .before .before .transition .given .1) (c .before .before .before .before .before .seek-row .ensures .1)) in
     order-found (c .before .before .before .before .before .before .before .before .before .before .before .args .s .now) is (c .before .before .before .before .before .before .before .before .before .before .before .args .row) _ (c .before .before .before .transition .given .1) (c .before .before .before .before .before .seek-row .ensures .0 n tables)
-    (c .order-at .ensures n (stands (transitionAt n t)) (l .sets) (l .variables) (tables .limits .variables) (l .used) (limits-coloured n (tables .limits)))))
+    (c .order-at .ensures n (λ v. inTransition v (transitionAt n t)) (l .sets) (l .variables) (tables .limits .variables) (l .used) (limits-coloured n (tables .limits)))))

@@ -3,10 +3,10 @@ use native.Mathlib.Omega.{arith}
 use mathlib.Core.Path.{_≡_, refl, _∙_}
 use Prim.Native.Nat.{ℕ, _≤_, _<_, _-_}
 use lib.ListN.{length}
-use Rattle.coloured.specs.Numbers.{member, sizeIn}
 use Rattle.coloured.proofs.Environments.{Setting, set-begins, set-turn, set-ends}
 use Rattle.coloured.proofs.binding.set_binding.Statement.{statement}
 use Rattle.coloured.proofs.binding.set_binding.Tie as tie
+use Rattle.net.specs.Told.{member, sizeIn}
 
 abbrev Inv-loop : tie.InvT-loop
 Inv-loop uses sizes vars index env₀ left₀ v₀ env left v =

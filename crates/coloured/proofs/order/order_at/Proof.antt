@@ -3,10 +3,10 @@ use native.Mathlib.Omega.{arith}
 use mathlib.Core.Path.{refl}
 use Prim.Native.Nat.{ℕ, _≤_, _<_, _-_}
 use lib.ListN.{length}
-use Rattle.coloured.specs.Numbers.{member, sizeIn}
 use Rattle.coloured.proofs.Gathering.{Gathering, gather-begins, gather-turn, gather-ends}
 use Rattle.coloured.proofs.order.order_at.Statement.{statement}
 use Rattle.coloured.proofs.order.order_at.Tie as tie
+use Rattle.net.specs.Told.{member, sizeIn}
 
 abbrev Inv-loop : tie.InvT-loop
 Inv-loop uses sizes vars transition index g₀ v₀ g v =

@@ -5,9 +5,10 @@ use mathlib.Core.Path.{sym, _∙_}
 use Prim.Native.Nat.{_-_, _≤_}
 use denote.Ref.{now}
 use lib.ListN.{length}
-use Rattle.net_file.proofs.Spaces.{Multiplied, sizeIn, product-begins, product-in, product-out, product-fits, product-ends}
+use Rattle.net_file.proofs.Spaces.{Multiplied, product-begins, product-in, product-out, product-fits, product-ends}
 use Rattle.net_file.proofs.space.bindings_of.Statement.{statement}
 use Rattle.net_file.proofs.space.bindings_of.Tie as tie
+use Rattle.net.specs.Told.{sizeIn}
 
 abbrev Inv-loop : tie.InvT-loop
 Inv-loop uses sizes vars total₀ v₀ total v = (v ≤ length vars) × Multiplied uses (sizeIn sizes vars) total v

@@ -3,8 +3,7 @@ use mathlib.Core.Path.{refl, sym, _∙_}
 use mathlib.Core.List.{[]}
 use Prim.Native.Nat.{_≤_}
 use lib.ListN.{length}
-use Rattle.net.specs.Net.{net, variablesOf}
-use Rattle.net_file.specs.Tables.{inTransition}
+use Rattle.net.specs.Net.{net, variablesOf, inTransition}
 use Rattle.net_file.proofs.Closing.{counted, multiplied, few-kept, space-is, closes-stray, closes-many, closes-wide, closes}
 use borrow.Author.Needs.{needs}
 use Rattle.net_file.proofs.transition.close_at.Statement.{statement}
