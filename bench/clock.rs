@@ -8,8 +8,8 @@ extern "C" {
 }
 
 const SAMPLE: f64 = 1e5; // a sample takes so many nanoseconds at least
-const ROUNDS: usize = 12;
-const SPENT: f64 = 4e8; // and a row so many for each size
+const ROUNDS: usize = 5;
+const SPENT: f64 = 2e8; // and a row so many for each size, in each pass
 
 /// The processor time of this thread so far, in nanoseconds: other work on the machine does not count.
 fn now() -> f64 {

@@ -52,8 +52,8 @@ fn main() {
     }
     println!("Both sides agree on all {} inputs.\n", 2 * ROWS.len());
     match args.first().map(String::as_str) {
-        None => table::print("time of one call", clock::measure, table::time),
-        Some("--count") => table::print("instructions of one call", count::measure, table::number),
+        None => table::print("time", 3, clock::measure, table::time),
+        Some("--count") => table::print("instructions", 1, count::measure, table::number),
         Some(word) => println!("{word}: not known; nothing, --count, or one ROW quarter|full proved|plain N"),
     }
 }

@@ -116,6 +116,22 @@ pub fn longest(bindings: u8) -> Vec<u8> {
     join(&[&[1, 1], &set(64), &set(bindings), &[0x11, 1, 0x13, 0, 0], &moves, &[0x1F]])
 }
 
+/// One place of so many colours; each binding takes one of every colour but its own, and puts them back.
+pub fn others(colours: u8) -> Vec<u8> {
+    let v = variable(0);
+    let moved = join(&[&[0x43], &all(1), &one(1, &[&v])]);
+    let moves = transition(&[], &[(TAKE, 0, &moved), (PUT, 0, &moved)]);
+    join(&[&[1, 1], &set(colours), &[0x11, 0, 0x12, 0], &moves, &[0x1F]])
+}
+
+/// One place of 64 colours; each binding takes one of its colour and of those before it, so many in all, and puts them back.
+pub fn runs(terms: usize) -> Vec<u8> {
+    let leaves: Vec<Vec<u8>> = (0..terms).map(|i| one(1, &[&join(&[&vec![0x33; i], &variable(0)])])).collect();
+    let sum = tree(0x42, &leaves);
+    let moves = transition(&[], &[(TAKE, 0, &sum), (PUT, 0, &sum)]);
+    join(&[&[1, 1], &set(64), &[0x11, 0, 0x12, 0], &moves, &[0x1F]])
+}
+
 /// Wide expressions: 4 bindings, whose take and put are sums of so many terms (a multiple of 64), each at a colour of its own out
 /// of 4,096.
 pub fn sums(terms: usize) -> Vec<u8> {

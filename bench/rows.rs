@@ -143,6 +143,8 @@ pub const ROWS: &[Row] = &[
     row("unfold", "65,536 bindings, guard mostly true", "bindings", |s| unfold(cube(s, Guard::Most))),
     row("unfold", "65,536 bindings, guard mostly false", "bindings", |s| unfold(cube(s, Guard::Few))),
     row("unfold", "64 rows of 12,288 arcs", "bindings", |s| unfold(nets::longest(s.of(64) as u8))),
+    row("unfold", "64 bindings, all colours but one", "colours", |s| unfold(nets::others(s.of(64) as u8))),
+    row("unfold", "64 bindings, sums of 4 terms", "terms", |s| unfold(nets::runs(s.of(4)))),
     row("unfold", "4 rows, sums of 256 terms", "terms", |s| unfold(nets::sums(s.of(256)))),
     row("images", "64 bindings, 1 order", "transitions", |s| images_of(gauges(s, 8), gauge_orders(1, 8, 2))),
     row("images", "64 bindings, 65,536 orders", "orders", |s| images_of(nets::gauges(8, 8), gauge_orders(s.of(LONG), 8, 8))),
@@ -163,6 +165,11 @@ pub const ROWS: &[Row] = &[
     }),
     row("fire on the drawing", "near 16,384 bytes, 1 order", "bytes", |s| on_drawing(nets::expressions(s.of(32) as u8), 16, vec![0x60, 0, 1, 3, 0, 0])),
     row("fire on the drawing", "rows of 12,288 arcs, 64 orders", "orders", |s| on_drawing(nets::longest(64), 4096, gauge_orders(s.of(64), 64, 1))),
+    row("fire on the drawing", "all colours but one, 64 orders", "colours", |s| {
+        let colours = s.of(64);
+        on_drawing(nets::others(colours as u8), colours, gauge_orders(64, colours, 1))
+    }),
+    row("fire on the drawing", "sums of 4 terms, 4,096 orders", "terms", |s| on_drawing(nets::runs(s.of(4)), 64, gauge_orders(4096, 64, 1))),
     row("fire on the drawing", "sums of 256 terms, 16 orders", "terms", |s| on_drawing(nets::sums(s.of(256)), 4096, gauge_orders(16, 4, 1))),
     row("fire on the flat net", "64 rows, 1 image", "rows", |s| on_flat(gauges(s, 8), 16, gauge_orders(1, 8, 2))),
     row("fire on the flat net", "64 rows, 65,536 images", "images", |s| on_flat(nets::gauges(8, 8), 16, gauge_orders(s.of(LONG), 8, 8))),

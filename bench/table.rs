@@ -1,12 +1,12 @@
 //! The table: for each row what one call takes by each side, their ratio, and how that grows from a quarter of the input.
-use crate::rows::{Size, ROWS};
+use crate::rows::{Row, Size, ROWS};
 
 /// A time, of nanoseconds.
 pub fn time(ns: f64) -> String {
     match ns {
         _ if ns < 1e3 => format!("{ns:.0} ns"),
-        _ if ns < 1e6 => format!("{:.3} us", ns / 1e3),
-        _ => format!("{:.3} ms", ns / 1e6),
+        _ if ns < 1e6 => format!("{:.2} us", ns / 1e3),
+        _ => format!("{:.2} ms", ns / 1e6),
     }
 }
 
@@ -17,18 +17,39 @@ pub fn number(n: f64) -> String {
     threes.collect::<Vec<_>>().join(",")
 }
 
-/// Prints all rows, each measured at a quarter of its input and at the whole of it.
-pub fn print(what: &str, measure: fn(usize, Size) -> [f64; 2], show: fn(f64) -> String) {
-    println!("{what}; growth: from a quarter of the input to the input, in the measure named\n");
-    println!("| no. | call | input | proved | plain | ratio | of | growth, proved | growth, plain | ratio at a quarter |");
-    println!("|---|---|---|---|---|---|---|---|---|---|");
-    let mut log = 0.0;
-    for (i, row) in ROWS.iter().enumerate() {
-        let ([proved, plain], [proved4, plain4]) = (measure(i, Size::Quarter), measure(i, Size::Full));
-        println!("| {} | {} | {} | {} | {} | **{:.2}** | {} | {:.1} | {:.1} | {:.2} |",
-                 i + 1, row.part, row.name, show(proved4), show(plain4), proved4 / plain4,
-                 row.grows, proved4 / proved, plain4 / plain, proved / plain);
-        log += (proved4 / plain4).ln();
+/// What a row takes: proved and plain, at a quarter of the input and at the whole of it.
+type Taken = [[f64; 2]; 2];
+
+/// The least that each row takes in so many passes over all rows.
+fn passes(count: usize, measure: fn(usize, Size) -> [f64; 2]) -> Vec<Taken> {
+    let mut least = vec![[[f64::MAX; 2]; 2]; ROWS.len()];
+    for pass in 0..count {
+        for (i, row) in least.iter_mut().enumerate() {
+            eprint!("\rpass {} of {count}, row {} of {}  ", pass + 1, i + 1, ROWS.len());
+            for (of, size) in row.iter_mut().zip([Size::Quarter, Size::Full]) {
+                of.iter_mut().zip(measure(i, size)).for_each(|(least, now)| *least = least.min(now));
+            }
+        }
     }
-    println!("\nThe ratios' geometric mean: {:.2}", (log / ROWS.len() as f64).exp());
+    eprintln!();
+    least
+}
+
+fn print_row(number: usize, row: &Row, taken: &Taken, show: fn(f64) -> String) {
+    let [[proved, plain], [proved4, plain4]] = taken;
+    println!("| {number} | {} | {} | {} | {} | {:.2} | {} | {:.1} | {:.1} | {:.2} |",
+             row.part, row.name, show(*proved4), show(*plain4), proved4 / plain4, row.grows, proved4 / proved, plain4 / plain, proved / plain);
+}
+
+/// Measures all rows in so many passes, and prints them.
+pub fn print(what: &str, count: usize, measure: fn(usize, Size) -> [f64; 2], show: fn(f64) -> String) {
+    let all = passes(count, measure);
+    println!("| no. | call | input | proved, {what} | plain | ratio | four times | proved grows | plain grows | ratio at a quarter |");
+    println!("|--:|---|---|--:|--:|--:|---|--:|--:|--:|");
+    for (i, (row, taken)) in ROWS.iter().zip(&all).enumerate() {
+        print_row(i + 1, row, taken, show);
+    }
+    let logs: f64 = all.iter().map(|[_, [proved, plain]]| (proved / plain).ln()).sum();
+    let above = all.iter().filter(|[_, [proved, plain]]| *proved > 1.5 * plain).count();
+    println!("\nThe ratios' geometric mean: {:.2}; above 1.5: {above} of {}.", (logs / ROWS.len() as f64).exp(), ROWS.len());
 }
