@@ -1,10 +1,10 @@
-//! How many instructions a call takes, by callgrind: this program runs one row's call twice and four times by one side; half the
-//! difference is one call.
+//! How many instructions a call takes, by callgrind: this program runs one row's call once and twice by one side; the difference
+//! is one call.
 use crate::rows::Size;
 use crate::sides::{Side, PLAIN, PROVED};
 use std::process::Command;
 
-const CALLS: usize = 2;
+const CALLS: usize = 1;
 
 /// The instructions of a whole run with so many calls.
 fn collected(row: usize, size: Size, side: &Side, calls: usize) -> f64 {

@@ -28,9 +28,9 @@ fn check(row: &Row, size: Size) {
     }
 }
 
-/// One row's call so many times by one side, for a profile: ROW quarter|full proved|plain N.
+/// One row's call so many times by one side, for a profile: NUMBER quarter|full proved|plain N.
 fn one(args: &[String]) {
-    let [row, size, side, times] = args else { return println!("one ROW quarter|full proved|plain N") };
+    let [row, size, side, times] = args else { return println!("one NUMBER quarter|full proved|plain N") };
     let size = if size == "full" { Size::Full } else { Size::Quarter };
     let side = if side == "proved" { &PROVED } else { &PLAIN };
     let row: usize = row.parse().expect("a row's number");
@@ -41,19 +41,26 @@ fn one(args: &[String]) {
     }
 }
 
+/// The rows whose numbers are given; all where none is.
+fn named(numbers: &[String]) -> Vec<usize> {
+    let rows: Vec<usize> = numbers.iter().filter_map(|word| word.parse().ok()).filter(|n| (1..=ROWS.len()).contains(n)).collect();
+    if rows.is_empty() { (0..ROWS.len()).collect() } else { rows.iter().map(|n| n - 1).collect() }
+}
+
 fn main() {
     let args: Vec<String> = std::env::args().skip(1).collect();
     if args.first().is_some_and(|word| word == "one") {
         return one(&args[1..]);
     }
-    for row in ROWS {
-        check(row, Size::Quarter);
-        check(row, Size::Full);
+    let rows = named(&args);
+    for &row in &rows {
+        check(&ROWS[row], Size::Quarter);
+        check(&ROWS[row], Size::Full);
     }
-    println!("Both sides agree on all {} inputs.\n", 2 * ROWS.len());
-    match args.first().map(String::as_str) {
-        None => table::print("time", 3, clock::measure, table::time),
-        Some("--count") => table::print("instructions", 1, count::measure, table::number),
-        Some(word) => println!("{word}: not known; nothing, --count, or one ROW quarter|full proved|plain N"),
+    println!("Both sides agree on all {} inputs.\n", 2 * rows.len());
+    if args.first().is_some_and(|word| word == "--count") {
+        table::print(&rows, "instructions", 1, count::measure, table::number);
+    } else {
+        table::print(&rows, "time", 3, clock::measure, table::time);
     }
 }

@@ -116,6 +116,18 @@ pub fn longest(bindings: u8) -> Vec<u8> {
     join(&[&[1, 1], &set(64), &set(bindings), &[0x11, 1, 0x13, 0, 0], &moves, &[0x1F]])
 }
 
+/// So many variables, places and transitions, over 8 colours: each transition moves a token from its place to the next one by its
+/// own variable.
+pub fn ring(things: u8) -> Vec<u8> {
+    let mut file = join(&[&[1, 1], &set(8), &[0x11, 0].repeat(things as usize), &[0x12, 0].repeat(things as usize)]);
+    for t in 0..things {
+        let moved = one(1, &[&variable(t)]);
+        file.extend(transition(&[], &[(TAKE, t, &moved), (PUT, (t + 1) % things, &moved)]));
+    }
+    file.push(0x1F);
+    file
+}
+
 /// One place of so many colours; each binding takes one of every colour but its own, and puts them back.
 pub fn others(colours: u8) -> Vec<u8> {
     let v = variable(0);

@@ -138,6 +138,7 @@ pub const ROWS: &[Row] = &[
     row("read a flat file", "65,536 rows", "rows", |s| Input::new(Call::FlatSizes, unfolded(&cube(s, Guard::None)))),
     row("read a flat file", "64 rows of 12,288 arcs", "rows", |s| Input::new(Call::FlatSizes, unfolded(&nets::longest(s.of(64) as u8)))),
     row("unfold", "few colours: 16, 64 bindings", "transitions", |s| unfold(gauges(s, 8))),
+    row("unfold", "32 variables, places and transitions", "all three", |s| unfold(nets::ring(s.of(32) as u8))),
     row("unfold", "4,096 colours, one touched by an arc", "colours", |s| unfold(square(s))),
     row("unfold", "65,536 bindings, no guard", "bindings", |s| unfold(cube(s, Guard::None))),
     row("unfold", "65,536 bindings, guard mostly true", "bindings", |s| unfold(cube(s, Guard::Most))),
@@ -162,6 +163,10 @@ pub const ROWS: &[Row] = &[
     row("fire on the drawing", "4,096 colours, one touched, 4,096 orders", "colours", |s| {
         let side = if s == Size::Full { 64 } else { 32 };
         on_drawing(square(s), side * side, orders(4096, 1, [side, side, 1]))
+    }),
+    row("fire on the drawing", "32 places and transitions, 4,096 orders", "all three", |s| {
+        let things = s.of(32);
+        on_drawing(nets::ring(things as u8), 8 * things, gauge_orders(4096, 8, things))
     }),
     row("fire on the drawing", "near 16,384 bytes, 1 order", "bytes", |s| on_drawing(nets::expressions(s.of(32) as u8), 16, vec![0x60, 0, 1, 3, 0, 0])),
     row("fire on the drawing", "rows of 12,288 arcs, 64 orders", "orders", |s| on_drawing(nets::longest(64), 4096, gauge_orders(s.of(64), 64, 1))),

@@ -20,14 +20,14 @@ pub fn number(n: f64) -> String {
 /// What a row takes: proved and plain, at a quarter of the input and at the whole of it.
 type Taken = [[f64; 2]; 2];
 
-/// The least that each row takes in so many passes over all rows.
-fn passes(count: usize, measure: fn(usize, Size) -> [f64; 2]) -> Vec<Taken> {
-    let mut least = vec![[[f64::MAX; 2]; 2]; ROWS.len()];
+/// The least that each of these rows takes in so many passes over them.
+fn passes(rows: &[usize], count: usize, measure: fn(usize, Size) -> [f64; 2]) -> Vec<Taken> {
+    let mut least = vec![[[f64::MAX; 2]; 2]; rows.len()];
     for pass in 0..count {
-        for (i, row) in least.iter_mut().enumerate() {
-            eprint!("\rpass {} of {count}, row {} of {}  ", pass + 1, i + 1, ROWS.len());
-            for (of, size) in row.iter_mut().zip([Size::Quarter, Size::Full]) {
-                of.iter_mut().zip(measure(i, size)).for_each(|(least, now)| *least = least.min(now));
+        for (&row, taken) in rows.iter().zip(&mut least) {
+            eprint!("\rpass {} of {count}, row {}  ", pass + 1, row + 1);
+            for (of, size) in taken.iter_mut().zip([Size::Quarter, Size::Full]) {
+                of.iter_mut().zip(measure(row, size)).for_each(|(least, now)| *least = least.min(now));
             }
         }
     }
@@ -41,15 +41,15 @@ fn print_row(number: usize, row: &Row, taken: &Taken, show: fn(f64) -> String) {
              row.part, row.name, show(*proved4), show(*plain4), proved4 / plain4, row.grows, proved4 / proved, plain4 / plain, proved / plain);
 }
 
-/// Measures all rows in so many passes, and prints them.
-pub fn print(what: &str, count: usize, measure: fn(usize, Size) -> [f64; 2], show: fn(f64) -> String) {
-    let all = passes(count, measure);
+/// Measures these rows in so many passes, and prints them.
+pub fn print(rows: &[usize], what: &str, count: usize, measure: fn(usize, Size) -> [f64; 2], show: fn(f64) -> String) {
+    let all = passes(rows, count, measure);
     println!("| no. | call | input | proved, {what} | plain | ratio | four times | proved grows | plain grows | ratio at a quarter |");
     println!("|--:|---|---|--:|--:|--:|---|--:|--:|--:|");
-    for (i, (row, taken)) in ROWS.iter().zip(&all).enumerate() {
-        print_row(i + 1, row, taken, show);
+    for (&row, taken) in rows.iter().zip(&all) {
+        print_row(row + 1, &ROWS[row], taken, show);
     }
     let logs: f64 = all.iter().map(|[_, [proved, plain]]| (proved / plain).ln()).sum();
     let above = all.iter().filter(|[_, [proved, plain]]| *proved > 1.5 * plain).count();
-    println!("\nThe ratios' geometric mean: {:.2}; above 1.5: {above} of {}.", (logs / ROWS.len() as f64).exp(), ROWS.len());
+    println!("\nThe ratios' geometric mean: {:.2}; above 1.5: {above} of {}.", (logs / rows.len() as f64).exp(), rows.len());
 }
