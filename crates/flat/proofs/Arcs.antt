@@ -5,13 +5,13 @@ use native.Mathlib.Omega.{arith}
 use borrow.Author.Tests.{lt-ltb, le-ltb, le-leb, lt-leb, ne-eqb}
 use mathlib.Core.Logic.{_⊎_, inl, inr}
 use lib.ListN.{set, length-set}
-use Rattle.reading.specs.Basics.{ℕ, zero, suc, _+_, _&&_, true, false, List, [], _∷_, some, none, length, ltb, eqb, every, numbersFrom, find, byteAt, wordAt}
+use Rattle.reading.specs.Basics.{ℕ, zero, suc, _+_, _*_, _&&_, true, false, List, [], _∷_, some, none, length, ltb, eqb, every, numbersFrom, find, byteAt, wordAt}
 use Rattle.reading.specs.Reading.{fine, fault, _unless_, obey, whole}
 use Rattle.reading.proofs.Commands.{Fails, fails, later, passes, done, other, end, both-hold, first-fails, second-fails, standing-at, standing-none, obey-cut, obey-fails, obey-goes}
 use Rattle.reading.proofs.Parts.{Reading, begins, goes-on, ends, stops}
 use Rattle.firing.specs.Arcs.{Arc, Row, row, Rising, Proper, arcsIn, rowIn}
 use Rattle.flat.specs.Flat.{arcCommand, arcPart}
-use Rattle.flat.specs.Told.{inOrder, added, key, Least, arc, arcStep, ArcRoom, laterEnd}
+use Rattle.flat.specs.Told.{mostArcs, inOrder, added, key, Least, arc, arcStep, ArcRoom, laterEnd}
 use Rattle.flat.specs.declared.reader.ArcStep.{ArcStep}
 use Rattle.flat.specs.declared.reader.ArcStep.the-variants as arc-step
 use Rattle.flat.proofs.Rows.{in-order, least-added, proper-added, row-added, arcs-count, few-arcs, one-more, arcCount}
@@ -69,10 +69,12 @@ module _ (s : List ℕ) (n at : ℕ) (r : Row) where
         pub arc-goes : least ≤ key kind (there .place) → arcPart s n r at ≡ some (fine (added kind r there) (at + 5))
         arc-goes up = arc-stands kind h is ∙ ap some (obey-goes s at _ (omega arith) (passes fits (passes (in-order r least from kind (there .place) h small up) done)))
 
--- ---- the arcs of a row so far
-pub record ArcsRead (s : List ℕ) (n start : ℕ) (places weights : List ℕ) (takes puts end least at : ℕ) : Type 0 where
-  pub long : length places ≡ 12288
-  pub wide : length weights ≡ 12288
+-- ---- the arcs of a row so far, in lists of so many
+pub record ArcsRead (s : List ℕ) (n start size space : ℕ) (places weights : List ℕ) (takes puts end least at : ℕ) : Type 0 where
+  pub long : length places ≡ size
+  pub wide : length weights ≡ space
+  pub enough : (mostArcs (length s) ≤ size) × (mostArcs (length s) ≤ space)
+  pub counted : end * 5 ≤ at
   pub first : takes ≤ puts
   pub second : puts ≤ end
   pub proper : Proper n (rowIn places weights takes puts end)
@@ -89,12 +91,15 @@ least-none (suc zero) p h lt = sym (le-leb 0 (key 1 p) (omega arith))
 least-none (suc (suc k)) p h lt = sym (le-leb 0 (key (suc (suc k)) p) (omega arith))
 
 -- before the first arc
-pub arcs-begin : (s : List ℕ) (n start : ℕ) (places weights : List ℕ) → length places ≡ 12288 → length weights ≡ 12288 → ArcsRead s n start places weights 0 0 0 0 start
+pub arcs-begin : (s : List ℕ) (n start : ℕ) (places weights : List ℕ) → mostArcs (length s) ≤ length places → mostArcs (length s) ≤ length weights
+    → ArcsRead s n start (length places) (length weights) places weights 0 0 0 0 start
 unfolding arcsIn numbersFrom
 arcs-begin s n start places weights e f =
     record {
-      long = e;
-      wide = f;
+      long = refl;
+      wide = refl;
+      enough = (e, f);
+      counted = omega arith;
       first = omega arith;
       second = omega arith;
       proper = record { takes = Rising.none; puts = Rising.none; hinders = Rising.none };
@@ -112,7 +117,7 @@ ends-rise (suc zero) takes puts last h p q = omega arith
 ends-rise (suc (suc zero)) takes puts last h p q = omega arith
 ends-rise (suc (suc (suc k))) takes puts last h p q = absurd (omega arith)
 
-module _ {s : List ℕ} {n start : ℕ} {places weights : List ℕ} {takes puts end least at : ℕ} (here : ArcsRead s n start places weights takes puts end least at) where
+module _ {s : List ℕ} {n start size space : ℕ} {places weights : List ℕ} {takes puts end least at : ℕ} (here : ArcsRead s n start size space places weights takes puts end least at) where
   abbrev R : Row
   R = rowIn places weights takes puts end
 
@@ -144,19 +149,27 @@ module _ {s : List ℕ} {n start : ℕ} {places weights : List ℕ} {takes puts 
       all-proper = proper-added n R (arc p w) (here .proper) (shown .1) (shown .2) kind in-turn
 
       -- one more fits too
-      pub arc-room : end < 12288
-      arc-room = omega (arith, few-arcs n (added kind R (arc p w)) all-proper, one-more kind R (arc p w), row-count)
+      few : end < 12288
+      few = omega (arith, few-arcs n (added kind R (arc p w)) all-proper, one-more kind R (arc p w), row-count)
 
       pub arc-inside : at + 5 ≤ length s
       arc-inside = shown .4
 
-      pub arc-more : ArcsRead s n start (set places end p) (set weights end w) (laterEnd kind 0 (end + 1) takes) (laterEnd kind 1 (end + 1) puts) (end + 1) (key kind p + 1) (at + 5)
+      most : end < mostArcs (length s)
+      most = omega (arith, few, arc-inside, here .counted)
+
+      pub arc-room : (end < size) × (end < space)
+      arc-room = (omega (arith, most, here .enough .0), omega (arith, most, here .enough .1))
+
+      pub arc-more : ArcsRead s n start size space (set places end p) (set weights end w) (laterEnd kind 0 (end + 1) takes) (laterEnd kind 1 (end + 1) puts) (end + 1) (key kind p + 1) (at + 5)
       arc-more =
           let same = row-added places weights takes puts end p w least (omega (arith, here .long, arc-room)) (omega (arith, here .wide, arc-room)) (here .first) (here .second) (here .from) (omega (arith, shown .1)) kind (shown .0) (shown .3) in
           let rise = ends-rise kind takes puts end (shown .0) (here .first) (here .second) in
           record {
             long = length-set places end p ∙ here .long;
             wide = length-set weights end w ∙ here .wide;
+            enough = here .enough;
+            counted = omega (arith, here .counted);
             first = rise .0;
             second = rise .1;
             proper = rw (← same) all-proper;

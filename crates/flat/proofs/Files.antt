@@ -12,7 +12,7 @@ use Rattle.reading.proofs.Commands.{passes, done, fails, passing, failed, other
 use Rattle.reading.proofs.Parts.{Reading, begins, goes-on, ends, stops}
 use Rattle.firing.specs.Arcs.{Row, row}
 use Rattle.flat.specs.Flat.{Flat, placePart, arcPart, rowPart, readFlat}
-use Rattle.flat.specs.Told.{stepTold, StepRoom, PlacesHeld, Stands, RowsHeld, opening, closing, partTold, Counts, scanOf, Held, Scanned}
+use Rattle.flat.specs.Told.{mostRows, stepTold, StepRoom, PlacesHeld, Stands, RowsHeld, opening, closing, partTold, Counts, scanOf, Held, Scanned}
 use Rattle.flat.specs.declared.reader.Part.{Part}
 use Rattle.flat.specs.declared.reader.Part.the-variants as part
 use Rattle.flat.specs.declared.reader.Step.{Step}
@@ -62,31 +62,35 @@ module _ {s : List ℕ} {start count at : ℕ} (here : PlacesSoFar s start count
           reading = goes-on s (placePart s) more (at + 3) (here .reading) (omega arith) (place-room .1) (is (here .initial) (here .sized) ∙ ap (stepTold _) e);
         }
 
--- ---- the rows so far
-pub record RowsSoFar (s : List ℕ) (n start : ℕ) (starts : List ℕ) (count at : ℕ) : Type 0 where
+-- ---- the rows so far, their starts in a list of so many
+pub record RowsSoFar (s : List ℕ) (n start size : ℕ) (starts : List ℕ) (count at : ℕ) : Type 0 where
   pub rows : List Row
   pub sized : length rows ≡ count
   pub few : count ≤ 65536
-  pub long : length starts ≡ 65536
+  pub long : length starts ≡ size
+  pub enough : mostRows (length s) ≤ size
+  pub counted : count ≤ at
   pub within : at ≤ length s
   pub reading : Reading s (rowPart s n) rows at (whole s (rowPart s n) [] start)
   pub stands : Stands s n starts rows
 
 -- before the first row
-pub rows-begin : (s : List ℕ) (n start : ℕ) (starts : List ℕ) → length starts ≡ 65536 → start ≤ length s → RowsSoFar s n start starts 0 start
+pub rows-begin : (s : List ℕ) (n start : ℕ) (starts : List ℕ) → mostRows (length s) ≤ length starts → start ≤ length s → RowsSoFar s n start (length starts) starts 0 start
 rows-begin s n start starts e le =
     record {
       rows = [];
       sized = refl;
       few = omega arith;
-      long = e;
+      long = refl;
+      enough = e;
+      counted = omega arith;
       within = le;
       reading = begins s (rowPart s n) [] start;
       stands = λ i lt. absurd (omega arith);
     }
 
 -- by the next step they end, have a fault, or go on with a row's arcs
-module _ {s : List ℕ} {n start : ℕ} {starts : List ℕ} {count at : ℕ} (here : RowsSoFar s n start starts count at) {step : Step}
+module _ {s : List ℕ} {n start size : ℕ} {starts : List ℕ} {count at : ℕ} (here : RowsSoFar s n start size starts count at) {step : Step}
     (is : (places : ℕ) (before : List Row) → length before ≡ count → rowPart s places before at ≡ stepTold (under (with before) (whole s (arcPart s places) (row [] [] []) (at + 1))) step)
     (room : StepRoom 65536 1 (length s) count at step) where
   pub rows-end : step ≡ Done → RowsHeld s n start starts count at
@@ -94,7 +98,7 @@ module _ {s : List ℕ} {n start : ℕ} {starts : List ℕ} {count at : ℕ} (he
       record {
         rows = here .rows;
         sized = here .sized;
-        few = here .few;
+        fits = omega (arith, here .few, here .counted, here .within, here .enough, here .long);
         is = ends s (rowPart s n) (here .reading) (is n (here .rows) (here .sized) ∙ ap (stepTold _) e);
         stands = here .stands;
       }
@@ -103,8 +107,11 @@ module _ {s : List ℕ} {n start : ℕ} {starts : List ℕ} {count at : ℕ} (he
   rows-stop e = stops s (rowPart s n) (here .reading) (rw e at room) (is n (here .rows) (here .sized) ∙ ap (stepTold _) e)
 
   module _ (e : step ≡ More) where
-    pub row-room : (count < 65536) × (at + 1 ≤ length s)
-    row-room = rw e at room
+    shown : (count < 65536) × (at + 1 ≤ length s)
+    shown = rw e at room
+
+    pub row-room : (count < size) × (at + 1 ≤ length s)
+    row-room = (omega (arith, shown, here .counted, here .enough), shown .1)
 
     row-step : rowPart s n (here .rows) at ≡ some (under (with (here .rows)) (whole s (arcPart s n) (row [] [] []) (at + 1)))
     row-step = is n (here .rows) (here .sized) ∙ ap (stepTold _) e
@@ -128,13 +135,15 @@ module _ {s : List ℕ} {n start : ℕ} {starts : List ℕ} {count at : ℕ} (he
           last : i ≡ count → (after : ℕ) × (whole s (arcPart s n) (row [] [] []) (getD (set starts count (at + 1)) i 0) ≡ fine (getD (with (here .rows) x) i (row [] [] [])) after)
           last new = (next, rw (new, getD-set-same starts count (at + 1) 0 (omega (arith, here .long, row-room .0)), getD-at (here .rows) x [] (row [] [] []) count (here .sized)) (sym f))
 
-      pub row-more : RowsSoFar s n start (set starts count (at + 1)) (count + 1) next
+      pub row-more : RowsSoFar s n start size (set starts count (at + 1)) (count + 1) next
       row-more =
           record {
             rows = with (here .rows) x;
             sized = length-append (here .rows) (x ∷ []) ∙ omega (arith, here .sized);
-            few = omega (arith, row-room .0);
+            few = omega (arith, shown .0);
             long = length-set starts count (at + 1) ∙ here .long;
+            enough = here .enough;
+            counted = omega (arith, here .counted, row-inside .0);
             within = row-inside .1;
             reading = goes-on s (rowPart s n) (with (here .rows) x) next (here .reading) (row-inside .0) (row-inside .1) (row-step ∙ rw (← f));
             stands = all-stand;
@@ -194,7 +203,7 @@ module _ (s : List ℕ) {first : Part} (opened : (content : ℕ → Answer Flat)
             places-are = places .sized;
             rows-are = held .sized;
             few-places = places .few;
-            few-rows = held .few;
+            fits = held .fits;
             stands = λ i lt. held .stands i (omega (arith, held .sized));
           }),
         )

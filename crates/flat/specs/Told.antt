@@ -1,6 +1,6 @@
 -- What the code's enums say, in the terms of the meanings.
 use mathlib.Core.Path.{_≡_}
-use Prim.Native.Nat.{_<_, _≤_}
+use Prim.Native.Nat.{_<_, _≤_, _/_, min}
 use Rattle.reading.specs.Basics.{ℕ, zero, suc, _+_, _*_, Bool, _&&_, List, [], _∷_, Option, none, some, length, getD, leb, eqb, if_then_else_, with, byteAt}
 use Rattle.reading.specs.Reading.{Answer, fine, fault, _andThen_, accepted, refused, _unless_, checked, command, needed, whole}
 use Rattle.firing.specs.Arcs.{Arc, Row, row, rowIn, Proper}
@@ -51,6 +51,14 @@ abbrev pub ArcRoom : ℕ → ℕ → ℕ → ℕ → ArcStep → Type 0
 ArcRoom len count at least arc-step.Done = Unit {0}
 ArcRoom len count at least (arc-step.Arc kind place weight) = (kind ≤ 2) × (place < count) × (0 < weight) × (least ≤ key kind place) × (at + 5 ≤ len)
 ArcRoom len count at least (arc-step.Stop number place) = at < len
+
+-- ---- room in the lent lists
+-- the most rows in a file of so many bytes, and the most arcs in one of its rows
+abbrev pub mostRows : ℕ → ℕ
+mostRows len = min 65536 len
+
+abbrev pub mostArcs : ℕ → ℕ
+mostArcs len = min 12288 (len / 5)
 
 -- ---- a row's arcs
 -- the end of a kind after one more arc of some kind
@@ -106,7 +114,7 @@ Stands s places starts rows =
 pub record RowsHeld (s : List ℕ) (places start : ℕ) (starts : List ℕ) (count next : ℕ) : Type 0 where
   pub rows : List Row
   pub sized : length rows ≡ count
-  pub few : count ≤ 65536
+  pub fits : count ≤ length starts
   pub is : fine rows next ≡ whole s (rowPart s places) [] start
   pub stands : Stands s places starts rows
 
@@ -155,7 +163,7 @@ pub record Held (s starts : List ℕ) (places rows : ℕ) (f : Flat) : Type 0 wh
   pub places-are : length (f .initial) ≡ places
   pub rows-are : length (f .rows) ≡ rows
   pub few-places : places ≤ 4096
-  pub few-rows : rows ≤ 65536
+  pub fits : rows ≤ length starts
   pub stands : (i : ℕ) → i < rows → (next : ℕ) × (arcsAt s places (getD starts i 0) ≡ fine (getD (f .rows) i (row [] [] [])) next)
 
 abbrev pub Scanned : List ℕ → List ℕ → Scan → Type 0

@@ -21,7 +21,7 @@ ghost use Rattle.firing.specs.Loops.{Ran, stoppedAt};
 ghost use Rattle.firing.specs.Arcs as arcs;
 ghost use Rattle.firing.specs.Arcs.{Row};
 ghost use Rattle.flat.specs.Flat.{Flat, fireRow, fireImage, fireImages, firstRow, flatSizes};
-ghost use Rattle.flat.specs.Told.{Held, arcsAt};
+ghost use Rattle.flat.specs.Told.{mostRows, mostArcs, Held, arcsAt};
 ghost use Rattle.flat.specs.Replies.{fireCalled, firstReply, sizesReply};
 
 // How many flat places and rows a flat file has, or the refusal.
@@ -51,8 +51,8 @@ pub fn flat_sizes(flat: &[u8]) -> SizesReply
 // Fires the row whose arcs stand at a place of the file.
 fn fire_at(s: &[u8], start: usize, m: &mut [u16], places: &mut [u16], weights: &mut [u16]) -> u8
     requires { ⌜ length (now m) ≤ 4096 ⌝ }
-    requires { ⌜ length (now places) ≡ 12288 ⌝ }
-    requires { ⌜ length (now weights) ≡ 12288 ⌝ }
+    requires { ⌜ mostArcs (length (now s)) ≤ length (now places) ⌝ }
+    requires { ⌜ mostArcs (length (now s)) ≤ length (now weights) ⌝ }
     ensures { λ r. ⌜ ((row : Row) (next : ℕ) → arcsAt (now (s .entry)) (length (now (m .entry))) start ≡ fine row next
         → fired r (now (m .exit)) ≡ fire (arcs.weights row) (now (m .entry))) ⌝ }
 {
@@ -90,8 +90,8 @@ fn turn(
     requires { ⌜ i * 5 + 5 ≤ length (now images) ⌝ }
     requires { ⌜ rows ≤ length (now starts) ⌝ }
     requires { ⌜ length (now m) ≤ 4096 ⌝ }
-    requires { ⌜ length (now places) ≡ 12288 ⌝ }
-    requires { ⌜ length (now weights) ≡ 12288 ⌝ }
+    requires { ⌜ mostArcs (length (now s)) ≤ length (now places) ⌝ }
+    requires { ⌜ mostArcs (length (now s)) ≤ length (now weights) ⌝ }
     ensures { λ r. ⌜ ((f : Flat) → Held (now (s .entry)) (now (starts .entry)) (length (now (m .entry))) rows f
         → fired r (now (m .exit)) ≡ fireImage f (take 5 (drop (i * 5) (now (images .entry)))) (now (m .entry))) ⌝ }
 {
@@ -121,8 +121,8 @@ fn fire_list(
     requires { ⌜ length (now images) / 5 ≤ length (now answers) ⌝ }
     requires { ⌜ rows ≤ length (now starts) ⌝ }
     requires { ⌜ length (now m) ≤ 4096 ⌝ }
-    requires { ⌜ length (now places) ≡ 12288 ⌝ }
-    requires { ⌜ length (now weights) ≡ 12288 ⌝ }
+    requires { ⌜ mostArcs (length (now s)) ≤ length (now places) ⌝ }
+    requires { ⌜ mostArcs (length (now s)) ≤ length (now weights) ⌝ }
     ensures { λ _. ⌜ ((f : Flat) → Held (now (s .entry)) (now (starts .entry)) (length (now (m .entry))) rows f
         → Ran (fireImage f) (items 5 (now (images .entry))) (now (m .entry)) (now (answers .entry)) (now (m .exit)) (now (answers .exit))) ⌝ }
 {
@@ -141,21 +141,29 @@ pub enum FireReply {
     Refused { number: u8, place: usize },
 }
 
-// Fires a list of images, 5 bytes each, on a flat file and a marking, an answer each. A refusal changes neither list.
-pub fn fire_images(flat: &[u8], marking: &mut [u16], images: &[u8], answers: &mut [u8]) -> FireReply
-    ensures { λ r. ⌜ fireCalled r (now (marking .exit)) (now (answers .exit))
-        ≡ fireImages (now (flat .entry)) (now (marking .entry)) (now (images .entry)) (now (answers .entry)) ⌝ }
+// Fires a list of images with lists lent for where the rows start and for a row's arcs.
+fn fire_with(
+    s: &[u8],
+    m: &mut [u16],
+    images: &[u8],
+    answers: &mut [u8],
+    starts: &mut [usize],
+    places: &mut [u16],
+    weights: &mut [u16],
+) -> FireReply
+    requires { ⌜ mostRows (length (now s)) ≤ length (now starts) ⌝ }
+    requires { ⌜ mostArcs (length (now s)) ≤ length (now places) ⌝ }
+    requires { ⌜ mostArcs (length (now s)) ≤ length (now weights) ⌝ }
+    ensures { λ r. ⌜ fireCalled r (now (m .exit)) (now (answers .exit))
+        ≡ fireImages (now (s .entry)) (now (m .entry)) (now (images .entry)) (now (answers .entry)) ⌝ }
 {
-    let mut starts = [0usize; 65536];
-    let mut places = [0u16; 12288];
-    let mut weights = [0u16; 12288];
-    match scan_file(flat, &mut starts, &mut places, &mut weights) {
+    match scan_file(s, starts, places, weights) {
         Scan::Refused { number, place } => FireReply::Refused { number, place },
         Scan::Net {
             places: count,
             rows,
         } => {
-            if marking.len() != count {
+            if m.len() != count {
                 return FireReply::Refused {
                     number: 12,
                     place: 0,
@@ -173,16 +181,7 @@ pub fn fire_images(flat: &[u8], marking: &mut [u16], images: &[u8], answers: &mu
                     place: 0,
                 };
             }
-            fire_list(
-                flat,
-                &starts,
-                rows,
-                marking,
-                images,
-                answers,
-                &mut places,
-                &mut weights,
-            );
+            fire_list(s, starts, rows, m, images, answers, places, weights);
             FireReply::Answered {
                 count: images.len() / 5,
             }
@@ -190,11 +189,61 @@ pub fn fire_images(flat: &[u8], marking: &mut [u16], images: &[u8], answers: &mu
     }
 }
 
+// On a file of at most 2,048 bytes: it has no more rows, and in a row an arc for each 5 of them at most.
+fn fire_short(flat: &[u8], marking: &mut [u16], images: &[u8], answers: &mut [u8]) -> FireReply
+    requires { ⌜ length (now flat) ≤ 2048 ⌝ }
+    ensures { λ r. ⌜ fireCalled r (now (marking .exit)) (now (answers .exit))
+        ≡ fireImages (now (flat .entry)) (now (marking .entry)) (now (images .entry)) (now (answers .entry)) ⌝ }
+{
+    let mut starts = [0usize; 2048];
+    let mut places = [0u16; 410];
+    let mut weights = [0u16; 410];
+    fire_with(
+        flat,
+        marking,
+        images,
+        answers,
+        &mut starts,
+        &mut places,
+        &mut weights,
+    )
+}
+
+// On any file.
+fn fire_long(flat: &[u8], marking: &mut [u16], images: &[u8], answers: &mut [u8]) -> FireReply
+    ensures { λ r. ⌜ fireCalled r (now (marking .exit)) (now (answers .exit))
+        ≡ fireImages (now (flat .entry)) (now (marking .entry)) (now (images .entry)) (now (answers .entry)) ⌝ }
+{
+    let mut starts = [0usize; 65536];
+    let mut places = [0u16; 12288];
+    let mut weights = [0u16; 12288];
+    fire_with(
+        flat,
+        marking,
+        images,
+        answers,
+        &mut starts,
+        &mut places,
+        &mut weights,
+    )
+}
+
+// Fires a list of images, 5 bytes each, on a flat file and a marking, an answer each. A refusal changes neither list.
+pub fn fire_images(flat: &[u8], marking: &mut [u16], images: &[u8], answers: &mut [u8]) -> FireReply
+    ensures { λ r. ⌜ fireCalled r (now (marking .exit)) (now (answers .exit))
+        ≡ fireImages (now (flat .entry)) (now (marking .entry)) (now (images .entry)) (now (answers .entry)) ⌝ }
+{
+    if flat.len() <= 2048 {
+        return fire_short(flat, marking, images, answers);
+    }
+    fire_long(flat, marking, images, answers)
+}
+
 // Whether the row whose arcs stand at a place of the file would fire.
 fn fires_at(s: &[u8], start: usize, m: &[u16], places: &mut [u16], weights: &mut [u16]) -> bool
     requires { ⌜ length (now m) ≤ 4096 ⌝ }
-    requires { ⌜ length (now places) ≡ 12288 ⌝ }
-    requires { ⌜ length (now weights) ≡ 12288 ⌝ }
+    requires { ⌜ mostArcs (length (now s)) ≤ length (now places) ⌝ }
+    requires { ⌜ mostArcs (length (now s)) ≤ length (now weights) ⌝ }
     ensures { λ r. ⌜ ((row : Row) (next : ℕ) → arcsAt (now (s .entry)) (length (now (m .entry))) start ≡ fine row next
         → r ≡ eqb (fire (arcs.weights row) (now (m .entry)) .answer) 0) ⌝ }
 {
@@ -232,8 +281,8 @@ fn search_rows(
 ) -> usize
     requires { ⌜ rows ≤ length (now starts) ⌝ }
     requires { ⌜ length (now m) ≤ 4096 ⌝ }
-    requires { ⌜ length (now places) ≡ 12288 ⌝ }
-    requires { ⌜ length (now weights) ≡ 12288 ⌝ }
+    requires { ⌜ mostArcs (length (now s)) ≤ length (now places) ⌝ }
+    requires { ⌜ mostArcs (length (now s)) ≤ length (now weights) ⌝ }
     ensures { λ r. ⌜ ((f : Flat) → Held (now (s .entry)) (now (starts .entry)) (length (now (m .entry))) rows f
         → first (λ i. eqb (fireRow f i (now (m .entry)) .answer) 0) (below rows) ≡ stoppedAt rows r) ⌝ }
 {
@@ -255,25 +304,32 @@ pub enum FirstReply {
     Refused { number: u8, place: usize },
 }
 
-pub fn first_row(flat: &[u8], marking: &[u16]) -> FirstReply
-    ensures { λ r. ⌜ firstReply r ≡ firstRow (now (flat .entry)) (now (marking .entry)) ⌝ }
+// The first row that fires, with lists lent for where the rows start and for a row's arcs.
+fn first_with(
+    s: &[u8],
+    m: &[u16],
+    starts: &mut [usize],
+    places: &mut [u16],
+    weights: &mut [u16],
+) -> FirstReply
+    requires { ⌜ mostRows (length (now s)) ≤ length (now starts) ⌝ }
+    requires { ⌜ mostArcs (length (now s)) ≤ length (now places) ⌝ }
+    requires { ⌜ mostArcs (length (now s)) ≤ length (now weights) ⌝ }
+    ensures { λ r. ⌜ firstReply r ≡ firstRow (now (s .entry)) (now (m .entry)) ⌝ }
 {
-    let mut starts = [0usize; 65536];
-    let mut places = [0u16; 12288];
-    let mut weights = [0u16; 12288];
-    match scan_file(flat, &mut starts, &mut places, &mut weights) {
+    match scan_file(s, starts, places, weights) {
         Scan::Refused { number, place } => FirstReply::Refused { number, place },
         Scan::Net {
             places: count,
             rows,
         } => {
-            if marking.len() != count {
+            if m.len() != count {
                 return FirstReply::Refused {
                     number: 12,
                     place: 0,
                 };
             }
-            let row = search_rows(flat, &starts, rows, marking, &mut places, &mut weights);
+            let row = search_rows(s, starts, rows, m, places, weights);
             if row < rows {
                 return FirstReply::Found {
                     row,
@@ -283,4 +339,34 @@ pub fn first_row(flat: &[u8], marking: &[u16]) -> FirstReply
             FirstReply::Nothing { tried: rows }
         }
     }
+}
+
+// On a file of at most 2,048 bytes.
+fn first_short(flat: &[u8], marking: &[u16]) -> FirstReply
+    requires { ⌜ length (now flat) ≤ 2048 ⌝ }
+    ensures { λ r. ⌜ firstReply r ≡ firstRow (now (flat .entry)) (now (marking .entry)) ⌝ }
+{
+    let mut starts = [0usize; 2048];
+    let mut places = [0u16; 410];
+    let mut weights = [0u16; 410];
+    first_with(flat, marking, &mut starts, &mut places, &mut weights)
+}
+
+// On any file.
+fn first_long(flat: &[u8], marking: &[u16]) -> FirstReply
+    ensures { λ r. ⌜ firstReply r ≡ firstRow (now (flat .entry)) (now (marking .entry)) ⌝ }
+{
+    let mut starts = [0usize; 65536];
+    let mut places = [0u16; 12288];
+    let mut weights = [0u16; 12288];
+    first_with(flat, marking, &mut starts, &mut places, &mut weights)
+}
+
+pub fn first_row(flat: &[u8], marking: &[u16]) -> FirstReply
+    ensures { λ r. ⌜ firstReply r ≡ firstRow (now (flat .entry)) (now (marking .entry)) ⌝ }
+{
+    if flat.len() <= 2048 {
+        return first_short(flat, marking);
+    }
+    first_long(flat, marking)
 }

@@ -8,7 +8,7 @@ ghost use Rattle.reading.specs.Basics.{with, byteAt, wordAt};
 ghost use Rattle.reading.specs.Reading.{Answer, fine, under, whole};
 ghost use Rattle.firing.specs.Arcs.{Row, row};
 ghost use Rattle.flat.specs.Flat.{Flat, placePart, arcPart, rowPart};
-ghost use Rattle.flat.specs.Told.{Least, arcStep, ArcRoom, laterEnd, rowRead, RowProper, RowWithin, stepTold, StepRoom, PlacesRead, rowEnd, RowsRead, opening, closing, partTold, PartWithin, Counts, scanOf, Scanned};
+ghost use Rattle.flat.specs.Told.{mostRows, mostArcs, Least, arcStep, ArcRoom, laterEnd, rowRead, RowProper, RowWithin, stepTold, StepRoom, PlacesRead, rowEnd, RowsRead, opening, closing, partTold, PartWithin, Counts, scanOf, Scanned};
 
 // One step of a row's arcs: the kind is 0 for a take, 1 for a put, 2 for a hinder.
 pub enum ArcStep {
@@ -98,7 +98,7 @@ pub enum RowRead {
     },
 }
 
-// The arcs from a place on, over so many flat places. They go into the front of two lent lists of 12,288.
+// The arcs from a place on, over so many flat places. They go into the front of two lent lists.
 pub fn read_arcs(
     s: &[u8],
     count: usize,
@@ -107,8 +107,8 @@ pub fn read_arcs(
     weights: &mut [u16],
 ) -> RowRead
     requires { ⌜ count ≤ 4096 ⌝ }
-    requires { ⌜ length (now places) ≡ 12288 ⌝ }
-    requires { ⌜ length (now weights) ≡ 12288 ⌝ }
+    requires { ⌜ mostArcs (length (now s)) ≤ length (now places) ⌝ }
+    requires { ⌜ mostArcs (length (now s)) ≤ length (now weights) ⌝ }
     ensures is { λ r. ⌜ rowRead (now (places .exit)) (now (weights .exit)) r
         ≡ whole (now (s .entry)) (arcPart (now (s .entry)) count) (row [] [] []) at ⌝ }
     ensures proper { λ r. ⌜ RowProper count (now (places .exit)) (now (weights .exit)) r ⌝ }
@@ -270,9 +270,9 @@ fn read_rows(
 ) -> Part
     requires { ⌜ count ≤ 4096 ⌝ }
     requires { ⌜ start ≤ length (now s) ⌝ }
-    requires { ⌜ length (now starts) ≡ 65536 ⌝ }
-    requires { ⌜ length (now places) ≡ 12288 ⌝ }
-    requires { ⌜ length (now weights) ≡ 12288 ⌝ }
+    requires { ⌜ mostRows (length (now s)) ≤ length (now starts) ⌝ }
+    requires { ⌜ mostArcs (length (now s)) ≤ length (now places) ⌝ }
+    requires { ⌜ mostArcs (length (now s)) ≤ length (now weights) ⌝ }
     ensures { λ r. ⌜ RowsRead (now (s .entry)) count start (now (starts .exit)) r ⌝ }
 {
     let mut rows: usize = 0;
@@ -396,9 +396,9 @@ fn scan_of(a: Part) -> Scan
 
 // Reads a whole flat file: where each row's arcs start goes into the front of starts.
 pub fn scan_file(s: &[u8], starts: &mut [usize], places: &mut [u16], weights: &mut [u16]) -> Scan
-    requires { ⌜ length (now starts) ≡ 65536 ⌝ }
-    requires { ⌜ length (now places) ≡ 12288 ⌝ }
-    requires { ⌜ length (now weights) ≡ 12288 ⌝ }
+    requires { ⌜ mostRows (length (now s)) ≤ length (now starts) ⌝ }
+    requires { ⌜ mostArcs (length (now s)) ≤ length (now places) ⌝ }
+    requires { ⌜ mostArcs (length (now s)) ≤ length (now weights) ⌝ }
     ensures { λ r. ⌜ Scanned (now (s .entry)) (now (starts .exit)) r ⌝ }
 {
     let a = opens(s);

@@ -12,7 +12,7 @@ use Rattle.flat.proofs.fire_list.Tie as tie
 abbrev Inv-loop : tie.InvT-loop
 Inv-loop s starts rows m₀ images answers₀ places₀ weights₀ count i₀ m answers places weights i =
     ((f : Flat) → Held s starts (length m₀) rows f → Running (fireImage f) (items 5 images) m₀ answers₀ m answers i)
-    × (length m ≡ length m₀) × (length answers ≡ length answers₀) × (length places ≡ 12288) × (length weights ≡ 12288)
+    × (length m ≡ length m₀) × (length answers ≡ length answers₀) × (length places ≡ length places₀) × (length weights ≡ length weights₀)
 
 abbrev μ-loop : tie.MeasureT-loop
 μ-loop s starts rows m₀ images answers₀ places₀ weights₀ count i₀ m answers places weights i = count - i

@@ -13,7 +13,7 @@ use Rattle.flat.proofs.search_rows.Tie as tie
 abbrev Inv-loop : tie.InvT-loop
 Inv-loop s starts rows m places₀ weights₀ i₀ places weights i =
     ((f : Flat) → Held s starts (length m) rows f → Searching (λ j. eqb (fireRow f j m .answer) 0) (below rows) i)
-    × (length places ≡ 12288) × (length weights ≡ 12288) × (i ≤ rows)
+    × (length places ≡ length places₀) × (length weights ≡ length weights₀) × (i ≤ rows)
 
 abbrev μ-loop : tie.MeasureT-loop
 μ-loop s starts rows m places₀ weights₀ i₀ places weights i = rows - i
