@@ -7,8 +7,9 @@ use Rattle.firing.specs.Arcs.{Arc}
 use Rattle.net.specs.Net.{Guard, Expression, Place, Net, net, coloursOf, placeAt, flatPlaceCount}
 use Rattle.net.specs.Reader.{readColour, readExpression, amount}
 use Rattle.net.specs.Values.{holds, weight}
-use Rattle.net.specs.Evaluated.{bound, placeBy, Ranks}
+use Rattle.net.specs.Evaluated.{bound, placeBy, Valued, Ranks}
 use Rattle.net.specs.declared.evaluate.Ranked.{Ranked}
+use Rattle.net.specs.declared.evaluate.Value.{Value}
 use Rattle.net_file.specs.Tables.{GuardHolds}
 use Rattle.coloured.specs.Effect.{Binding, transitionAt, effect}
 use Rattle.coloured.specs.Drawing.{rankArcs, placeArcs, kindArcs, Appended, Drawing, Binds, RowLoaded}
@@ -18,6 +19,10 @@ use Rattle.coloured.specs.declared.effect.Loaded.the-variants as loaded
 -- an arc at a place, none where its weight is 0
 abbrev pub oneArc : ℕ → ℕ → List Arc
 oneArc place weight = if ltb 0 weight then record { place = place; weight = weight } ∷ [] else []
+
+-- the colour that stands at a place of the file, below an arc's command
+abbrev pub ColourTold : List ℕ → List ℕ → List ℕ → List ℕ → ℕ → Value → Type 0
+ColourTold s sizes vars env at r = (known : List Place) → Valued (net sizes vars known [] []) env r (readColour s (net sizes vars known [] []) 15 at)
 
 -- a count of what stands at a place of the file, one colour or two, goes to one rank
 abbrev pub RankTold : List ℕ → List ℕ → List ℕ → List ℕ → Bool → ℕ → Ranked → Type 0

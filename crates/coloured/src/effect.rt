@@ -1,5 +1,6 @@
 // Loads the effect of a binding as a row, into two lent lists, one of places and one of weights.
 use net::Ranked;
+use net::Value;
 use net::entry;
 use net::eval_colour;
 use net::eval_guard;
@@ -11,7 +12,7 @@ ghost use mathlib.Core.Path.{_≡_};
 ghost use Prim.Native.Nat.{ℕ, _≤_, _<_, _+_};
 ghost use lib.ListN.{length, getD};
 ghost use Rattle.coloured.specs.Drawing.{Appended};
-ghost use Rattle.coloured.specs.Loading.{oneArc, RankTold, ArcLoaded, PlaceLoaded, KindLoaded, GuardTold, EffectLoaded};
+ghost use Rattle.coloured.specs.Loading.{oneArc, ColourTold, RankTold, ArcLoaded, PlaceLoaded, KindLoaded, GuardTold, EffectLoaded};
 
 // An element, or 0 past the end.
 fn slot_at(l: &[u16], i: usize) -> usize
@@ -45,13 +46,29 @@ fn append(places: &mut [u16], amounts: &mut [u16], used: usize, place: u16, weig
     used + 1
 }
 
+// The colour at a place of the file, below an arc's 0x40. A variable, the commonest, is looked up here.
+fn colour_at(s: &[u8], sizes: &[u8], vars: &[u8], env: &[u8], at: usize) -> Value
+    ensures is { λ r. ⌜ ColourTold (now (s .entry)) (now (sizes .entry)) (now (vars .entry)) (now (env .entry)) at r ⌝ }
+    ensures small { λ r. ⌜ r .colour ≤ 270 ⌝ }
+{
+    if byte_at(s, at) != 0x30 {
+        return eval_colour(s, sizes, vars, env, 15, at);
+    }
+    let v = byte_at(s, at + 1);
+    Value {
+        colour: byte_at(env, v) as u16,
+        set: byte_at(vars, v) as u8,
+        next: at + 2,
+    }
+}
+
 // The one rank that 0x40 gives its count, and the place after its colours, one or two.
 fn rank_one(s: &[u8], sizes: &[u8], vars: &[u8], env: &[u8], paired: bool, next: usize) -> Ranked
     ensures { λ r. ⌜ RankTold (now (s .entry)) (now (sizes .entry)) (now (vars .entry)) (now (env .entry)) paired next r ⌝ }
 {
-    let a = eval_colour(s, sizes, vars, env, 15, next);
+    let a = colour_at(s, sizes, vars, env, next);
     if paired {
-        let b = eval_colour(s, sizes, vars, env, 15, a.next);
+        let b = colour_at(s, sizes, vars, env, a.next);
         let size = entry(sizes, b.set as usize);
         return Ranked {
             rank: (a.colour as usize) * (size as usize) + (b.colour as usize),
