@@ -9,6 +9,7 @@ pub mod Values
 pub mod Split
 pub mod Appending
 pub mod Loads
+pub mod Counted
 pub mod Drawn
 pub mod Effects
 pub mod Used

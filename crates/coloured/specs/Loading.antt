@@ -5,9 +5,11 @@ use Rattle.reading.specs.Basics.{ℕ, _+_, _*_, Bool, List, [], _∷_, none, le
 use Rattle.reading.specs.Reading.{fine}
 use Rattle.firing.specs.Arcs.{Arc}
 use Rattle.net.specs.Net.{Guard, Expression, Place, Net, net, coloursOf, placeAt, flatPlaceCount}
-use Rattle.net.specs.Reader.{readExpression}
+use Rattle.net.specs.Reader.{readColour, readExpression, amount}
 use Rattle.net.specs.Values.{holds, weight}
-use Rattle.net.specs.Evaluated.{bound, placeBy}
+use Rattle.net.specs.Evaluated.{bound, placeBy, Valued, Ranks}
+use Rattle.net.specs.declared.evaluate.Ranked.{Ranked}
+use Rattle.net.specs.declared.evaluate.Value.{Value}
 use Rattle.net_file.specs.Tables.{GuardHolds}
 use Rattle.coloured.specs.Effect.{Binding, transitionAt, effect}
 use Rattle.coloured.specs.Drawing.{rankArcs, placeArcs, kindArcs, Appended, Drawing, Binds, RowLoaded}
@@ -17,6 +19,16 @@ use Rattle.coloured.specs.declared.effect.Loaded.the-variants as loaded
 -- an arc at a place, none where its weight is 0
 abbrev pub oneArc : ℕ → ℕ → List Arc
 oneArc place weight = if ltb 0 weight then record { place = place; weight = weight } ∷ [] else []
+
+-- the colour that stands at a place of the file, below an arc's command
+abbrev pub ColourTold : List ℕ → List ℕ → List ℕ → List ℕ → ℕ → Value → Type 0
+ColourTold s sizes vars env at r = (known : List Place) → Valued (net sizes vars known [] []) env r (readColour s (net sizes vars known [] []) 15 at)
+
+-- a count of what stands at a place of the file, one colour or two, goes to one rank
+abbrev pub RankTold : List ℕ → List ℕ → List ℕ → List ℕ → Bool → ℕ → Ranked → Type 0
+RankTold s sizes vars env paired next r =
+    (known : List Place) (first second count at : ℕ)
+    → Ranks (net sizes vars known [] []) env count r (amount (net sizes vars known [] []) (readColour s (net sizes vars known [] []) 15) (placeBy paired first second) count at next)
 
 -- the arcs of the expression that stands at a place of the file were appended, where there is room
 abbrev pub ArcLoaded : List ℕ → List ℕ → List ℕ → List ℕ → Bool → ℕ → ℕ → ℕ → List ℕ → List ℕ → ℕ → List ℕ → List ℕ → ℕ → Type 0

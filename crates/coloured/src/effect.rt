@@ -1,13 +1,18 @@
 // Loads the effect of a binding as a row, into two lent lists, one of places and one of weights.
+use net::Ranked;
+use net::Value;
+use net::entry;
+use net::eval_colour;
 use net::eval_guard;
 use net::eval_weight;
 use net::next_rank;
 use reading::byte_at;
+use reading::word_at;
 ghost use mathlib.Core.Path.{_≡_};
 ghost use Prim.Native.Nat.{ℕ, _≤_, _<_, _+_};
 ghost use lib.ListN.{length, getD};
 ghost use Rattle.coloured.specs.Drawing.{Appended};
-ghost use Rattle.coloured.specs.Loading.{oneArc, ArcLoaded, PlaceLoaded, KindLoaded, GuardTold, EffectLoaded};
+ghost use Rattle.coloured.specs.Loading.{oneArc, ColourTold, RankTold, ArcLoaded, PlaceLoaded, KindLoaded, GuardTold, EffectLoaded};
 
 // An element, or 0 past the end.
 fn slot_at(l: &[u16], i: usize) -> usize
@@ -41,8 +46,43 @@ fn append(places: &mut [u16], amounts: &mut [u16], used: usize, place: u16, weig
     used + 1
 }
 
-// Appends the arcs of the expression at a place of the file, for so many ranks of a place whose flat places begin at start.
-fn load_arc(
+// The colour at a place of the file, below an arc's 0x40. A variable, the commonest, is looked up here.
+fn colour_at(s: &[u8], sizes: &[u8], vars: &[u8], env: &[u8], at: usize) -> Value
+    ensures is { λ r. ⌜ ColourTold (now (s .entry)) (now (sizes .entry)) (now (vars .entry)) (now (env .entry)) at r ⌝ }
+    ensures small { λ r. ⌜ r .colour ≤ 270 ⌝ }
+{
+    if byte_at(s, at) != 0x30 {
+        return eval_colour(s, sizes, vars, env, 15, at);
+    }
+    let v = byte_at(s, at + 1);
+    Value {
+        colour: byte_at(env, v) as u16,
+        set: byte_at(vars, v) as u8,
+        next: at + 2,
+    }
+}
+
+// The one rank that 0x40 gives its count, and the place after its colours, one or two.
+fn rank_one(s: &[u8], sizes: &[u8], vars: &[u8], env: &[u8], paired: bool, next: usize) -> Ranked
+    ensures { λ r. ⌜ RankTold (now (s .entry)) (now (sizes .entry)) (now (vars .entry)) (now (env .entry)) paired next r ⌝ }
+{
+    let a = colour_at(s, sizes, vars, env, next);
+    if paired {
+        let b = colour_at(s, sizes, vars, env, a.next);
+        let size = entry(sizes, b.set as usize);
+        return Ranked {
+            rank: (a.colour as usize) * (size as usize) + (b.colour as usize),
+            next: b.next,
+        };
+    }
+    Ranked {
+        rank: a.colour as usize,
+        next: a.next,
+    }
+}
+
+// Appends the arcs of any expression at a place of the file: one rank after another that may have a weight.
+fn load_ranks(
     s: &[u8],
     sizes: &[u8],
     vars: &[u8],
@@ -67,6 +107,48 @@ fn load_arc(
         rank = next_rank(s, sizes, vars, env, paired, rank + 1, 16, at).rank;
     }
     end
+}
+
+// Appends the arcs of the expression at a place of the file, for so many ranks of a place whose flat places begin at start.
+// A count of one colour or pair, 0x40, has one arc at most: nothing is evaluated twice.
+fn load_arc(
+    s: &[u8],
+    sizes: &[u8],
+    vars: &[u8],
+    env: &[u8],
+    paired: bool,
+    start: usize,
+    count: usize,
+    at: usize,
+    places: &mut [u16],
+    amounts: &mut [u16],
+    used: usize,
+) -> usize
+    requires { ⌜ start + count ≤ 65535 ⌝ }
+    ensures { λ r. ⌜ ArcLoaded (now (s .entry)) (now (sizes .entry)) (now (vars .entry)) (now (env .entry)) paired start count at
+        (now (places .entry)) (now (amounts .entry)) used (now (places .exit)) (now (amounts .exit)) r ⌝ }
+{
+    if byte_at(s, at) != 0x40 {
+        return load_ranks(
+            s,
+            sizes,
+            vars,
+            env,
+            paired,
+            start,
+            count,
+            at,
+            places,
+            amounts,
+            used,
+        );
+    }
+    let rank = rank_one(s, sizes, vars, env, paired, at + 3).rank;
+    if count <= rank {
+        return used;
+    }
+    let weight = word_at(s, at + 1);
+    append(places, amounts, used, (start + rank) as u16, weight as u16)
 }
 
 // Appends the arcs of one place for the slots from base on; none where no expression stands there.
