@@ -98,6 +98,11 @@ module _ (m : List ℕ) (row : Row) (proper : Proper (length m) row) where
       by-arcs (lacks (weights row) m) (lacking m) (row .takes) (proper .takes) (λ a i. ap (ltb (getD m (a .place) 0)) (in-weight i (proper .takes)))
       (λ p e. let h : getD m p 0 < weightIn (row .takes) p = ltb-true _ _ e in omega arith)
 
+  -- where a take is lacking
+  pub fires-3 : any (lacking m) (row .takes) ≡ true → fired 3 m ≡ fire (weights row) m
+  unfolding fire
+  fires-3 e = simp (lacks-is ∙ e)
+
   pub hindered-is : any (hindered (weights row) m) (below (length m)) ≡ any (hindering m) (row .hinders)
   hindered-is =
       by-arcs (hindered (weights row) m) (hindering m) (row .hinders) (proper .hinders)
@@ -193,11 +198,7 @@ module _ (m : List ℕ) (row : Row) (proper : Proper (length m) row) (fit : (p :
           counts p (omega (arith, ltb-false 65535 (moved (weights row) m p) (none-from (spills (weights row) m) (length m) e p inside)))
           ∙ sym (getD-below (moved (weights row) m) (length m) p inside)
 
-  -- the rule's answers
-  pub answer-3 : any (lacking m) (row .takes) ≡ true → 3 ≡ fire (weights row) m .answer
-  unfolding fire
-  answer-3 e = simp (lacks-is m row proper ∙ e)
-
+  -- the rule's answers where no take is lacking
   pub answer-4 : any (lacking m) (row .takes) ≡ false → any (hindering m) (row .hinders) ≡ true → 4 ≡ fire (weights row) m .answer
   unfolding fire
   answer-4 e f = simp (lacks-is m row proper ∙ e, hindered-is m row proper ∙ f)

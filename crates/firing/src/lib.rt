@@ -1,5 +1,6 @@
 // Fires one row that lies in two lent lists, one of places and one of weights. The meanings of this crate stand in specs/.
 ghost use mathlib.Core.Path.{_≡_};
+ghost use mathlib.Core.Bool.{false};
 ghost use Prim.Native.Nat.{ℕ, _<_, _≤_, _-_};
 ghost use mathlib.Core.List.{List};
 ghost use lib.ListN.{length, getD, set};
@@ -37,7 +38,7 @@ fn lacks(places: &[u16], amounts: &[u16], i: usize, m: &[u16]) -> bool
 }
 
 // Whether some take is above its count.
-fn some_lacks(places: &[u16], amounts: &[u16], end: usize, m: &[u16]) -> bool
+pub fn some_lacks(places: &[u16], amounts: &[u16], end: usize, m: &[u16]) -> bool
     ensures { λ r. ⌜ r ≡ any (lacking (now (m .entry))) (arcsIn (now (places .entry)) (now (amounts .entry)) 0 end) ⌝ }
 {
     let mut i = 0;
@@ -182,17 +183,15 @@ fn put_all(places: &[u16], amounts: &[u16], start: usize, end: usize, m: &mut [u
     }
 }
 
-// The answer of the firing rule to a row: 3, 4, 5 or 0.
-pub fn answer(places: &[u16], amounts: &[u16], ends: Ends, m: &[u16]) -> u8
+// The answer to a row of which no take is lacking: 4, 5 or 0.
+pub fn answer_rest(places: &[u16], amounts: &[u16], ends: Ends, m: &[u16]) -> u8
     ensures { λ r. ⌜ (Proper (length (now (m .entry))) (rowIn (now (places .entry)) (now (amounts .entry)) (ends .takes) (ends .puts) (ends .hinders))
+        → any (lacking (now (m .entry))) (arcsIn (now (places .entry)) (now (amounts .entry)) 0 (ends .takes)) ≡ false
         → r ≡ fire (weights (rowIn (now (places .entry)) (now (amounts .entry)) (ends .takes) (ends .puts) (ends .hinders))) (now (m .entry)) .answer) ⌝ }
 {
     let takes = ends.takes;
     let puts = ends.puts;
     let hinders = ends.hinders;
-    if some_lacks(places, amounts, takes, m) {
-        return 3;
-    }
     if some_hinders(places, amounts, puts, hinders, m) {
         return 4;
     }
@@ -202,17 +201,38 @@ pub fn answer(places: &[u16], amounts: &[u16], ends: Ends, m: &[u16]) -> u8
     0
 }
 
-// Fires a row: its answer, and the marking after it.
-pub fn fire_row(places: &[u16], amounts: &[u16], ends: Ends, m: &mut [u16]) -> u8
-    ensures { λ r. ⌜ (Proper (length (now (m .entry))) (rowIn (now (places .entry)) (now (amounts .entry)) (ends .takes) (ends .puts) (ends .hinders))
-        → fired r (now (m .exit)) ≡ fire (weights (rowIn (now (places .entry)) (now (amounts .entry)) (ends .takes) (ends .puts) (ends .hinders))) (now (m .entry))) ⌝ }
+// Moves the marking by a row's takes and puts where the row was answered 0.
+pub fn move_row(places: &[u16], amounts: &[u16], takes: usize, puts: usize, a: u8, m: &mut [u16])
+    ensures { λ _. ⌜ ((hinders : ℕ) → Proper (length (now (m .entry))) (rowIn (now (places .entry)) (now (amounts .entry)) takes puts hinders)
+        → a ≡ fire (weights (rowIn (now (places .entry)) (now (amounts .entry)) takes puts hinders)) (now (m .entry)) .answer
+        → fired a (now (m .exit)) ≡ fire (weights (rowIn (now (places .entry)) (now (amounts .entry)) takes puts hinders)) (now (m .entry))) ⌝ }
 {
-    let takes = ends.takes;
-    let puts = ends.puts;
-    let a = answer(places, amounts, ends, m);
     if a == 0 {
         take_all(places, amounts, takes, m);
         put_all(places, amounts, takes, puts, m);
     }
+}
+
+// The answer of the firing rule to a row: 3, 4, 5 or 0.
+pub fn answer(places: &[u16], amounts: &[u16], ends: Ends, m: &[u16]) -> u8
+    ensures { λ r. ⌜ (Proper (length (now (m .entry))) (rowIn (now (places .entry)) (now (amounts .entry)) (ends .takes) (ends .puts) (ends .hinders))
+        → r ≡ fire (weights (rowIn (now (places .entry)) (now (amounts .entry)) (ends .takes) (ends .puts) (ends .hinders))) (now (m .entry)) .answer) ⌝ }
+{
+    if some_lacks(places, amounts, ends.takes, m) {
+        return 3;
+    }
+    answer_rest(places, amounts, ends, m)
+}
+
+// Fires a row of which no take is lacking: its answer, and the marking after it.
+pub fn fire_rest(places: &[u16], amounts: &[u16], ends: Ends, m: &mut [u16]) -> u8
+    ensures { λ r. ⌜ (Proper (length (now (m .entry))) (rowIn (now (places .entry)) (now (amounts .entry)) (ends .takes) (ends .puts) (ends .hinders))
+        → any (lacking (now (m .entry))) (arcsIn (now (places .entry)) (now (amounts .entry)) 0 (ends .takes)) ≡ false
+        → fired r (now (m .exit)) ≡ fire (weights (rowIn (now (places .entry)) (now (amounts .entry)) (ends .takes) (ends .puts) (ends .hinders))) (now (m .entry))) ⌝ }
+{
+    let takes = ends.takes;
+    let puts = ends.puts;
+    let a = answer_rest(places, amounts, ends, m);
+    move_row(places, amounts, takes, puts, a, m);
     a
 }

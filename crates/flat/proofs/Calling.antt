@@ -9,7 +9,7 @@ use Rattle.firing.specs.Loops.{Ran, stoppedAt}
 use Rattle.firing.proofs.Running as running
 use Rattle.firing.proofs.Running.{called, stopped-in, stopped-out}
 use Rattle.flat.specs.Flat.{Flat, readFlat, fireRow, fireImage, flatSizes, fireImages, firstRow}
-use Rattle.flat.specs.Told.{Held, Scanned}
+use Rattle.flat.specs.Told.{mostRows, Held, Scanned}
 use Rattle.flat.specs.declared.reader.Scan.{Scan}
 use Rattle.flat.specs.declared.reader.Scan.the-variants.{Net, Refused}
 
@@ -36,6 +36,10 @@ module _ (s : List ℕ) {number place : ℕ} (is : readFlat s ≡ refused number
 
 -- ---- files that are read
 module _ {s starts : List ℕ} {places rows : ℕ} {f : Flat} (held : Held s starts places rows f) where
+  -- a list of starts with room for the most rows has room for these
+  pub held-fits : {size : ℕ} → mostRows (length s) ≤ size → length starts ≡ size → rows ≤ length starts
+  held-fits enough e = omega (arith, held .fits)
+
   pub the-sizes : accepted (record { places = places; rows = rows }) ≡ flatSizes s
   unfolding flatSizes
   the-sizes = rw (held .is, held .places-are, held .rows-are)

@@ -12,7 +12,7 @@ use Rattle.reading.proofs.Commands.{passes, done, fails, passing, failed, other
 use Rattle.reading.proofs.Parts.{Reading, begins, goes-on, ends, stops}
 use Rattle.firing.specs.Arcs.{Row, row}
 use Rattle.flat.specs.Flat.{Flat, placePart, arcPart, rowPart, readFlat}
-use Rattle.flat.specs.Told.{mostRows, stepTold, StepRoom, PlacesHeld, Stands, RowsHeld, opening, closing, partTold, Counts, scanOf, Held, Scanned}
+use Rattle.flat.specs.Told.{stepTold, StepRoom, PlacesHeld, arcsAt, Stands, RowsHeld, opening, closing, partTold, Counts, scanOf, Held, Scanned}
 use Rattle.flat.specs.declared.reader.Part.{Part}
 use Rattle.flat.specs.declared.reader.Part.the-variants as part
 use Rattle.flat.specs.declared.reader.Step.{Step}
@@ -68,25 +68,23 @@ pub record RowsSoFar (s : List ℕ) (n start size : ℕ) (starts : List ℕ) (co
   pub sized : length rows ≡ count
   pub few : count ≤ 65536
   pub long : length starts ≡ size
-  pub enough : mostRows (length s) ≤ size
   pub counted : count ≤ at
   pub within : at ≤ length s
   pub reading : Reading s (rowPart s n) rows at (whole s (rowPart s n) [] start)
   pub stands : Stands s n starts rows
 
 -- before the first row
-pub rows-begin : (s : List ℕ) (n start : ℕ) (starts : List ℕ) → mostRows (length s) ≤ length starts → start ≤ length s → RowsSoFar s n start (length starts) starts 0 start
-rows-begin s n start starts e le =
+pub rows-begin : (s : List ℕ) (n start : ℕ) (starts : List ℕ) → start ≤ length s → RowsSoFar s n start (length starts) starts 0 start
+rows-begin s n start starts le =
     record {
       rows = [];
       sized = refl;
       few = omega arith;
       long = refl;
-      enough = e;
       counted = omega arith;
       within = le;
       reading = begins s (rowPart s n) [] start;
-      stands = λ i lt. absurd (omega arith);
+      stands = λ i lt room. absurd (omega arith);
     }
 
 -- by the next step they end, have a fault, or go on with a row's arcs
@@ -98,7 +96,7 @@ module _ {s : List ℕ} {n start size : ℕ} {starts : List ℕ} {count at : ℕ
       record {
         rows = here .rows;
         sized = here .sized;
-        fits = omega (arith, here .few, here .counted, here .within, here .enough, here .long);
+        fits = omega (arith, here .few, here .counted, here .within);
         is = ends s (rowPart s n) (here .reading) (is n (here .rows) (here .sized) ∙ ap (stepTold _) e);
         stands = here .stands;
       }
@@ -107,11 +105,8 @@ module _ {s : List ℕ} {n start size : ℕ} {starts : List ℕ} {count at : ℕ
   rows-stop e = stops s (rowPart s n) (here .reading) (rw e at room) (is n (here .rows) (here .sized) ∙ ap (stepTold _) e)
 
   module _ (e : step ≡ More) where
-    shown : (count < 65536) × (at + 1 ≤ length s)
-    shown = rw e at room
-
-    pub row-room : (count < size) × (at + 1 ≤ length s)
-    row-room = (omega (arith, shown, here .counted, here .enough), shown .1)
+    pub row-room : (count < 65536) × (at + 1 ≤ length s)
+    row-room = rw e at room
 
     row-step : rowPart s n (here .rows) at ≡ some (under (with (here .rows)) (whole s (arcPart s n) (row [] [] []) (at + 1)))
     row-step = is n (here .rows) (here .sized) ∙ ap (stepTold _) e
@@ -127,22 +122,24 @@ module _ {s : List ℕ} {n start size : ℕ} {starts : List ℕ} {count at : ℕ
 
       -- every row so far, and this one, can be read again from its start
       all-stand : Stands s n (set starts count (at + 1)) (with (here .rows) x)
-      all-stand i lt = elim (decLt i count) [ yes old ↦ earlier old | no new ↦ last (omega (arith, length-append (here .rows) (x ∷ []), here .sized)) ]
+      all-stand i lt room = elim (decLt i count) [ yes old ↦ earlier old | no new ↦ last (omega (arith, length-append (here .rows) (x ∷ []), here .sized)) ]
         where
-          earlier : i < count → (after : ℕ) × (whole s (arcPart s n) (row [] [] []) (getD (set starts count (at + 1)) i 0) ≡ fine (getD (with (here .rows) x) i (row [] [] [])) after)
-          earlier old = rw (getD-set-other starts count i (at + 1) 0 (λ e. omega arith), List·getD-append (here .rows) (x ∷ []) (row [] [] []) i (omega (arith, here .sized))) (here .stands i (omega (arith, here .sized)))
+          reached : i < length starts
+          reached = omega (arith, room, length-set starts count (at + 1))
 
-          last : i ≡ count → (after : ℕ) × (whole s (arcPart s n) (row [] [] []) (getD (set starts count (at + 1)) i 0) ≡ fine (getD (with (here .rows) x) i (row [] [] [])) after)
-          last new = (next, rw (new, getD-set-same starts count (at + 1) 0 (omega (arith, here .long, row-room .0)), getD-at (here .rows) x [] (row [] [] []) count (here .sized)) (sym f))
+          earlier : i < count → (after : ℕ) × (arcsAt s n (getD (set starts count (at + 1)) i 0) ≡ fine (getD (with (here .rows) x) i (row [] [] [])) after)
+          earlier old = rw (getD-set-other starts count i (at + 1) 0 (λ e. omega arith), List·getD-append (here .rows) (x ∷ []) (row [] [] []) i (omega (arith, here .sized))) (here .stands i (omega (arith, here .sized)) reached)
+
+          last : i ≡ count → (after : ℕ) × (arcsAt s n (getD (set starts count (at + 1)) i 0) ≡ fine (getD (with (here .rows) x) i (row [] [] [])) after)
+          last new = (next, rw (new, getD-set-same starts count (at + 1) 0 (omega (arith, reached)), getD-at (here .rows) x [] (row [] [] []) count (here .sized)) (sym f))
 
       pub row-more : RowsSoFar s n start size (set starts count (at + 1)) (count + 1) next
       row-more =
           record {
             rows = with (here .rows) x;
             sized = length-append (here .rows) (x ∷ []) ∙ omega (arith, here .sized);
-            few = omega (arith, shown .0);
+            few = omega (arith, row-room .0);
             long = length-set starts count (at + 1) ∙ here .long;
-            enough = here .enough;
             counted = omega (arith, here .counted, row-inside .0);
             within = row-inside .1;
             reading = goes-on s (rowPart s n) (with (here .rows) x) next (here .reading) (row-inside .0) (row-inside .1) (row-step ∙ rw (← f));
@@ -204,6 +201,6 @@ module _ (s : List ℕ) {first : Part} (opened : (content : ℕ → Answer Flat)
             rows-are = held .sized;
             few-places = places .few;
             fits = held .fits;
-            stands = λ i lt. held .stands i (omega (arith, held .sized));
+            stands = λ i lt room. held .stands i (omega (arith, held .sized)) room;
           }),
         )

@@ -1,9 +1,10 @@
 -- What the code's enums say, in the terms of the meanings.
 use mathlib.Core.Path.{_≡_}
+use mathlib.Core.Logic.{_⊎_}
 use Prim.Native.Nat.{_<_, _≤_, _/_, min}
-use Rattle.reading.specs.Basics.{ℕ, zero, suc, _+_, _*_, Bool, _&&_, List, [], _∷_, Option, none, some, length, getD, leb, eqb, if_then_else_, with, byteAt}
+use Rattle.reading.specs.Basics.{ℕ, zero, suc, _+_, _*_, Bool, true, false, _&&_, List, [], _∷_, Option, none, some, length, getD, leb, eqb, if_then_else_, with, byteAt}
 use Rattle.reading.specs.Reading.{Answer, fine, fault, _andThen_, accepted, refused, _unless_, checked, command, needed, whole}
-use Rattle.firing.specs.Arcs.{Arc, Row, row, rowIn, Proper}
+use Rattle.firing.specs.Arcs.{Arc, Row, row}
 use Rattle.flat.specs.Flat.{Flat, rise, placePart, arcPart, rowPart, readFlat}
 use Rattle.flat.specs.declared.reader.ArcStep.{ArcStep}
 use Rattle.flat.specs.declared.reader.ArcStep.the-variants as arc-step
@@ -17,6 +18,11 @@ use Rattle.flat.specs.declared.reader.Scan.{Scan}
 use Rattle.flat.specs.declared.reader.Scan.the-variants as scan
 
 -- ---- one arc
+-- an arc's command byte stands at a place, or another
+abbrev pub ArcHere : List ℕ → ℕ → Bool → Type 0
+ArcHere s at true = (at < length s) × (0x52 ≤ byteAt s at) × (byteAt s at ≤ 0x54)
+ArcHere s at false = (byteAt s at < 0x52) ⊎ (0x54 < byteAt s at)
+
 -- an arc of a kind (0 takes, 1 puts, 2 hinders) at a place keeps a row's order
 abbrev pub inOrder : ℕ → Row → ℕ → Bool
 inOrder zero r p = rise (r .takes) p && eqb (length (r .puts)) 0 && eqb (length (r .hinders)) 0
@@ -61,24 +67,30 @@ abbrev pub mostArcs : ℕ → ℕ
 mostArcs len = min 12288 (len / 5)
 
 -- ---- a row's arcs
+-- the arcs that stand from a place on, over so many flat places
+abbrev pub arcsAt : List ℕ → ℕ → ℕ → Answer Row
+arcsAt s places at = whole s (arcPart s places) (row [] [] []) at
+
+-- they end at a place not before the first of them, and within the file where that does; or have a fault
+abbrev pub ArcsPassed : List ℕ → ℕ → ℕ → RowRead → Type 0
+ArcsPassed s n at (row-read.Whole next) = ((r : Row) × (fine r next ≡ arcsAt s n at)) × (at ≤ next) × (at ≤ length s → next ≤ length s)
+ArcsPassed s n at (row-read.Fault number place) = fault number place ≡ arcsAt s n at
+
+-- over at most 4,096 flat places they have no fault
+pub record ArcsStand (s : List ℕ) (at : ℕ) : Type 0 where
+  pub places : ℕ
+  pub few : places ≤ 4096
+  pub arcs : Row
+  pub next : ℕ
+  pub is : arcsAt s places at ≡ fine arcs next
+
+-- so many rows' arcs stand where a list says
+abbrev pub RowsStand : List ℕ → List ℕ → ℕ → Type 0
+RowsStand s starts rows = (i : ℕ) → i < rows → ArcsStand s (getD starts i 0)
+
 -- the end of a kind after one more arc of some kind
 abbrev pub laterEnd : ℕ → ℕ → ℕ → ℕ → ℕ
 laterEnd kind of more was = if leb kind of then more else was
-
-abbrev pub rowRead : List ℕ → List ℕ → RowRead → Answer Row
-rowRead places weights (row-read.Whole takes puts hinders next) = fine (rowIn places weights takes puts hinders) next
-rowRead places weights (row-read.Fault number place) = fault number place
-
--- the row is proper, and its kinds end in turn within the lists
-abbrev pub RowProper : ℕ → List ℕ → List ℕ → RowRead → Type 0
-RowProper n places weights (row-read.Whole takes puts hinders next) =
-    Proper n (rowIn places weights takes puts hinders) × (takes ≤ puts) × (puts ≤ hinders) × (hinders ≤ 12288)
-RowProper n places weights (row-read.Fault number place) = Unit {0}
-
--- the place after the arcs lies not before the first of them, and within the file where that does
-abbrev pub RowWithin : ℕ → ℕ → RowRead → Type 0
-RowWithin len at (row-read.Whole takes puts hinders next) = (at ≤ next) × (at ≤ len → next ≤ len)
-RowWithin len at (row-read.Fault number place) = Unit {0}
 
 -- ---- the places and the rows
 -- a step that goes on with an answer
@@ -105,16 +117,16 @@ abbrev pub PlacesRead : List ℕ → ℕ → Part → Type 0
 PlacesRead s start (part.Whole places rows next) = PlacesHeld s start places next
 PlacesRead s start (part.Fault number place) = fault number place ≡ whole s (placePart s) [] start
 
--- where a row's arcs start, the row can be read again
+-- where a row's arcs start, as far as the list of starts reaches, the row can be read again
 abbrev pub Stands : List ℕ → ℕ → List ℕ → List Row → Type 0
 Stands s places starts rows =
-    (i : ℕ) → i < length rows → (next : ℕ) × (whole s (arcPart s places) (row [] [] []) (getD starts i 0) ≡ fine (getD rows i (row [] [] [])) next)
+    (i : ℕ) → i < length rows → i < length starts → (next : ℕ) × (arcsAt s places (getD starts i 0) ≡ fine (getD rows i (row [] [] [])) next)
 
 -- so many rows stand from a place to another, over so many flat places
 pub record RowsHeld (s : List ℕ) (places start : ℕ) (starts : List ℕ) (count next : ℕ) : Type 0 where
   pub rows : List Row
   pub sized : length rows ≡ count
-  pub fits : count ≤ length starts
+  pub fits : count ≤ mostRows (length s)
   pub is : fine rows next ≡ whole s (rowPart s places) [] start
   pub stands : Stands s places starts rows
 
@@ -124,7 +136,7 @@ RowsRead s n start starts (part.Fault number place) = fault number place ≡ who
 
 -- the place after a row's arcs, or their fault
 abbrev pub rowEnd : ℕ → ℕ → RowRead → Part
-rowEnd places rows (row-read.Whole takes puts hinders next) = part.Whole places rows next
+rowEnd places rows (row-read.Whole next) = part.Whole places rows next
 rowEnd places rows (row-read.Fault number place) = part.Fault number place
 
 -- ---- the whole file
@@ -153,18 +165,14 @@ abbrev pub scanOf : Part → Scan
 scanOf (part.Whole places rows next) = scan.Net places rows
 scanOf (part.Fault number place) = scan.Refused number place
 
--- the arcs that stand from a place on, over so many flat places
-abbrev pub arcsAt : List ℕ → ℕ → ℕ → Answer Row
-arcsAt s places at = whole s (arcPart s places) (row [] [] []) at
-
--- a flat file's net of so many flat places and rows, with the start of each row's arcs
+-- a flat file's net of so many flat places and rows, with the start of each row's arcs as far as the list of starts reaches
 pub record Held (s starts : List ℕ) (places rows : ℕ) (f : Flat) : Type 0 where
   pub is : readFlat s ≡ accepted f
   pub places-are : length (f .initial) ≡ places
   pub rows-are : length (f .rows) ≡ rows
   pub few-places : places ≤ 4096
-  pub fits : rows ≤ length starts
-  pub stands : (i : ℕ) → i < rows → (next : ℕ) × (arcsAt s places (getD starts i 0) ≡ fine (getD (f .rows) i (row [] [] [])) next)
+  pub fits : rows ≤ mostRows (length s)
+  pub stands : (i : ℕ) → i < rows → i < length starts → (next : ℕ) × (arcsAt s places (getD starts i 0) ≡ fine (getD (f .rows) i (row [] [] [])) next)
 
 abbrev pub Scanned : List ℕ → List ℕ → Scan → Type 0
 Scanned s starts (scan.Net places rows) = (f : Flat) × Held s starts places rows f

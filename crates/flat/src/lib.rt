@@ -1,12 +1,10 @@
 // Flat nets: how many places and rows a flat file has, firing images on it, and its first row that fires.
 mod reader;
 
-use firing::Ends;
 use firing::answer;
-use firing::fire_row;
-use reader::RowRead;
+use firing::move_row;
 use reader::Scan;
-use reader::read_arcs;
+use reader::load_arcs;
 use reader::scan_file;
 use reading::byte_at;
 use reading::long_at;
@@ -21,7 +19,7 @@ ghost use Rattle.firing.specs.Loops.{Ran, stoppedAt};
 ghost use Rattle.firing.specs.Arcs as arcs;
 ghost use Rattle.firing.specs.Arcs.{Row};
 ghost use Rattle.flat.specs.Flat.{Flat, fireRow, fireImage, fireImages, firstRow, flatSizes};
-ghost use Rattle.flat.specs.Told.{mostRows, mostArcs, Held, arcsAt};
+ghost use Rattle.flat.specs.Told.{mostRows, mostArcs, ArcsStand, RowsStand, Held, arcsAt};
 ghost use Rattle.flat.specs.Replies.{fireCalled, firstReply, sizesReply};
 
 // How many flat places and rows a flat file has, or the refusal.
@@ -33,10 +31,8 @@ pub enum SizesReply {
 pub fn flat_sizes(flat: &[u8]) -> SizesReply
     ensures { λ r. ⌜ sizesReply r ≡ flatSizes (now (flat .entry)) ⌝ }
 {
-    let mut starts = [0usize; 65536];
-    let mut places = [0u16; 12288];
-    let mut weights = [0u16; 12288];
-    match scan_file(flat, &mut starts, &mut places, &mut weights) {
+    let mut none = [0usize; 0];
+    match scan_file(flat, &mut none) {
         Scan::Refused { number, place } => SizesReply::Refused { number, place },
         Scan::Net {
             places: count,
@@ -51,29 +47,18 @@ pub fn flat_sizes(flat: &[u8]) -> SizesReply
 // Fires the row whose arcs stand at a place of the file.
 fn fire_at(s: &[u8], start: usize, m: &mut [u16], places: &mut [u16], weights: &mut [u16]) -> u8
     requires { ⌜ length (now m) ≤ 4096 ⌝ }
+    requires { ⌜ ArcsStand (now s) start ⌝ }
     requires { ⌜ mostArcs (length (now s)) ≤ length (now places) ⌝ }
     requires { ⌜ mostArcs (length (now s)) ≤ length (now weights) ⌝ }
     ensures { λ r. ⌜ ((row : Row) (next : ℕ) → arcsAt (now (s .entry)) (length (now (m .entry))) start ≡ fine row next
         → fired r (now (m .exit)) ≡ fire (arcs.weights row) (now (m .entry))) ⌝ }
 {
-    match read_arcs(s, m.len(), start, places, weights) {
-        RowRead::Fault { .. } => 1,
-        RowRead::Whole {
-            takes,
-            puts,
-            hinders,
-            next: _,
-        } => fire_row(
-            places,
-            weights,
-            Ends {
-                takes,
-                puts,
-                hinders,
-            },
-            m,
-        ),
-    }
+    let ends = load_arcs(s, start, places, weights);
+    let takes = ends.takes;
+    let puts = ends.puts;
+    let a = answer(places, weights, ends, m);
+    move_row(places, weights, takes, puts, a, m);
+    a
 }
 
 // Fires the image number i.
@@ -90,6 +75,7 @@ fn turn(
     requires { ⌜ i * 5 + 5 ≤ length (now images) ⌝ }
     requires { ⌜ rows ≤ length (now starts) ⌝ }
     requires { ⌜ length (now m) ≤ 4096 ⌝ }
+    requires { ⌜ RowsStand (now s) (now starts) rows ⌝ }
     requires { ⌜ mostArcs (length (now s)) ≤ length (now places) ⌝ }
     requires { ⌜ mostArcs (length (now s)) ≤ length (now weights) ⌝ }
     ensures { λ r. ⌜ ((f : Flat) → Held (now (s .entry)) (now (starts .entry)) (length (now (m .entry))) rows f
@@ -121,6 +107,7 @@ fn fire_list(
     requires { ⌜ length (now images) / 5 ≤ length (now answers) ⌝ }
     requires { ⌜ rows ≤ length (now starts) ⌝ }
     requires { ⌜ length (now m) ≤ 4096 ⌝ }
+    requires { ⌜ RowsStand (now s) (now starts) rows ⌝ }
     requires { ⌜ mostArcs (length (now s)) ≤ length (now places) ⌝ }
     requires { ⌜ mostArcs (length (now s)) ≤ length (now weights) ⌝ }
     ensures { λ _. ⌜ ((f : Flat) → Held (now (s .entry)) (now (starts .entry)) (length (now (m .entry))) rows f
@@ -157,7 +144,7 @@ fn fire_with(
     ensures { λ r. ⌜ fireCalled r (now (m .exit)) (now (answers .exit))
         ≡ fireImages (now (s .entry)) (now (m .entry)) (now (images .entry)) (now (answers .entry)) ⌝ }
 {
-    match scan_file(s, starts, places, weights) {
+    match scan_file(s, starts) {
         Scan::Refused { number, place } => FireReply::Refused { number, place },
         Scan::Net {
             places: count,
@@ -242,32 +229,14 @@ pub fn fire_images(flat: &[u8], marking: &mut [u16], images: &[u8], answers: &mu
 // Whether the row whose arcs stand at a place of the file would fire.
 fn fires_at(s: &[u8], start: usize, m: &[u16], places: &mut [u16], weights: &mut [u16]) -> bool
     requires { ⌜ length (now m) ≤ 4096 ⌝ }
+    requires { ⌜ ArcsStand (now s) start ⌝ }
     requires { ⌜ mostArcs (length (now s)) ≤ length (now places) ⌝ }
     requires { ⌜ mostArcs (length (now s)) ≤ length (now weights) ⌝ }
     ensures { λ r. ⌜ ((row : Row) (next : ℕ) → arcsAt (now (s .entry)) (length (now (m .entry))) start ≡ fine row next
         → r ≡ eqb (fire (arcs.weights row) (now (m .entry)) .answer) 0) ⌝ }
 {
-    match read_arcs(s, m.len(), start, places, weights) {
-        RowRead::Fault { .. } => false,
-        RowRead::Whole {
-            takes,
-            puts,
-            hinders,
-            next: _,
-        } => {
-            answer(
-                places,
-                weights,
-                Ends {
-                    takes,
-                    puts,
-                    hinders,
-                },
-                m,
-            )
-                == 0
-        }
-    }
+    let ends = load_arcs(s, start, places, weights);
+    answer(places, weights, ends, m) == 0
 }
 
 // The number of the first row that fires; the row count where none does.
@@ -281,6 +250,7 @@ fn search_rows(
 ) -> usize
     requires { ⌜ rows ≤ length (now starts) ⌝ }
     requires { ⌜ length (now m) ≤ 4096 ⌝ }
+    requires { ⌜ RowsStand (now s) (now starts) rows ⌝ }
     requires { ⌜ mostArcs (length (now s)) ≤ length (now places) ⌝ }
     requires { ⌜ mostArcs (length (now s)) ≤ length (now weights) ⌝ }
     ensures { λ r. ⌜ ((f : Flat) → Held (now (s .entry)) (now (starts .entry)) (length (now (m .entry))) rows f
@@ -317,7 +287,7 @@ fn first_with(
     requires { ⌜ mostArcs (length (now s)) ≤ length (now weights) ⌝ }
     ensures { λ r. ⌜ firstReply r ≡ firstRow (now (s .entry)) (now (m .entry)) ⌝ }
 {
-    match scan_file(s, starts, places, weights) {
+    match scan_file(s, starts) {
         Scan::Refused { number, place } => FirstReply::Refused { number, place },
         Scan::Net {
             places: count,

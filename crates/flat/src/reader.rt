@@ -1,14 +1,39 @@
 // Reads flat files: the places, the rows, and a row's arcs.
-use reading::word_at;
+use firing::Ends;
 ghost use mathlib.Core.Path.{_≡_};
 ghost use mathlib.Core.List.{List, []};
-ghost use Prim.Native.Nat.{ℕ, _≤_, _+_};
-ghost use lib.ListN.{length};
+ghost use Prim.Native.Nat.{ℕ, _<_, _≤_, _+_};
+ghost use lib.ListN.{length, set};
 ghost use Rattle.reading.specs.Basics.{with, byteAt, wordAt};
 ghost use Rattle.reading.specs.Reading.{Answer, fine, under, whole};
-ghost use Rattle.firing.specs.Arcs.{Row, row};
+ghost use Rattle.firing.specs.Arcs.{Row, row, rowIn, Proper};
 ghost use Rattle.flat.specs.Flat.{Flat, placePart, arcPart, rowPart};
-ghost use Rattle.flat.specs.Told.{mostRows, mostArcs, Least, arcStep, ArcRoom, laterEnd, rowRead, RowProper, RowWithin, stepTold, StepRoom, PlacesRead, rowEnd, RowsRead, opening, closing, partTold, PartWithin, Counts, scanOf, Scanned};
+ghost use Rattle.flat.specs.Told.{mostArcs, ArcHere, Least, arcStep, ArcRoom, laterEnd, arcsAt, ArcsPassed, ArcsStand, stepTold, StepRoom, PlacesRead, rowEnd, RowsRead, opening, closing, partTold, PartWithin, Counts, scanOf, Scanned};
+
+// The u16 that stands whole at a place.
+fn word_in(s: &[u8], at: usize) -> usize
+    requires { ⌜ at + 2 ≤ length (now s) ⌝ }
+    ensures { λ r. ⌜ (r ≡ wordAt (now (s .entry)) at) × (r < 65536) ⌝ }
+{
+    s[at] as usize + 256 * (s[at + 1] as usize)
+}
+
+// Whether an arc's command byte stands at a place of the file.
+fn arc_here(s: &[u8], at: usize) -> bool
+    ensures { λ r. ⌜ ArcHere (now (s .entry)) at r ⌝ }
+{
+    if s.len() <= at {
+        return false;
+    }
+    let b = s[at];
+    if b < 0x52 {
+        return false;
+    }
+    if 0x54 < b {
+        return false;
+    }
+    true
+}
 
 // One step of a row's arcs: the kind is 0 for a take, 1 for a put, 2 for a hinder.
 pub enum ArcStep {
@@ -26,14 +51,14 @@ fn arc_of(s: &[u8], count: usize, at: usize, least: usize, kind: u8) -> ArcStep
     ensures is { λ r. ⌜ ((before : Row) → Least before least → arcPart (now (s .entry)) count before at ≡ arcStep (at + 5) before r) ⌝ }
     ensures room { λ r. ⌜ ArcRoom (length (now (s .entry))) count at least r ⌝ }
 {
-    let place = word_at(s, at + 1);
+    let place = word_in(s, at + 1);
     if count <= place {
         return ArcStep::Stop {
             number: 5,
             place: at,
         };
     }
-    let weight = word_at(s, at + 3);
+    let weight = word_in(s, at + 3);
     if weight < 1 {
         return ArcStep::Stop {
             number: 5,
@@ -58,23 +83,49 @@ fn arc_at(s: &[u8], count: usize, at: usize, least: usize) -> ArcStep
     ensures is { λ r. ⌜ ((before : Row) → Least before least → arcPart (now (s .entry)) count before at ≡ arcStep (at + 5) before r) ⌝ }
     ensures room { λ r. ⌜ ArcRoom (length (now (s .entry))) count at least r ⌝ }
 {
-    if s.len() <= at {
-        return ArcStep::Done;
+    if arc_here(s, at) {
+        if s.len() < at + 5 {
+            return ArcStep::Stop {
+                number: 2,
+                place: s.len(),
+            };
+        }
+        return arc_of(s, count, at, least, s[at] - 0x52);
     }
-    let b = s[at];
-    if b < 0x52 {
-        return ArcStep::Done;
+    ArcStep::Done
+}
+
+// The place after a row's arcs; or the first fault.
+pub enum RowRead {
+    Whole { next: usize },
+    Fault { number: u8, place: usize },
+}
+
+// Passes over the arcs from a place on, over so many flat places, with all their checks.
+fn pass_arcs(s: &[u8], count: usize, at: usize) -> RowRead
+    requires { ⌜ count ≤ 4096 ⌝ }
+    ensures { λ r. ⌜ ArcsPassed (now (s .entry)) count at r ⌝ }
+{
+    let mut least: usize = 0;
+    let mut next = at;
+    loop {
+        match arc_at(s, count, next, least) {
+            ArcStep::Done => {
+                return RowRead::Whole { next };
+            }
+            ArcStep::Stop { number, place } => {
+                return RowRead::Fault { number, place };
+            }
+            ArcStep::Arc {
+                kind,
+                place,
+                weight: _,
+            } => {
+                least = kind as usize * 65536 + place as usize + 1;
+                next += 5;
+            }
+        }
     }
-    if 0x54 < b {
-        return ArcStep::Done;
-    }
-    if s.len() < at + 5 {
-        return ArcStep::Stop {
-            number: 2,
-            place: s.len(),
-        };
-    }
-    arc_of(s, count, at, least, b - 0x52)
 }
 
 // Where the arcs of a kind end, after one more arc: it stands before the ends of its own and of later kinds.
@@ -84,68 +135,33 @@ fn later_end(kind: u8, of: u8, more: usize, was: usize) -> usize
     if kind <= of { more } else { was }
 }
 
-// A row's arcs in the lent lists, where each kind ends, and the place after them; or the first fault.
-pub enum RowRead {
-    Whole {
-        takes: usize,
-        puts: usize,
-        hinders: usize,
-        next: usize,
-    },
-    Fault {
-        number: u8,
-        place: usize,
-    },
-}
-
-// The arcs from a place on, over so many flat places. They go into the front of two lent lists.
-pub fn read_arcs(
-    s: &[u8],
-    count: usize,
-    at: usize,
-    places: &mut [u16],
-    weights: &mut [u16],
-) -> RowRead
-    requires { ⌜ count ≤ 4096 ⌝ }
+// Loads the arcs from a place on, which have passed all checks, into the front of two lent lists.
+pub fn load_arcs(s: &[u8], at: usize, places: &mut [u16], weights: &mut [u16]) -> Ends
+    requires { ⌜ ArcsStand (now s) at ⌝ }
     requires { ⌜ mostArcs (length (now s)) ≤ length (now places) ⌝ }
     requires { ⌜ mostArcs (length (now s)) ≤ length (now weights) ⌝ }
-    ensures is { λ r. ⌜ rowRead (now (places .exit)) (now (weights .exit)) r
-        ≡ whole (now (s .entry)) (arcPart (now (s .entry)) count) (row [] [] []) at ⌝ }
-    ensures proper { λ r. ⌜ RowProper count (now (places .exit)) (now (weights .exit)) r ⌝ }
-    ensures within { λ r. ⌜ RowWithin (length (now (s .entry))) at r ⌝ }
+    ensures { λ r. ⌜ ((n : ℕ) (arcs : Row) (next : ℕ) → n ≤ 4096 → arcsAt (now (s .entry)) n at ≡ fine arcs next
+        → (rowIn (now (places .exit)) (now (weights .exit)) (r .takes) (r .puts) (r .hinders) ≡ arcs) × Proper n arcs) ⌝ }
 {
     let mut takes: usize = 0;
     let mut puts: usize = 0;
     let mut end: usize = 0;
-    let mut least: usize = 0;
     let mut next = at;
-    loop {
-        match arc_at(s, count, next, least) {
-            ArcStep::Done => {
-                return RowRead::Whole {
-                    takes,
-                    puts,
-                    hinders: end,
-                    next,
-                };
-            }
-            ArcStep::Stop { number, place } => {
-                return RowRead::Fault { number, place };
-            }
-            ArcStep::Arc {
-                kind,
-                place,
-                weight,
-            } => {
-                places[end] = place;
-                weights[end] = weight;
-                end += 1;
-                takes = later_end(kind, 0, end, takes);
-                puts = later_end(kind, 1, end, puts);
-                least = kind as usize * 65536 + place as usize + 1;
-                next += 5;
-            }
-        }
+    while arc_here(s, next) {
+        let kind = s[next] - 0x52;
+        let place = word_in(s, next + 1);
+        let weight = word_in(s, next + 3);
+        places[end] = place as u16;
+        weights[end] = weight as u16;
+        end += 1;
+        takes = later_end(kind, 0, end, takes);
+        puts = later_end(kind, 1, end, puts);
+        next += 5;
+    }
+    Ends {
+        takes,
+        puts,
+        hinders: end,
     }
 }
 
@@ -250,29 +266,23 @@ fn row_end(places: usize, rows: usize, a: RowRead) -> Part
 {
     match a {
         RowRead::Fault { number, place } => Part::Fault { number, place },
-        RowRead::Whole {
-            takes: _,
-            puts: _,
-            hinders: _,
-            next,
-        } => Part::Whole { places, rows, next },
+        RowRead::Whole { next } => Part::Whole { places, rows, next },
     }
 }
 
-// The rows, over so many flat places: where each row's arcs start goes into the front of starts.
-fn read_rows(
-    s: &[u8],
-    count: usize,
-    start: usize,
-    starts: &mut [usize],
-    places: &mut [u16],
-    weights: &mut [u16],
-) -> Part
+// Keeps where row number i starts; past the end of the list it keeps nothing.
+fn keep(starts: &mut [usize], i: usize, start: usize)
+    ensures { λ _. ⌜ now (starts .exit) ≡ set (now (starts .entry)) i start ⌝ }
+{
+    if i < starts.len() {
+        starts[i] = start;
+    }
+}
+
+// The rows, over so many flat places: where each row's arcs start goes into the front of starts, as far as it reaches.
+fn read_rows(s: &[u8], count: usize, start: usize, starts: &mut [usize]) -> Part
     requires { ⌜ count ≤ 4096 ⌝ }
     requires { ⌜ start ≤ length (now s) ⌝ }
-    requires { ⌜ mostRows (length (now s)) ≤ length (now starts) ⌝ }
-    requires { ⌜ mostArcs (length (now s)) ≤ length (now places) ⌝ }
-    requires { ⌜ mostArcs (length (now s)) ≤ length (now weights) ⌝ }
     ensures { λ r. ⌜ RowsRead (now (s .entry)) count start (now (starts .exit)) r ⌝ }
 {
     let mut rows: usize = 0;
@@ -290,17 +300,11 @@ fn read_rows(
                 return Part::Fault { number, place };
             }
             Step::More => {
-                let a = read_arcs(s, count, at + 1, places, weights);
-                let RowRead::Whole {
-                    takes: _,
-                    puts: _,
-                    hinders: _,
-                    next,
-                } = a
-                else {
+                let a = pass_arcs(s, count, at + 1);
+                let RowRead::Whole { next } = a else {
                     return row_end(count, rows, a);
                 };
-                starts[rows] = at + 1;
+                keep(starts, rows, at + 1);
                 rows += 1;
                 at = next;
             }
@@ -394,11 +398,8 @@ fn scan_of(a: Part) -> Scan
     }
 }
 
-// Reads a whole flat file: where each row's arcs start goes into the front of starts.
-pub fn scan_file(s: &[u8], starts: &mut [usize], places: &mut [u16], weights: &mut [u16]) -> Scan
-    requires { ⌜ mostRows (length (now s)) ≤ length (now starts) ⌝ }
-    requires { ⌜ mostArcs (length (now s)) ≤ length (now places) ⌝ }
-    requires { ⌜ mostArcs (length (now s)) ≤ length (now weights) ⌝ }
+// Reads a whole flat file: where each row's arcs start goes into the front of starts, as far as it reaches.
+pub fn scan_file(s: &[u8], starts: &mut [usize]) -> Scan
     ensures { λ r. ⌜ Scanned (now (s .entry)) (now (starts .exit)) r ⌝ }
 {
     let a = opens(s);
@@ -419,7 +420,7 @@ pub fn scan_file(s: &[u8], starts: &mut [usize], places: &mut [u16], weights: &m
     else {
         return scan_of(b);
     };
-    let c = read_rows(s, count, at, starts, places, weights);
+    let c = read_rows(s, count, at, starts);
     let Part::Whole {
         places: _,
         rows,

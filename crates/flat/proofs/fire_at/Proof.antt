@@ -1,6 +1,6 @@
 use borrow.Author.Needs.{needs}
-use mathlib.Core.Path.{_≡_, refl, sym, ap, _∙_}
-use Rattle.flat.proofs.Standing.{no-fault, by-row}
+use mathlib.Core.Path.{_≡_}
+use Rattle.flat.proofs.Standing.{by-row}
 use Rattle.firing.specs.Firing.{fired, fire}
 use Rattle.firing.specs.Arcs.{weights}
 use denote.Ref.{now}
@@ -12,13 +12,9 @@ fire-at-spec =
     tie.close
     (tie.spec
     (λ c κs. search needs)
-    (λ c. search needs)
-    (λ c. search needs)
+    (λ c κs. search needs)
     (λ c κs. search needs)
     (λ c. search needs)
     (λ c. search needs)
-    (λ c. λ row next e. absurd (no-fault _ _ (c .enum-told .given .1) (c .before .before .before .before .before .before .read-arcs .ensures .0) e))
     (λ c. search needs)
-    (λ c. search needs)
-    (λ c. search needs)
-    (λ c. λ row next e. by-row (λ w. fired (c .before .before .fire-row .result) (c .before .before .fire-row .last .1 .1 .1 .0) ≡ fire (weights w) (now (c .before .before .before .before .before .before .before .before .before .before .before .before .before .before .before .before .before .before .before .before .args .m))) _ _ _ (c .before .before .before .before .before .before .before .takes .given .1) (c .before .before .before .before .before .before .before .before .before .before .before .before .before .read-arcs .ensures .0) (c .before .before .before .before .before .before .before .before .before .before .before .before .before .read-arcs .ensures .1 .0) e (c .before .before .fire-row .ensures)))
+    (λ c. λ row next e. by-row (λ w. fired (c .before .before .before .before .before .before .answer .result) (c .before .before .move-row .last .1 .1 .1 .1 .1 .0) ≡ fire (weights w) (now (c .before .before .before .before .before .before .before .before .before .before .before .before .before .before .before .before .before .before .before .before .before .args .m))) (c .before .before .before .before .before .before .before .before .before .before .before .before .before .before .load-arcs .ensures _ row next (c .before .before .before .before .before .before .before .before .before .before .before .before .before .before .before .before .before .before .before .before .before .pre .0) e) (λ proper. c .before .before .move-row .ensures _ proper (c .before .before .before .before .before .before .answer .ensures proper))))

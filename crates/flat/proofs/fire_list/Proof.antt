@@ -24,7 +24,7 @@ fire-list-spec =
     Inv-loop
     μ-loop
     (λ c. (λ f held. run-begin _ _ _ _, refl, refl, search needs, search needs))
-    (λ c κs. search needs)
+    (λ c κs. (search needs, (search needs, (search needs, (c .before .before .before .before .before .before .before .before .before .before .before .before .pre .1 .1 .1 .0, (search needs, search needs))))))
     (λ c. omega arith)
     (λ c. omega arith)
     (λ c. omega arith)

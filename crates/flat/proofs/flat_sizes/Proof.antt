@@ -8,10 +8,8 @@ flat-sizes-spec =
     tie.close
     (tie.spec
     (λ c. search needs)
-    (λ c. search needs)
-    (λ c. search needs)
     (λ c κs. search needs)
     (λ c. search needs)
     (λ c. search needs)
-    (λ c. no-sizes _ (the-refusal _ _ (c .before .number .given .1) (c .before .before .before .before .before .before .scan-file .ensures)))
-    (λ c. the-sizes (the-net _ _ (c .before .count .given .1) (c .before .before .before .before .before .before .scan-file .ensures) .1)))
+    (λ c. no-sizes _ (the-refusal _ _ (c .before .number .given .1) (c .before .before .before .before .scan-file .ensures)))
+    (λ c. the-sizes (the-net _ _ (c .before .count .given .1) (c .before .before .before .before .scan-file .ensures) .1)))

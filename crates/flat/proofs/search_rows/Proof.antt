@@ -27,12 +27,12 @@ search-rows-spec =
     (λ c. (λ f held. search-begin _ _, search needs, search needs, search needs))
     (λ c. search needs)
     (λ c. search needs)
-    (λ c κs. search needs)
+    (λ c κs. let pre = c .before .before .before .before .before .before .before .before .before .before .pre in (pre .1 .0, (pre .1 .1 .0 (c .before .before .before .before .loop .i) (c .before .before .before .loop-test .taken), (search needs, search needs))))
     (λ c. search needs)
     (λ c. search needs)
     (λ c. λ f held.
     let i = c .before .before .before .before .before .before .before .before .before .before .loop .i in
-    let stands = held .stands i (c .before .before .before .before .before .before .before .before .before .loop-test .taken) in
+    let stands = held .stands i (c .before .before .before .before .before .before .before .before .before .loop-test .taken) (omega (arith, c .before .before .before .before .before .before .before .before .before .loop-test .taken, c .before .before .before .before .before .before .before .before .before .before .before .before .before .before .before .before .pre .0)) in
     let hit = sym (c .before .before .before .before .before .fires-at .ensures _ (stands .0) (stands .1)) ∙ c .if1 .taken in
     below-found _ (c .before .before .before .before .before .before .before .before .before .before .before .before .before .before .before .before .args .rows) (c .before .before .before .before .before .before .before .before .before .before .loop .inv .0 f held) (c .before .before .before .before .before .before .before .before .before .loop-test .taken) (ap (λ x. eqb (x .answer) 0) (row-fires f _ i (omega (arith, held .rows-are, c .before .before .before .before .before .before .before .before .before .loop-test .taken))) ∙ hit) ∙ sym (stopped-in _ _ (c .before .before .before .before .before .before .before .before .before .loop-test .taken)))
     (λ c. omega arith)
@@ -40,7 +40,7 @@ search-rows-spec =
     (λ c. (
       λ f held.
           let i = c .before .before .before .before .before .before .before .before .before .before .loop .i in
-          let stands = held .stands i (c .before .before .before .before .before .before .before .before .before .loop-test .taken) in
+          let stands = held .stands i (c .before .before .before .before .before .before .before .before .before .loop-test .taken) (omega (arith, c .before .before .before .before .before .before .before .before .before .loop-test .taken, c .before .before .before .before .before .before .before .before .before .before .before .before .before .before .before .before .pre .0)) in
           let miss = sym (c .before .before .before .before .before .fires-at .ensures _ (stands .0) (stands .1)) ∙ c .if1 .left in
           below-step _ (c .before .before .before .before .before .before .before .before .before .before .before .before .before .before .before .before .args .rows) (c .before .before .before .before .before .before .before .before .before .before .loop .inv .0 f held) (c .before .before .before .before .before .before .before .before .before .loop-test .taken) (ap (λ x. eqb (x .answer) 0) (row-fires f _ i (omega (arith, held .rows-are, c .before .before .before .before .before .before .before .before .before .loop-test .taken))) ∙ miss),
       search needs,

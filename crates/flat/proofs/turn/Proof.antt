@@ -19,13 +19,13 @@ turn-spec =
     (λ c. λ f held. no-row f _ _ (omega (arith, held .rows-are, c .if2 .taken, c .before .long-at .ensures .0)) ∙ sym (image-fires f (now (c .before .before .before .before .before .before .before .before .before .before .args .images)) _ (c .before .before .before .before .before .before .before .before .before .before .args .i) (sym (c .before .before .before .byte-at .ensures .0) ∙ c .before .before .if1 .left)))
     (λ c. search needs)
     (λ c. search needs)
-    (λ c κs. search needs)
+    (λ c κs. let pre = c .before .before .before .before .before .before .before .before .before .before .before .before .before .before .pre in (pre .1 .1 .0, (pre .1 .1 .1 .0 (c .before .before .before .before .before .long-at .result) (c .before .before .before .before .if2 .left), (search needs, search needs))))
     (λ c. search needs)
     (λ c. search needs)
     (λ c. search needs)
     (λ c. λ f held.
     let m = now (c .before .before .before .before .before .before .before .before .before .before .before .before .before .before .before .before .before .before .before .before .before .args .m) in
-    let stands = held .stands (c .before .before .before .before .before .before .before .before .before .before .before .before .long-at .result) (c .before .before .before .before .before .before .before .before .before .before .before .if2 .left) in
+    let stands = held .stands (c .before .before .before .before .before .before .before .before .before .before .before .before .long-at .result) (c .before .before .before .before .before .before .before .before .before .before .before .if2 .left) (omega (arith, c .before .before .before .before .before .before .before .before .before .before .before .if2 .left, c .before .before .before .before .before .before .before .before .before .before .before .before .before .before .before .before .before .before .before .before .before .pre .1 .0)) in
     c .before .before .before .before .before .before .fire-at .ensures _ (stands .0) (stands .1)
     ∙ sym (row-fires f m (c .before .before .before .before .before .before .before .before .before .before .before .before .long-at .result) (omega (arith, held .rows-are, c .before .before .before .before .before .before .before .before .before .before .before .if2 .left)))
     ∙ ap (λ j. fireRow f j m) (c .before .before .before .before .before .before .before .before .before .before .before .before .long-at .ensures .0)

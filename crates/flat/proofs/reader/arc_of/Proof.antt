@@ -19,4 +19,4 @@ arc-of-spec =
     (λ c. (λ r f. arc-disorder _ _ _ _ (c .before .before .before .before .before .before .args .kind) (c .before .before .before .before .before .before .pre .0) (c .before .before .before .before .before .before .pre .1 .0) (c .before .before .before .before .before .before .pre .1 .1) _ f (omega arith) (omega arith) (omega arith) (omega arith), omega arith))
     (λ c. search needs)
     (λ c. search needs)
-    (λ c. (λ r f. rw (c .before .before .before .before .word-at .ensures .0, c .before .before .word-at2 .ensures .0) (arc-goes _ _ _ _ (c .before .before .before .before .before .before .args .kind) (c .before .before .before .before .before .before .pre .0) (c .before .before .before .before .before .before .pre .1 .0) (c .before .before .before .before .before .before .pre .1 .1) _ f (omega arith) (omega arith) (omega arith) (omega arith)), omega arith)))
+    (λ c. (λ r f. rw (c .before .before .before .before .word-in .ensures .0, c .before .before .word-in2 .ensures .0) (arc-goes _ _ _ _ (c .before .before .before .before .before .before .args .kind) (c .before .before .before .before .before .before .pre .0) (c .before .before .before .before .before .before .pre .1 .0) (c .before .before .before .before .before .before .pre .1 .1) _ f (omega arith) (omega arith) (omega arith) (omega arith)), omega arith)))
