@@ -2,8 +2,9 @@
 use mathlib.Core.Path.{_≡_, refl, ap, subst}
 use Prim.Native.Nat.{_≤_, _<_}
 use native.Mathlib.Omega.{arith}
-use borrow.Author.Tests.{eqb-true}
-use Rattle.reading.specs.Basics.{ℕ, _+_, _-_, Bool, true, not, _&&_, _||_, List, [], _∷_, Option, some, none, Option·map, length, getD, ltb, eqb, if_then_else_, given, find, byteAt}
+use borrow.Author.Tests.{leb-true, leb-false, eqb-true}
+use lib.ListN.{List·getD-eq-default}
+use Rattle.reading.specs.Basics.{ℕ, _+_, _-_, Bool, true, false, not, _&&_, _||_, List, [], _∷_, Option, some, none, Option·map, length, getD, leb, ltb, eqb, if_then_else_, given, find, byteAt}
 use Rattle.reading.specs.Reading.{Answer, fine, fault, _andThen_, under, Check, _unless_, failing, checked, Command, obey, standing, needed}
 use Rattle.reading.proofs.Commands.{known, needed-at, needed-past}
 use Rattle.reading.proofs.Within.{by-test}
@@ -79,6 +80,14 @@ module _ (n : Net) (env : List ℕ) where
   predecessor-of (fine k next) r h = rw h
   predecessor-of (fault k p) r h = tt
 
+-- a byte that is not 0 lies inside the file
+pub byte-inside : (s : List ℕ) (at b : ℕ) → byteAt s at ≡ b → 0 < b → at < length s
+byte-inside s at b e h = go (leb (length s) at) refl
+  where
+    go : (t : Bool) → leb (length s) at ≡ t → at < length s
+    go true i = absurd (let z = List·getD-eq-default s 0 (leb-true (length s) at i) in omega arith)
+    go false i = omega (arith, leb-false (length s) at i)
+
 module _ (s : List ℕ) (n : Net) (env : List ℕ) (left at : ℕ) where
   -- 0x30 and 0x31
   pub variable-valued : byteAt s at ≡ 0x30
@@ -90,19 +99,29 @@ module _ (s : List ℕ) (n : Net) (env : List ℕ) (left at : ℕ) where
   unfolding commands setOf colour
   constant-valued e = rw (colour-step s n left at) (needed-by (Valued n env _) (λ k p. tt) s at 0x31 _ e refl refl)
 
-  -- 0x32 and 0x33, with a level left
+  -- 0x32, and 0x33 where no other byte stands there, with a level left
   module _ (le : 1 ≤ left) (r : Value) (inner : Valued n env r (readColour s n (left - 1) (at + 1))) where
     pub successor-valued : byteAt s at ≡ 0x32 → Valued n env (record { colour = after (sizeOf n (r .set)) (r .colour); set = r .set; next = r .next }) (readColour s n left at)
     unfolding commands
     successor-valued e =
         rw (colour-step s n left at) (needed-by (Valued n env _) (λ k p. tt) s at 0x32 _ e refl (rw (deeper-is s n left (at + 1) le) (successor-of n env (readColour s n (left - 1) (at + 1)) r inner)))
 
-    pub predecessor-valued : byteAt s at ≡ 0x33 → Valued n env (record { colour = before (sizeOf n (r .set)) (r .colour); set = r .set; next = r .next }) (readColour s n left at)
+    pub predecessor-else : (byteAt s at ≡ 0x30 → ⊥) → (byteAt s at ≡ 0x31 → ⊥) → (byteAt s at ≡ 0x32 → ⊥)
+        → Valued n env (record { colour = before (sizeOf n (r .set)) (r .colour); set = r .set; next = r .next }) (readColour s n left at)
     unfolding commands
-    predecessor-valued e =
-        rw (colour-step s n left at) (needed-by (Valued n env _) (λ k p. tt) s at 0x33 _ e refl (rw (deeper-is s n left (at + 1) le) (predecessor-of n env (readColour s n (left - 1) (at + 1)) r inner)))
+    predecessor-else f g h =
+        rw (colour-step s n left at) (needed-each (Valued n env _) (λ k p. tt) s at _ (
+          λ e. absurd (f e),
+          (
+            λ e. absurd (g e),
+            (
+              λ e. absurd (h e),
+              (λ e. obey-by (Valued n env _) (λ k p. tt) s at _ (rw (deeper-is s n left (at + 1) le) (predecessor-of n env (readColour s n (left - 1) (at + 1)) r inner)), tt),
+            ),
+          ),
+        ))
 
-  -- nothing is promised past the end, where no level is left for what is inside, and at a stray byte
+  -- nothing is promised past the end, and where no level is left for what is inside
   pub colour-past : (r : Value) → length s ≤ at → Valued n env r (readColour s n left at)
   unfolding commands
   colour-past r le = rw (colour-step s n left at) (past-by (Valued n env r) (λ k p. tt) s at _ refl le)
@@ -113,10 +132,6 @@ module _ (s : List ℕ) (n : Net) (env : List ℕ) (left at : ℕ) where
       let z : left ≡ 0 = omega arith in
       rw (z, colour-step s n 0 at) (needed-each (Valued n env r) (λ k p. tt) s at _
       (λ e. absurd (f e), (λ e. absurd (g e), (λ e. obey-by (Valued n env r) (λ k p. tt) s at _ tt, (λ e. obey-by (Valued n env r) (λ k p. tt) s at _ tt, tt)))))
-
-  pub colour-stray : (r : Value) → (byteAt s at ≡ 0x30 → ⊥) → (byteAt s at ≡ 0x31 → ⊥) → (byteAt s at ≡ 0x32 → ⊥) → (byteAt s at ≡ 0x33 → ⊥) → Valued n env r (readColour s n left at)
-  colour-stray r f g h i =
-      rw (colour-step s n left at) (needed-each (Valued n env r) (λ k p. tt) s at _ (λ e. absurd (f e), (λ e. absurd (g e), (λ e. absurd (h e), (λ e. absurd (i e), tt)))))
 
 -- ---- guards
 module _ (n : Net) (env : List ℕ) where

@@ -5,15 +5,12 @@ mod table;
 
 pub use evaluate::Ranked;
 pub use evaluate::Tested;
-pub use evaluate::Value;
-pub use evaluate::Weighed;
-pub use evaluate::eval_colour;
 pub use evaluate::eval_guard;
 pub use evaluate::eval_guard_if;
-pub use evaluate::eval_weight;
-pub use evaluate::next_rank;
+pub use evaluate::eval_rank;
 pub use expression::read_expression;
 pub use table::after;
+use table::after_expression;
 pub use table::width;
 ghost use mathlib.Core.Path.{_≡_};
 ghost use mathlib.Core.List.{List, []};
@@ -58,6 +55,16 @@ fn whole_read(next: usize, set: u32, uses: u32) -> Read
     ensures { λ r. ⌜ r ≡ Read.Whole next set uses ⌝ }
 {
     Read::Whole { next, set, uses }
+}
+
+// A reading told again, field by field: its parts are stored apart, and a copy of the whole would wait for them.
+fn anew(r: Read) -> Read
+    ensures { λ q. ⌜ q ≡ r ⌝ }
+{
+    let Read::Whole { next, set, uses } = r else {
+        return r;
+    };
+    whole_read(next, set, uses)
 }
 
 // The variable that stands at a place, with so many levels left.
@@ -106,21 +113,23 @@ fn constant_colour(s: &[u8], sizes: &[u8], left: u8, at: usize) -> Read
     whole_read(next, set as u32, 0)
 }
 
-// The colour expression at a place, with so many levels left.
-pub fn read_colour(s: &[u8], sizes: &[u8], vars: &[u8], left: u8, at: usize) -> Read
-    requires { ⌜ length (now vars) ≤ 32 ⌝ }
-    ensures { λ r. ⌜ ((places : List Place) → r ≡ colourTold (net (now (sizes .entry)) (now (vars .entry)) places [] [])
-        (readColour (now (s .entry)) (net (now (sizes .entry)) (now (vars .entry)) places [] []) left at)) ⌝ }
+// The colour expression at a place, with so many levels left. The file and the tables are handed on by address.
+fn read_colour(s: &&[u8], sizes: &&[u8], vars: &&[u8], left: u8, at: usize) -> Read
+    requires { ⌜ length (now (now s)) < 2 ^ 63 ⌝ }
+    requires { ⌜ length (now (now vars)) ≤ 32 ⌝ }
+    ensures { λ r. ⌜ ((places : List Place) → r ≡ colourTold (net (now (now (sizes .entry))) (now (now (vars .entry))) places [] [])
+        (readColour (now (now (s .entry))) (net (now (now (sizes .entry))) (now (now (vars .entry))) places [] []) left at)) ⌝ }
 {
-    if s.len() <= at {
-        return fault(2, s.len());
+    let file = *s;
+    if file.len() <= at {
+        return fault(2, file.len());
     }
-    let b = s[at];
+    let b = file[at];
     if b == 0x30 {
-        return variable_colour(s, vars, left, at);
+        return variable_colour(file, *vars, left, at);
     }
     if b == 0x31 {
-        return constant_colour(s, sizes, left, at);
+        return constant_colour(file, *sizes, left, at);
     }
     if b < 0x32 {
         return fault(3, at);
@@ -131,16 +140,17 @@ pub fn read_colour(s: &[u8], sizes: &[u8], vars: &[u8], left: u8, at: usize) -> 
     if left < 1 {
         return fault(7, at);
     }
-    read_colour(s, sizes, vars, left - 1, after(s, at))
+    anew(read_colour(s, sizes, vars, left - 1, after_expression(file, at)))
 }
 
 // A comparison whose colours stand at next: both of one set, else the fault is at the command.
-fn compared(s: &[u8], sizes: &[u8], vars: &[u8], left: u8, at: usize, next: usize) -> Read
-    requires { ⌜ length (now vars) ≤ 32 ⌝ }
-    ensures is_equal { λ r. ⌜ ((places : List Place) → r ≡ guardTold (comparison (net (now (sizes .entry)) (now (vars .entry)) places [] [])
-        (readColour (now (s .entry)) (net (now (sizes .entry)) (now (vars .entry)) places [] []) left) equal at next)) ⌝ }
-    ensures is_less { λ r. ⌜ ((places : List Place) → r ≡ guardTold (comparison (net (now (sizes .entry)) (now (vars .entry)) places [] [])
-        (readColour (now (s .entry)) (net (now (sizes .entry)) (now (vars .entry)) places [] []) left) less at next)) ⌝ }
+fn compared(s: &&[u8], sizes: &&[u8], vars: &&[u8], left: u8, at: usize, next: usize) -> Read
+    requires { ⌜ length (now (now s)) < 2 ^ 63 ⌝ }
+    requires { ⌜ length (now (now vars)) ≤ 32 ⌝ }
+    ensures is_equal { λ r. ⌜ ((places : List Place) → r ≡ guardTold (comparison (net (now (now (sizes .entry))) (now (now (vars .entry))) places [] [])
+        (readColour (now (now (s .entry))) (net (now (now (sizes .entry))) (now (now (vars .entry))) places [] []) left) equal at next)) ⌝ }
+    ensures is_less { λ r. ⌜ ((places : List Place) → r ≡ guardTold (comparison (net (now (now (sizes .entry))) (now (now (vars .entry))) places [] [])
+        (readColour (now (now (s .entry))) (net (now (now (sizes .entry))) (now (now (vars .entry))) places [] []) left) less at next)) ⌝ }
 {
     let a = read_colour(s, sizes, vars, left, next);
     let Read::Whole {
@@ -167,14 +177,16 @@ fn compared(s: &[u8], sizes: &[u8], vars: &[u8], left: u8, at: usize, next: usiz
 }
 
 // The guard at a place, with so many levels left.
-pub fn read_guard(s: &[u8], sizes: &[u8], vars: &[u8], left: u8, at: usize) -> Read
-    requires { ⌜ length (now vars) ≤ 32 ⌝ }
-    ensures { λ r. ⌜ ((places : List Place) → r ≡ guardTold (readGuard (now (s .entry)) (net (now (sizes .entry)) (now (vars .entry)) places [] []) left at)) ⌝ }
+fn read_guard(s: &&[u8], sizes: &&[u8], vars: &&[u8], left: u8, at: usize) -> Read
+    requires { ⌜ length (now (now s)) < 2 ^ 63 ⌝ }
+    requires { ⌜ length (now (now vars)) ≤ 32 ⌝ }
+    ensures { λ r. ⌜ ((places : List Place) → r ≡ guardTold (readGuard (now (now (s .entry))) (net (now (now (sizes .entry))) (now (now (vars .entry))) places [] []) left at)) ⌝ }
 {
-    if s.len() <= at {
-        return fault(2, s.len());
+    let file = *s;
+    if file.len() <= at {
+        return fault(2, file.len());
     }
-    let b = s[at];
+    let b = file[at];
     if b < 0x20 {
         return fault(3, at);
     }
@@ -184,15 +196,15 @@ pub fn read_guard(s: &[u8], sizes: &[u8], vars: &[u8], left: u8, at: usize) -> R
     if left < 1 {
         return fault(7, at);
     }
-    let next = after(s, at);
+    let next = after_expression(file, at);
     if b == 0x20 {
         return whole_read(next, 0, 0);
     }
     if b == 0x21 {
-        return read_guard(s, sizes, vars, left - 1, next);
+        return anew(read_guard(s, sizes, vars, left - 1, next));
     }
     if 0x23 < b {
-        return compared(s, sizes, vars, left - 1, at, next);
+        return anew(compared(s, sizes, vars, left - 1, at, next));
     }
     let a = read_guard(s, sizes, vars, left - 1, next);
     let Read::Whole { next, uses, .. } = a else {
@@ -214,7 +226,8 @@ pub fn read_guard_if(s: &[u8], sizes: &[u8], vars: &[u8], at: usize) -> Read
         return whole_read(at, 0, 0);
     }
     if s[at] == 0x15 {
-        return read_guard(s, sizes, vars, 16, after(s, at));
+        let next = after(s, at);
+        return read_guard(&s, &sizes, &vars, 16, next);
     }
     whole_read(at, 0, 0)
 }

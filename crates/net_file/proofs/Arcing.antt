@@ -24,7 +24,7 @@ use Rattle.net.proofs.Shut.{commands}
 use Rattle.net.proofs.Answers.{bits-or}
 use Rattle.net_file.proofs.Placing.{length-places}
 use Rattle.net_file.proofs.Tokening.{find-new, find-same}
-use Rattle.net_file.proofs.Inside.{expression-ends}
+use Rattle.net.proofs.Inside.{expression-ends}
 
 -- the place of a number, by its sets
 pub place-at : (f g : List ℕ) (p : ℕ) → p < length f → length g ≡ length f → getD (placesOf f g) p (single 0) ≡ placeOf (getD f p 0) (getD g p 0)

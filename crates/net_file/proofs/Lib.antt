@@ -1,7 +1,6 @@
 pub mod Places
 pub mod Totals
 pub mod Limits
-pub mod Inside
 pub mod Trees
 pub mod Formed
 pub mod Ranges

@@ -1,8 +1,8 @@
 -- An accepted net keeps to its limits. Assumes nothing.
-use mathlib.Core.Path.{_≡_}
+use mathlib.Core.Path.{_≡_, refl}
 use Prim.Native.Nat.{_≤_, _<_}
 use native.Mathlib.Omega.{arith}
-use borrow.Author.Tests.{leb-true, ltb-true}
+use borrow.Author.Tests.{leb-true, ltb-true, ltb-false}
 use lib.ListN.{length-append}
 use Rattle.reading.specs.Basics.{ℕ, _+_, _-_, Bool, true, false, _&&_, List, [], _∷_, some, map, length, ltb, leb, eqb, if_then_else_, with, every, sum, byteAt}
 use Rattle.reading.specs.Reading.{fine, fault, accepted, refused, outcome, _unless_, checked, whole, file}
@@ -115,6 +115,15 @@ content-keeps s start {n} {last} e =
     (repeat-keeps (placePart s (net sets variables [] [] [])) (PlacesKeep (net sets variables [] [] [])) (place-keeps s (net sets variables [] [] [])) (length s - at₂) at₂ (omega arith, end, omega arith) h)
     (repeat-keeps (transitionPart s (net sets variables places [] [])) (TransitionsKeep (net sets variables places [] [])) (transition-keeps s (net sets variables places [] [])) (length s - at₃) at₃
     (omega arith, end, omega arith) i))
+
+-- a file that is accepted has 16,384 bytes at most
+pub short : (s : List ℕ) (n : Net) → readNet s ≡ accepted n → length s ≤ 16384
+unfolding readNet
+short s n e = go (ltb 16384 (length s)) refl e
+  where
+    go : (t : Bool) → ltb 16384 (length s) ≡ t → (if t then refused 1 16384 else outcome (file 0x01 (content s) 0x1F s)) ≡ accepted n → length s ≤ 16384
+    go true i q = let z : _≡_ {A = ℕ} 0 1 = cc in absurd (omega arith)
+    go false i q = ltb-false 16384 (length s) i
 
 -- an accepted net
 pub limits : (s : List ℕ) (n : Net) → readNet s ≡ accepted n → Limits n

@@ -21,7 +21,7 @@ use Rattle.net.specs.declared.Read.{Read}
 use Rattle.net.specs.declared.Read.the-variants as read
 use Rattle.net.proofs.Shut.{commands}
 use Rattle.net.proofs.Answers.{bits-or}
-use Rattle.net_file.proofs.Inside.{guard-ends}
+use Rattle.net.proofs.Inside.{guard-ends}
 use Rattle.net_file.proofs.Arcing.{Heard, heard, heard-fault, slot-is}
 
 -- a byte that is not 0 stands in the file

@@ -1,7 +1,13 @@
 -- What the trees, arcs and tokens of an accepted net keep to.
 use mathlib.Core.Path.{_≡_}
-use Rattle.reading.specs.Basics.{ℕ, _+_, _*_, Bool, true, false, not, _&&_, List, [], _∷_, length, ltb, leb, eqb, any, every}
+use Prim.Native.Nat.{_<_}
+use Rattle.reading.specs.Basics.{ℕ, _+_, _*_, Bool, true, false, not, _&&_, List, [], _∷_, length, getD, ltb, leb, eqb, any, every}
 use Rattle.net.specs.Net.{Colour, variable, constant, successor, predecessor, Guard, always, opposite, both, either, equal, less, Expression, one, two, all, plus, minus, times, Place, Arc, Transition, Tokens, Net, sizeOf, setsOf, coloursOf, placeAt, setOf, ceiling}
+
+-- ---- values of variables
+-- each variable has a colour of its set
+abbrev pub Fitting : Net → (ℕ → ℕ) → Type 0
+Fitting n env = (v : ℕ) → v < length (n .variables) → env v < sizeOf n (getD (n .variables) v 0)
 
 -- ---- trees
 -- a colour's variables and constants are there
