@@ -6,8 +6,10 @@ use native.Mathlib.Omega.{arith}
 use lib.Seq.{take-take}
 use Rattle.reading.specs.Basics.{ℕ, _+_, _*_, Bool, true, false, not, _||_, List, [], _∷_, Option, none, some, length, take, getD, getElem?, if_then_else_, given, any, find}
 use Rattle.reading.proofs.Lists.{In, here, there, in-cases}
-use Rattle.firing.specs.Firing.{fired, fire}
-use Rattle.firing.specs.Arcs.{Arc, arcsOf, row, rowIn, rowOf, weights, Proper}
+use Rattle.firing.specs.Firing.{Weights, fired, fire}
+use Rattle.firing.specs.Steps.{lacking}
+use Rattle.firing.specs.Arcs.{Arc, arcsIn, arcsOf, row, rowIn, rowOf, weights, Proper}
+use Rattle.firing.proofs.Rule.{fires-3}
 use Rattle.firing.proofs.Agree.{fire-same}
 use Rattle.firing.proofs.Weighted.{row-agrees, row-proper}
 use Rattle.net.specs.Net as net
@@ -15,11 +17,12 @@ use Rattle.net.specs.Net.{Transition, Net, net, flatPlaceCount, arcOn, variable
 use Rattle.net.specs.Values.{holds, weight}
 use Rattle.net.specs.Evaluated.{bound}
 use Rattle.net.proofs.Alike.{holds-alike, holds-bound, weight-bound}
+use Rattle.multiset.specs.Terms.{Appended}
+use Rattle.multiset.proofs.Appending.{arcs-kept}
 use Rattle.coloured.specs.Effect.{Binding, FlatPlace, transitionAt, standsFor, flatPlaces, arcWeight, weightsOf, effect}
-use Rattle.coloured.specs.Drawing.{kindArcs, Appended, Drawing, Binds, RowLoaded}
+use Rattle.coloured.specs.Drawing.{room, kindArcs, Drawing, Binds, TakesLoaded, RowLoaded}
 use Rattle.coloured.specs.Loading.{KindLoaded, GuardTold, binding}
 use Rattle.coloured.proofs.Split.{split, start-low, kind-few}
-use Rattle.coloured.proofs.Appending.{arcs-kept}
 
 -- ---- what stands somewhere
 or-left : (a b : Bool) → a ≡ true → a || b ≡ true
@@ -63,76 +66,102 @@ module _ (n : Net) (t : Transition) (env other : ℕ → ℕ) (same : (v : ℕ) 
   kind-row : (kind : ℕ) → kindArcs n t env kind (length (n .places)) ≡ arcsOf (flatPlaceCount n) (λ p. given (getElem? (flatPlaces n) p) 0 (arcWeight n t other kind))
   kind-row kind = sym (split n t env kind) ∙ ap (λ w. arcsOf (flatPlaceCount n) (λ p. given (getElem? (flatPlaces n) p) 0 w)) (fun-ext (arc-as kind))
 
--- ---- the code's two results
-not-true : (b : Bool) → not b ≡ true → b ≡ false
+-- ---- the code's results
+pub not-true : (b : Bool) → not b ≡ true → b ≡ false
 not-true true e = sym e
 not-true false e = refl
 
-not-false : (b : Bool) → not b ≡ false → b ≡ true
+pub not-false : (b : Bool) → not b ≡ false → b ≡ true
 not-false true e = refl
 not-false false e = sym e
 
+-- the weights of an effect are its transition's
+weights-are : (n : Net) (b : Binding) {w : Weights} → effect n b ≡ some w → weightsOf n (transitionAt n (b .transition)) (standsFor (variablesOf n (transitionAt n (b .transition))) (b .colours)) ≡ w
+unfolding effect
+weights-are n b {w} e = go (holds n (standsFor (variablesOf n (transitionAt n (b .transition))) (b .colours)) (transitionAt n (b .transition) .guard)) e
+  where
+    go : (q : Bool) → (if q then some (weightsOf n (transitionAt n (b .transition)) (standsFor (variablesOf n (transitionAt n (b .transition))) (b .colours))) else none) ≡ some w
+        → weightsOf n (transitionAt n (b .transition)) (standsFor (variablesOf n (transitionAt n (b .transition))) (b .colours)) ≡ w
+    go true i = cc
+    go false i = let z : _≡_ {A = ℕ} 0 1 = cc in absurd (omega arith)
+
 module _ {s : List ℕ} {n : Net} {sizes vars seconds starts guards arcs : List ℕ} (env : List ℕ) (d : Drawing s n sizes vars seconds starts guards arcs)
-    (t : ℕ) (ht : t < length (n .transitions)) (colours : List ℕ) (binds : Binds n (binding t colours) env)
-    {at : ℕ} (r : Bool) (slot : at ≡ getD guards t 0) (told : GuardTold s sizes vars env at r) where
-  -- what the code says of the guard
-  guard-is : r ≡ holds n (standsFor (variablesOf n (transitionAt n t)) colours) (transitionAt n t .guard)
-  guard-is =
-      told (n .places) (transitionAt n t .guard) (rw slot (d .guard t ht))
-      ∙ holds-alike (net sizes vars (n .places) [] []) n (sym (d .sets)) (sym (d .variables)) (bound env) (transitionAt n t .guard)
-      ∙ guard-as n (transitionAt n t) (bound env) (standsFor (variablesOf n (transitionAt n t)) colours) binds
+    (t : ℕ) (ht : t < length (n .transitions)) (colours : List ℕ) (binds : Binds n (binding t colours) env) where
+  -- the binding's colours
+  abbrev other : ℕ → ℕ
+  other = standsFor (variablesOf n (transitionAt n t)) colours
 
-  -- the guard is false
-  pub effect-nothing : not r ≡ true → effect n (binding t colours) ≡ none
-  unfolding effect
-  effect-nothing e = rw (sym guard-is ∙ not-true r e)
+  -- the arcs of one kind
+  few : (kind : ℕ) {count : ℕ} → count ≡ length (n .places) → length (kindArcs n (transitionAt n t) (bound env) kind count) ≤ flatPlaceCount n
+  few kind {count} c = omega (arith, kind-few n (transitionAt n t) (bound env) kind count (omega arith), start-low n count)
 
-  -- it is true, and the takes, puts and hinders were appended one after the other
-  pub effect-row : {places amounts p1 a1 p2 a2 p3 a3 : List ℕ} {count takes puts hinders : ℕ} → not r ≡ false → count ≡ length (n .places) → 12288 ≤ length places → 12288 ≤ length amounts
-      → KindLoaded s sizes vars env seconds starts arcs (t * 96) count places amounts 0 p1 a1 takes
+  rows-of : (kind : ℕ) {count : ℕ} → count ≡ length (n .places)
+      → kindArcs n (transitionAt n t) (bound env) kind count ≡ arcsOf (flatPlaceCount n) (λ p. given (getElem? (flatPlaces n) p) 0 (arcWeight n (transitionAt n t) other kind))
+  rows-of kind c = ap (kindArcs n (transitionAt n t) (bound env) kind) c ∙ kind-row n (transitionAt n t) (bound env) other binds kind
+
+  module _ {at : ℕ} (r : Bool) (slot : at ≡ getD guards t 0) (told : GuardTold s sizes vars env at r) where
+    -- what the code says of the guard
+    guard-is : r ≡ holds n other (transitionAt n t .guard)
+    guard-is =
+        told (n .places) (transitionAt n t .guard) (rw slot (d .guard t ht))
+        ∙ holds-alike (net sizes vars (n .places) [] []) n (sym (d .sets)) (sym (d .variables)) (bound env) (transitionAt n t .guard)
+        ∙ guard-as n (transitionAt n t) (bound env) other binds
+
+    -- the guard is false
+    pub effect-nothing : not r ≡ true → effect n (binding t colours) ≡ none
+    unfolding effect
+    effect-nothing e = rw (sym guard-is ∙ not-true r e)
+
+    -- it is true, and the takes were appended
+    pub effect-takes : {places amounts p1 a1 : List ℕ} {count end : ℕ} → not r ≡ false → count ≡ length (n .places) → room s n ≤ length places → room s n ≤ length amounts
+        → KindLoaded s sizes vars env seconds starts arcs (t * 96) count places amounts 0 p1 a1 end → TakesLoaded n (binding t colours) p1 a1 end
+    unfolding effect
+    effect-takes e c x y k1 =
+        let first = k1 n guards t 0 d ht (omega arith) (omega arith) (omega arith) (omega arith) (omega arith) in
+        record {
+          weighs = weightsOf n (transitionAt n t) other;
+          is = rw (sym guard-is ∙ not-false r e);
+          takes = first .are ∙ rows-of 0x16 c;
+          few = omega (arith, few 0x16 c, first .end);
+        }
+
+  -- the puts and hinders were appended to the takes, one after the other
+  pub effect-rest : {p1 a1 p2 a2 p3 a3 : List ℕ} {count takes puts hinders : ℕ} → count ≡ length (n .places) → room s n ≤ length p1 → room s n ≤ length a1
+      → TakesLoaded n (binding t colours) p1 a1 takes
       → KindLoaded s sizes vars env seconds starts arcs (t * 96 + 32) count p1 a1 takes p2 a2 puts
       → KindLoaded s sizes vars env seconds starts arcs (t * 96 + 64) count p2 a2 puts p3 a3 hinders
       → RowLoaded n (binding t colours) p3 a3 takes puts hinders
-  unfolding effect
-  effect-row {places} {amounts} {p1} {a1} {p2} {a2} {p3} {a3} {count} {takes} {puts} {hinders} e c x y k1 k2 k3 =
+  effect-rest {p1} {a1} {p2} {a2} {p3} {a3} {count} {takes} {puts} {hinders} c x y k k2 k3 =
       record {
-        weighs = weightsOf n (transitionAt n t) other;
-        is = rw (sym guard-is ∙ not-false r e);
-        row = rows (arcs-kept p2 a2 p3 a3 0 takes (shorter p2 p3 (third .front)) (shorter a2 a3 (third .fronts)) ∙ arcs-kept p1 a1 p2 a2 0 takes (second .front) (second .fronts) ∙ first .are ∙ rows-of 0x16)
-            (arcs-kept p2 a2 p3 a3 takes puts (third .front) (third .fronts) ∙ second .are ∙ rows-of 0x17) (third .are ∙ rows-of 0x18);
+        weighs = k .weighs;
+        is = k .is;
+        row = rows (arcs-kept p2 a2 p3 a3 0 takes (shorter p2 p3 (third .front)) (shorter a2 a3 (third .fronts)) ∙ arcs-kept p1 a1 p2 a2 0 takes (second .front) (second .fronts) ∙ k .takes)
+            (arcs-kept p2 a2 p3 a3 takes puts (third .front) (third .fronts) ∙ second .are ∙ rows-of 0x17 c ∙ ap (λ w. arcsOf (flatPlaceCount n) (w .put)) same)
+            (third .are ∙ rows-of 0x18 c ∙ ap (λ w. arcsOf (flatPlaceCount n) (w .hinder)) same);
         puts-after = omega (arith, second .end);
         hinders-after = omega (arith, third .end);
-        fits = omega (arith, few 0x16, few 0x17, few 0x18, first .end, second .end, third .end);
+        fits = omega (arith, d .few, k .few, few 0x17 c, few 0x18 c, second .end, third .end);
       }
     where
-      other : ℕ → ℕ
-      other = standsFor (variablesOf n (transitionAt n t)) colours
-
-      few : (kind : ℕ) → length (kindArcs n (transitionAt n t) (bound env) kind count) ≤ 4096
-      few kind = omega (arith, kind-few n (transitionAt n t) (bound env) kind count (omega arith), start-low n count, d .few)
-
-      first : Appended (kindArcs n (transitionAt n t) (bound env) 0x16 count) places amounts 0 p1 a1 takes
-      first = k1 n guards t 0 d ht (omega arith) (omega arith) (omega arith) (omega (arith, d .few)) (omega (arith, d .few))
+      same : weightsOf n (transitionAt n t) other ≡ k .weighs
+      same = weights-are n (binding t colours) (k .is)
 
       second : Appended (kindArcs n (transitionAt n t) (bound env) 0x17 count) p1 a1 takes p2 a2 puts
-      second = k2 n guards t 1 d ht (omega arith) (omega arith) (omega arith) (omega (arith, d .few, few 0x16, first .end, first .size)) (omega (arith, d .few, few 0x16, first .end, first .sizes))
+      second = k2 n guards t 1 d ht (omega arith) (omega arith) (omega arith) (omega (arith, k .few)) (omega (arith, k .few))
 
       third : Appended (kindArcs n (transitionAt n t) (bound env) 0x18 count) p2 a2 puts p3 a3 hinders
       third = k3 n guards t 2 d ht (omega arith) (omega arith) (omega arith)
-          (omega (arith, d .few, few 0x16, few 0x17, first .end, first .size, second .end, second .size)) (omega (arith, d .few, few 0x16, few 0x17, first .end, first .sizes, second .end, second .sizes))
+          (omega (arith, k .few, few 0x17 c, second .end, second .size)) (omega (arith, k .few, few 0x17 c, second .end, second .sizes))
 
       shorter : (l l' : List ℕ) → take puts l' ≡ take puts l → take takes l' ≡ take takes l
       shorter l l' q = let u : takes ≤ puts = omega (arith, second .end) in sym (take-take takes puts l' u) ∙ ap (take takes) q ∙ take-take takes puts l u
-
-      rows-of : (kind : ℕ) → kindArcs n (transitionAt n t) (bound env) kind count ≡ arcsOf (flatPlaceCount n) (λ p. given (getElem? (flatPlaces n) p) 0 (arcWeight n (transitionAt n t) other kind))
-      rows-of kind = ap (kindArcs n (transitionAt n t) (bound env) kind) c ∙ kind-row n (transitionAt n t) (bound env) other binds kind
 
       rows : {a b c a' b' c' : List Arc} → a ≡ a' → b ≡ b' → c ≡ c' → row a b c ≡ row a' b' c'
       rows f g h = cc
 
 -- ---- for callers: firing the row that was loaded is firing the effect
 module _ {n : Net} {b : Binding} {places amounts : List ℕ} {takes puts hinders : ℕ} (l : RowLoaded n b places amounts takes puts hinders) (m : List ℕ) (sized : length m ≡ flatPlaceCount n) where
-  -- what answer and fire_row ask of a row
+  -- what firing asks of a row
   pub loaded-proper : Proper (length m) (rowIn places amounts takes puts hinders)
   loaded-proper = rw (l .row, sized) (row-proper (flatPlaceCount n) (l .weighs))
 
@@ -146,3 +175,19 @@ module _ {n : Net} {b : Binding} {places amounts : List ℕ} {takes puts hinders
 
   pub loaded-fired : (r : ℕ) (m' : List ℕ) → (Proper (length m) (rowIn places amounts takes puts hinders) → fired r m' ≡ fire (weights (rowIn places amounts takes puts hinders)) m) → fired r m' ≡ fire (l .weighs) m
   loaded-fired r m' h = h loaded-proper ∙ loaded-fires
+
+-- the takes alone
+module _ {n : Net} {b : Binding} {places amounts : List ℕ} {end : ℕ} (k : TakesLoaded n b places amounts end) (m : List ℕ) where
+  -- one is lacking
+  pub takes-lack : length m ≡ flatPlaceCount n → any (lacking m) (arcsIn places amounts 0 end) ≡ true → fired 3 m ≡ fire (k .weighs) m
+  takes-lack sized e =
+      fires-3 m (rowOf (flatPlaceCount n) (k .weighs)) (rw sized (row-proper (flatPlaceCount n) (k .weighs))) (ap (any (lacking m)) (sym (k .takes)) ∙ e)
+      ∙ fire-same (weights (rowOf (flatPlaceCount n) (k .weighs))) (k .weighs) m (rw sized (row-agrees (flatPlaceCount n) (k .weighs)))
+
+  -- none is, nor in the whole row
+  pub none-lacks : {p' a' : List ℕ} {takes puts hinders : ℕ} → RowLoaded n b p' a' takes puts hinders → any (lacking m) (arcsIn places amounts 0 end) ≡ false
+      → any (lacking m) (arcsIn p' a' 0 takes) ≡ false
+  none-lacks l e =
+      let both : some (l .weighs) ≡ some (k .weighs) = sym (l .is) ∙ k .is in
+      let same : l .weighs ≡ k .weighs = cc in
+      ap (any (lacking m)) (ap (λ r. r .takes) (l .row) ∙ ap (λ w. arcsOf (flatPlaceCount n) (w .take)) same ∙ sym (k .takes)) ∙ e

@@ -7,9 +7,8 @@ pub mod Ordering
 pub mod FlatPlaces
 pub mod Values
 pub mod Split
-pub mod Appending
+pub mod Packing
 pub mod Loads
-pub mod Counted
 pub mod Drawn
 pub mod Effects
 pub mod Used
@@ -20,3 +19,6 @@ pub mod Gathering
 pub mod Calling
 pub mod Tabled
 pub mod Accepted
+pub mod Lengths
+pub mod SteadyRead
+pub mod SteadyRows

@@ -4,51 +4,16 @@ use mathlib.Core.List.{append-assoc, append-nil}
 use Prim.Native.Nat.{_≤_, _<_}
 use native.Mathlib.Omega.{arith}
 use native.Mathlib.Numerals.{add-one}
-use borrow.Author.Tests.{lt-ltb, le-ltb}
 use lib.ListN.{length-append, length-map}
-use Rattle.reading.specs.Basics.{ℕ, zero, suc, _+_, _-_, Bool, true, false, List, [], _∷_, _++_, map, flatMap, none, length, getD, getElem?, take, ltb, if_then_else_, given, keep, numbersFrom, below, sum}
+use Rattle.reading.specs.Basics.{ℕ, zero, suc, _+_, Bool, true, false, List, [], _∷_, _++_, map, flatMap, none, length, getD, getElem?, take, ltb, if_then_else_, given, keep, numbersFrom, below, sum}
 use Rattle.reading.proofs.Lists.{map-same, map-from, length-from}
 use Rattle.firing.specs.Arcs.{Arc, arcsOf}
 use Rattle.net.specs.Net.{Transition, Net, single, coloursOf, placeAt, flatPlaceCount, arcOn}
+use Rattle.multiset.specs.Loaded.{ranksFrom, rankArcs}
+use Rattle.multiset.proofs.Ranks.{ranks-none, ranks-few}
 use Rattle.coloured.specs.Effect.{FlatPlace, flatPlaces, arcWeight}
-use Rattle.coloured.specs.Drawing.{ranksFrom, rankArcs, startOf, placeArcs, kindArcs}
+use Rattle.coloured.specs.Drawing.{startOf, placeArcs, kindArcs}
 use Rattle.coloured.proofs.FlatPlaces.{flat-places}
-
--- ---- ranks in turn
-module _ (start : ℕ) (w : ℕ → ℕ) where
-  -- a rank with a weight, and one without
-  pub ranks-more : (from n : ℕ) → 0 < w from → ranksFrom start w from (suc n) ≡ record { place = start + from; weight = w from } ∷ ranksFrom start w (from + 1) n
-  unfolding keep numbersFrom
-  ranks-more from n h = rw (lt-ltb 0 (w from) h)
-
-  pub ranks-skip : (from n : ℕ) → w from ≡ 0 → ranksFrom start w from (suc n) ≡ ranksFrom start w (from + 1) n
-  unfolding keep numbersFrom
-  ranks-skip from n e = rw (le-ltb 0 (w from) (omega arith))
-
-  -- ranks without a weight are passed
-  pub ranks-pass : (from n k : ℕ) → ((r : ℕ) → from ≤ r → r < from + k → w r ≡ 0) → ranksFrom start w from (k + n) ≡ ranksFrom start w (from + k) n
-  ranks-pass from n zero h = let e : zero + n ≡ n = omega arith in let f : from + 0 ≡ from = omega arith in rw (e, f)
-  ranks-pass from n (suc k) h =
-      let e : suc k + n ≡ suc (k + n) = omega arith in
-      let f : from + suc k ≡ from + 1 + k = omega arith in
-      rw (e, f) (ranks-skip from (k + n) (h from (omega arith) (omega arith)) ∙ ranks-pass (from + 1) n k (λ r a b. h r (omega arith) (omega arith)))
-
-  -- no weight at any rank: no arcs
-  pub ranks-none : (from n : ℕ) → ((r : ℕ) → w r ≡ 0) → ranksFrom start w from n ≡ []
-  unfolding keep numbersFrom
-  ranks-none from zero h = refl
-  ranks-none from (suc n) h = ranks-skip from n (h from) ∙ ranks-none (from + 1) n h
-
-  -- at most an arc a rank
-  pub ranks-few : (from n : ℕ) → length (ranksFrom start w from n) ≤ n
-  unfolding keep numbersFrom
-  ranks-few from zero = omega arith
-  ranks-few from (suc n) = go (ltb 0 (w from)) (ranks-few (from + 1) n)
-    where
-      go : (t : Bool) → length (ranksFrom start w (from + 1) n) ≤ n
-          → length (if t then record { place = start + from; weight = w from } ∷ ranksFrom start w (from + 1) n else ranksFrom start w (from + 1) n) ≤ suc n
-      go true h = omega arith
-      go false h = omega arith
 
 -- ---- flat places in turn
 module _ (w : FlatPlace → ℕ) where
@@ -124,8 +89,20 @@ start-low n p = go (n .places) p
     go (a ∷ l) (suc p) = let h = go l p in omega arith
 
 -- ---- all places of a kind
+-- pieces of two joined lists, and of a list made piece by piece
+module _ {B C : Type 0} (f : B → List C) where
+  pub flat-append : (l m : List B) → flatMap f (l ++ m) ≡ flatMap f l ++ flatMap f m
+  unfolding flatMap
+  flat-append [] m = refl
+  flat-append (b ∷ l) m = ap (λ k. f b ++ k) (flat-append l m) ∙ sym (append-assoc (f b) (flatMap f l) (flatMap f m))
+
+  pub flat-flat : {A : Type 0} (g : A → List B) (l : List A) → flatMap f (flatMap g l) ≡ flatMap (λ a. flatMap f (g a)) l
+  unfolding flatMap
+  flat-flat g [] = refl
+  flat-flat g (a ∷ l) = flat-append (g a) (flatMap g l) ∙ ap (λ k. flatMap f (g a) ++ k) (flat-flat g l)
+
 -- one more number at the end
-flat-more : (f : ℕ → List Arc) (a p : ℕ) → flatMap f (numbersFrom a (suc p)) ≡ flatMap f (numbersFrom a p) ++ f (a + p)
+pub flat-more : {A : Type 0} (f : ℕ → List A) (a p : ℕ) → flatMap f (numbersFrom a (suc p)) ≡ flatMap f (numbersFrom a p) ++ f (a + p)
 unfolding flatMap numbersFrom
 flat-more f a zero = let e : a + 0 ≡ a = omega arith in rw (e, append-nil)
 flat-more f a (suc p) = let e : a + suc p ≡ a + 1 + p = omega arith in rw (flat-more f (a + 1) p, e, append-assoc)

@@ -7,6 +7,7 @@ use Rattle.reading.specs.Basics.{ℕ, zero, suc, Bool, true, false, not, List, 
 use Rattle.net.specs.Net.{single, pair, Net, net, coloursOf, placeAt}
 use Rattle.net.specs.Evaluated.{isPair}
 use Rattle.net_file.specs.Tables.{placesOf, Started, TransitionsHold}
+use Rattle.coloured.specs.Packed.{Packed}
 use Rattle.coloured.specs.Drawing.{Drawing}
 
 -- a place is a pair where its second set is not 255
@@ -21,12 +22,13 @@ pair-told (a ∷ firsts) (b ∷ seconds) zero h = go (eqb b 255)
     go false = refl
 pair-told (a ∷ firsts) (b ∷ seconds) (suc p) h = pair-told firsts seconds p (omega arith)
 
-pub drawing : {s : List ℕ} {n : Net} {sizes vars seconds starts guards arcs : List ℕ} {count total : ℕ} (firsts uses : List ℕ)
+pub drawing : {s : List ℕ} {n : Net} {sizes vars seconds starts guards packed : List ℕ} {count total : ℕ} (firsts uses arcs : List ℕ)
     → n .sets ≡ sizes → n .variables ≡ vars → n .places ≡ placesOf (take count firsts) (take count seconds)
     → Started (net sizes [] [] [] []) (n .places) starts count total
     → TransitionsHold s (net sizes vars (n .places) [] []) (n .transitions) uses guards arcs
-    → Drawing s n sizes vars seconds starts guards arcs
-drawing {n = n} {seconds = seconds} {starts = starts} {count = count} firsts uses e f places begun held =
+    → Packed arcs packed (length (n .places)) (length (n .transitions))
+    → Drawing s n sizes vars seconds starts guards packed
+drawing {n = n} {seconds = seconds} {starts = starts} {count = count} firsts uses arcs e f places begun held packs =
     record {
       sets = e;
       variables = f;
@@ -34,7 +36,9 @@ drawing {n = n} {seconds = seconds} {starts = starts} {count = count} firsts use
       begin = λ p h. subst (λ l. getD starts p 0 ≡ sum (map (coloursOf (net l [] [] [] [])) (take p (n .places)))) (sym e) (begun .begin p (omega (arith, begun .are)));
       paired = pairs;
       guard = λ t h. held t h .guarded;
+      slots = arcs;
       arc = λ t k p h i j. held t h .arced k p i j;
+      packed = packs;
     }
   where
     pairs : (p : ℕ) → p < length (n .places) → isPair (placeAt n p) ≡ not (eqb (getD seconds p 0) 255)

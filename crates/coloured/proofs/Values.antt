@@ -9,9 +9,9 @@ use Rattle.firing.specs.Firing.{Weights}
 use Rattle.net.specs.Net.{always, Transition, Net, sizeOf, arcOn, variablesOf}
 use Rattle.net.specs.Values.{holds, weight}
 use Rattle.net_file.specs.Limits.{Limits}
-use Rattle.net_file.specs.Formed.{Words}
+use Rattle.net_file.specs.Formed.{Fitting, Words}
 use Rattle.net_file.proofs.Formed.{found-in}
-use Rattle.net_file.proofs.Ranges.{Fitting, weight-word}
+use Rattle.net_file.proofs.Ranges.{weight-word}
 use Rattle.coloured.specs.Effect.{Binding, transitionAt, bindings, standsFor, FlatPlace, flatPlaces, arcWeight, weightsOf, effect}
 use Rattle.coloured.proofs.Bindings.{Fit, more, binding-fits}
 

@@ -1,22 +1,21 @@
 -- What the tables of a net say of the net in a file, and the arcs of a binding's effect, place by place.
 use mathlib.Core.Path.{_≡_}
 use Prim.Native.Nat.{_≤_, _<_}
-use Rattle.reading.specs.Basics.{ℕ, _+_, _-_, _*_, Bool, true, not, _||_, List, [], map, flatMap, Option, none, some, Option·map, length, getD, take, ltb, eqb, keep, numbersFrom, below, any, sum}
-use Rattle.firing.specs.Arcs.{Arc, arcsIn, rowIn, rowOf}
+use Rattle.reading.specs.Basics.{ℕ, _+_, _*_, _/_, true, not, List, [], map, flatMap, some, Option·map, length, getD, take, eqb, below, sum}
+use Rattle.firing.specs.Arcs.{Arc, arcsIn, arcsOf, rowIn, rowOf}
 use Rattle.firing.specs.Firing.{Weights}
-use Rattle.net.specs.Net.{Transition, Net, net, coloursOf, placeAt, flatPlaceCount, arcOn, inGuard, inExpression, variablesOf, inTransition}
+use Rattle.net.specs.Net.{Transition, Net, net, coloursOf, placeAt, flatPlaceCount, arcOn, variablesOf, inTransition}
 use Rattle.net.specs.Reader.{readExpression}
 use Rattle.net.specs.Evaluated.{isPair}
 use Rattle.net_file.specs.Tables.{Slot, GuardHolds}
+use Rattle.multiset.specs.Loaded.{rankArcs}
 use Rattle.coloured.specs.Effect.{Binding, transitionAt, standsFor, arcWeight, effect}
+use Rattle.coloured.specs.Packed.{Packed}
 
 -- ---- arcs
--- the arcs that weights give so many ranks of a place from one rank on; its flat places begin at start
-abbrev pub ranksFrom : ℕ → (ℕ → ℕ) → ℕ → ℕ → List Arc
-ranksFrom start w from n = keep (λ a. ltb 0 (a .weight)) (map (λ r. record { place = start + r; weight = w r }) (numbersFrom from n))
-
-abbrev pub rankArcs : ℕ → ℕ → (ℕ → ℕ) → List Arc
-rankArcs start count w = ranksFrom start w 0 count
+-- the slots that the two lent lists need: a row's takes, puts and hinders, and behind them the terms of one expression
+abbrev pub room : List ℕ → Net → ℕ
+room s n = 3 * flatPlaceCount n + length s / 2
 
 -- where the flat places of a place begin
 abbrev pub startOf : Net → ℕ → ℕ
@@ -29,17 +28,9 @@ placeArcs n t env kind p = rankArcs (startOf n p) (coloursOf n (placeAt n p)) (�
 abbrev pub kindArcs : Net → Transition → (ℕ → ℕ) → ℕ → ℕ → List Arc
 kindArcs n t env kind places = flatMap (placeArcs n t env kind) (below places)
 
--- two lent lists to which arcs were appended after so many, up to r
-pub record Appended (arcs : List Arc) (places amounts : List ℕ) (used : ℕ) (places' amounts' : List ℕ) (r : ℕ) : Type 0 where
-  pub front : take used places' ≡ take used places
-  pub fronts : take used amounts' ≡ take used amounts
-  pub are : arcsIn places' amounts' used r ≡ arcs
-  pub end : r ≡ used + length arcs
-  pub size : length places' ≡ length places
-  pub sizes : length amounts' ≡ length amounts
-
 -- ---- the tables
--- sets and variables; where each place's flat places begin; which places are pairs; where guards and arc expressions stand
+-- sets and variables; where each place's flat places begin; which places are pairs; where guards and arc expressions stand,
+-- a slot for each arc, of which the packed table has those that are not 0
 pub record Drawing (s : List ℕ) (n : Net) (sizes vars seconds starts guards arcs : List ℕ) : Type 0 where
   pub sets : n .sets ≡ sizes
   pub variables : n .variables ≡ vars
@@ -47,15 +38,24 @@ pub record Drawing (s : List ℕ) (n : Net) (sizes vars seconds starts guards ar
   pub begin : (p : ℕ) → p ≤ length (n .places) → getD starts p 0 ≡ startOf n p
   pub paired : (p : ℕ) → p < length (n .places) → isPair (placeAt n p) ≡ not (eqb (getD seconds p 0) 255)
   pub guard : (t : ℕ) → t < length (n .transitions) → GuardHolds s (net sizes vars (n .places) [] []) (transitionAt n t .guard) (getD guards t 0)
+  pub slots : List ℕ
   pub arc : (t k p : ℕ) → t < length (n .transitions) → k < 3 → p < length (n .places)
       → Slot (readExpression s (net sizes vars (n .places) [] []) (placeAt n p) 16) (Option·map (λ a. a .expression) (arcOn (transitionAt n t .arcs) (0x16 + k) p))
-      (getD arcs (t * 96 + (k * 32 + p)) 0)
+      (getD slots (t * 96 + (k * 32 + p)) 0)
+  pub packed : Packed slots arcs (length (n .places)) (length (n .transitions))
 
 -- ---- bindings
 -- a list of colours, one a variable, gives the variables that stand in the binding's transition its colours
 abbrev pub Binds : Net → Binding → List ℕ → Type 0
 Binds n b env =
     (v : ℕ) → inTransition v (transitionAt n (b .transition)) ≡ true → getD env v 0 ≡ standsFor (variablesOf n (transitionAt n (b .transition))) (b .colours) v
+
+-- the takes of a binding's effect lie in two lent lists, up to an end
+pub record TakesLoaded (n : Net) (b : Binding) (places amounts : List ℕ) (end : ℕ) : Type 0 where
+  pub weighs : Weights
+  pub is : effect n b ≡ some weighs
+  pub takes : arcsIn places amounts 0 end ≡ arcsOf (flatPlaceCount n) (weighs .take)
+  pub few : end ≤ flatPlaceCount n
 
 -- the row of a binding's effect lies in two lent lists, of which it takes 12,288 slots at most
 pub record RowLoaded (n : Net) (b : Binding) (places amounts : List ℕ) (takes puts hinders : ℕ) : Type 0 where

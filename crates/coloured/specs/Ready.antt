@@ -10,9 +10,10 @@ use Rattle.net.specs.Told.{bits}
 use Rattle.coloured.specs.Effect.{Binding, transitionAt, bindings, effect}
 use Rattle.coloured.specs.Orders.{orderOf, fireOrder}
 use Rattle.coloured.specs.Numbers.{digits}
-use Rattle.coloured.specs.Drawing.{Drawing}
-use Rattle.coloured.specs.Loading.{binding, EffectTold}
+use Rattle.coloured.specs.Drawing.{room, Drawing, Binds}
+use Rattle.coloured.specs.Loading.{binding, EffectTold, TakesTold}
 use Rattle.coloured.specs.declared.effect.Loaded.{Loaded}
+use Rattle.coloured.specs.declared.effect.Takes.{Takes}
 use Rattle.coloured.specs.declared.order.Order.{Order}
 use Rattle.coloured.specs.declared.engine.Searched.{Searched}
 use Rattle.coloured.specs.declared.engine.Searched.the-variants as searched
@@ -29,11 +30,17 @@ pub record Ready (s : List ℕ) (n : Net) (sizes vars seconds starts uses guards
 abbrev pub numbered : Net → ℕ → ℕ → Binding
 numbered n t i = binding t (digits (sizesOf n (transitionAt n t)) i)
 
+-- its colours were set, and its takes loaded into the lent lists
+abbrev pub BindsTakes : List ℕ → List ℕ → List ℕ → List ℕ → List ℕ → List ℕ → List ℕ → List ℕ → ℕ → ℕ → ℕ → List ℕ → List ℕ → List ℕ → List ℕ → List ℕ → Takes → Type 0
+BindsTakes s sizes vars seconds starts uses guards arcs count t i places amounts env' places' amounts' r =
+    (n : Net) (transitions : ℕ) → Ready s n sizes vars seconds starts uses guards arcs count transitions → t < transitions
+    → room s n ≤ length places → room s n ≤ length amounts → Binds n (numbered n t i) env' × TakesTold n (numbered n t i) places' amounts' r
+
 -- its effect was loaded into the lent lists
 abbrev pub BindingLoaded : List ℕ → List ℕ → List ℕ → List ℕ → List ℕ → List ℕ → List ℕ → List ℕ → ℕ → ℕ → ℕ → List ℕ → List ℕ → List ℕ → List ℕ → Loaded → Type 0
 BindingLoaded s sizes vars seconds starts uses guards arcs count t i places amounts places' amounts' r =
     (n : Net) (transitions : ℕ) → Ready s n sizes vars seconds starts uses guards arcs count transitions → t < transitions
-    → 12288 ≤ length places → 12288 ≤ length amounts → EffectTold n (numbered n t i) places' amounts' r
+    → room s n ≤ length places → room s n ≤ length amounts → EffectTold n (numbered n t i) places' amounts' r
 
 -- a binding fired on the drawing: 2 where it has no effect
 abbrev pub fireBinding : Net → Binding → List ℕ → Fired

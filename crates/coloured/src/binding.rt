@@ -49,15 +49,15 @@ fn set_one(uses: u32, sizes: &[u8], vars: &[u8], v: usize, left: usize, env: &mu
         → (r ≡ left / sizeIn (now (sizes .entry)) (now (vars .entry)) v)
         × (now (env .exit) ≡ set (now (env .entry)) v (left % sizeIn (now (sizes .entry)) (now (vars .entry)) v))) ⌝ }
 {
+    if !has(uses, v) {
+        return left;
+    }
     let size = size_of(sizes, vars, v);
     if size < 1 {
         return left;
     }
-    if has(uses, v) {
-        store(env, v, (left % size) as u8);
-        return left / size;
-    }
-    left
+    store(env, v, (left % size) as u8);
+    left / size
 }
 
 // Gives each variable in the set its colour in binding number `index`; env has a slot for each variable number.

@@ -3,10 +3,12 @@ use crate::binding::Numbered;
 use crate::binding::binding_number;
 use crate::binding::set_binding;
 use crate::effect::Loaded;
-use crate::effect::load_effect;
-use firing::Ends;
-use firing::answer;
-use firing::fire_row;
+use crate::effect::Takes;
+use crate::effect::load_rest;
+use crate::effect::load_takes;
+use firing::answer_rest;
+use firing::fire_rest;
+use firing::some_lacks;
 use net_file::bindings_of;
 use reading::byte_at;
 ghost use mathlib.Core.Path.{_≡_};
@@ -20,7 +22,8 @@ ghost use Rattle.firing.specs.Loops.{Ran, stoppedAt};
 ghost use Rattle.net.specs.Net.{Net, flatPlaceCount, sizesOf};
 ghost use Rattle.coloured.specs.Effect.{transitionAt, bindings};
 ghost use Rattle.coloured.specs.Orders.{fireOrder, orderOf};
-ghost use Rattle.coloured.specs.Ready.{Ready, numbered, BindingLoaded, fireBinding, searchTold, SearchWithin};
+ghost use Rattle.coloured.specs.Drawing.{room};
+ghost use Rattle.coloured.specs.Ready.{Ready, numbered, BindsTakes, BindingLoaded, fireBinding, searchTold, SearchWithin};
 
 // A transition's variables, or none past the end.
 pub fn uses_at(uses: &[u32], t: usize) -> u32
@@ -29,8 +32,8 @@ pub fn uses_at(uses: &[u32], t: usize) -> u32
     if t < uses.len() { uses[t] } else { 0 }
 }
 
-// The effect of binding number `index` of a transition, as a row in the lent lists.
-pub fn load_binding(
+// Binding number `index` of a transition: its colours, and its takes in the lent lists.
+fn bind_takes(
     s: &[u8],
     sizes: &[u8],
     vars: &[u8],
@@ -38,24 +41,24 @@ pub fn load_binding(
     starts: &[usize],
     uses: &[u32],
     guards: &[u16],
-    arcs: &[u16],
+    arcs: &[u32],
     count: usize,
     t: usize,
     index: usize,
+    env: &mut [u8],
     places: &mut [u16],
     amounts: &mut [u16],
-) -> Loaded
-    requires { ⌜ (count ≤ 32) × (t < 32) ⌝ }
-    ensures { λ r. ⌜ BindingLoaded (now (s .entry)) (now (sizes .entry)) (now (vars .entry)) (now (seconds .entry)) (now (starts .entry)) (now (uses .entry)) (now (guards .entry)) (now (arcs .entry))
-        count t index (now (places .entry)) (now (amounts .entry)) (now (places .exit)) (now (amounts .exit)) r ⌝ }
+) -> Takes
+    requires { ⌜ (count ≤ 32) × (t < 32) × (length (now env) ≡ 32) ⌝ }
+    ensures { λ r. ⌜ BindsTakes (now (s .entry)) (now (sizes .entry)) (now (vars .entry)) (now (seconds .entry)) (now (starts .entry)) (now (uses .entry)) (now (guards .entry)) (now (arcs .entry))
+        count t index (now (places .entry)) (now (amounts .entry)) (now (env .exit)) (now (places .exit)) (now (amounts .exit)) r ⌝ }
 {
-    let mut env = [0u8; 32];
-    set_binding(uses_at(uses, t), sizes, vars, index, &mut env);
-    load_effect(
+    set_binding(uses_at(uses, t), sizes, vars, index, env);
+    load_takes(
         s,
         sizes,
         vars,
-        &env,
+        env,
         seconds,
         starts,
         guards,
@@ -67,8 +70,8 @@ pub fn load_binding(
     )
 }
 
-// Fires binding number `index` of a transition.
-fn fire_binding(
+// The effect of binding number `index` of a transition, as a row in the lent lists.
+pub fn load_binding(
     s: &[u8],
     sizes: &[u8],
     vars: &[u8],
@@ -76,20 +79,19 @@ fn fire_binding(
     starts: &[usize],
     uses: &[u32],
     guards: &[u16],
-    arcs: &[u16],
+    arcs: &[u32],
     count: usize,
     t: usize,
     index: usize,
-    m: &mut [u16],
     places: &mut [u16],
     amounts: &mut [u16],
-) -> u8
+) -> Loaded
     requires { ⌜ (count ≤ 32) × (t < 32) ⌝ }
-    ensures { λ r. ⌜ ((n : Net) (transitions : ℕ) → Ready (now (s .entry)) n (now (sizes .entry)) (now (vars .entry)) (now (seconds .entry)) (now (starts .entry)) (now (uses .entry)) (now (guards .entry)) (now (arcs .entry)) count transitions
-        → t < transitions → 12288 ≤ length (now (places .entry)) → 12288 ≤ length (now (amounts .entry)) → length (now (m .entry)) ≡ flatPlaceCount n
-        → fired r (now (m .exit)) ≡ fireBinding n (numbered n t index) (now (m .entry))) ⌝ }
+    ensures { λ r. ⌜ BindingLoaded (now (s .entry)) (now (sizes .entry)) (now (vars .entry)) (now (seconds .entry)) (now (starts .entry)) (now (uses .entry)) (now (guards .entry)) (now (arcs .entry))
+        count t index (now (places .entry)) (now (amounts .entry)) (now (places .exit)) (now (amounts .exit)) r ⌝ }
 {
-    match load_binding(
+    let mut env = [0u8; 32];
+    match bind_takes(
         s,
         sizes,
         vars,
@@ -101,24 +103,95 @@ fn fire_binding(
         count,
         t,
         index,
+        &mut env,
         places,
         amounts,
     ) {
-        Loaded::Nothing => 2,
-        Loaded::Row {
-            takes,
-            puts,
-            hinders,
-        } => fire_row(
-            places,
-            amounts,
-            Ends {
-                takes,
-                puts,
-                hinders,
-            },
-            m,
-        ),
+        Takes::Nothing => Loaded::Nothing,
+        Takes::Upto { end } => {
+            let ends = load_rest(
+                s,
+                sizes,
+                vars,
+                &env,
+                seconds,
+                starts,
+                arcs,
+                count,
+                t,
+                end,
+                places,
+                amounts,
+            );
+            Loaded::Row {
+                takes: ends.takes,
+                puts: ends.puts,
+                hinders: ends.hinders,
+            }
+        }
+    }
+}
+
+// Fires binding number `index` of a transition. Its takes tell the answer 3 before its puts and hinders are loaded.
+fn fire_binding(
+    s: &[u8],
+    sizes: &[u8],
+    vars: &[u8],
+    seconds: &[u8],
+    starts: &[usize],
+    uses: &[u32],
+    guards: &[u16],
+    arcs: &[u32],
+    count: usize,
+    t: usize,
+    index: usize,
+    m: &mut [u16],
+    places: &mut [u16],
+    amounts: &mut [u16],
+) -> u8
+    requires { ⌜ (count ≤ 32) × (t < 32) ⌝ }
+    ensures { λ r. ⌜ ((n : Net) (transitions : ℕ) → Ready (now (s .entry)) n (now (sizes .entry)) (now (vars .entry)) (now (seconds .entry)) (now (starts .entry)) (now (uses .entry)) (now (guards .entry)) (now (arcs .entry)) count transitions
+        → t < transitions → room (now (s .entry)) n ≤ length (now (places .entry)) → room (now (s .entry)) n ≤ length (now (amounts .entry)) → length (now (m .entry)) ≡ flatPlaceCount n
+        → fired r (now (m .exit)) ≡ fireBinding n (numbered n t index) (now (m .entry))) ⌝ }
+{
+    let mut env = [0u8; 32];
+    match bind_takes(
+        s,
+        sizes,
+        vars,
+        seconds,
+        starts,
+        uses,
+        guards,
+        arcs,
+        count,
+        t,
+        index,
+        &mut env,
+        places,
+        amounts,
+    ) {
+        Takes::Nothing => 2,
+        Takes::Upto { end } => {
+            if some_lacks(places, amounts, end, m) {
+                return 3;
+            }
+            let ends = load_rest(
+                s,
+                sizes,
+                vars,
+                &env,
+                seconds,
+                starts,
+                arcs,
+                count,
+                t,
+                end,
+                places,
+                amounts,
+            );
+            fire_rest(places, amounts, ends, m)
+        }
     }
 }
 
@@ -131,7 +204,7 @@ fn turn(
     starts: &[usize],
     uses: &[u32],
     guards: &[u16],
-    arcs: &[u16],
+    arcs: &[u32],
     count: usize,
     transitions: usize,
     m: &mut [u16],
@@ -143,7 +216,7 @@ fn turn(
     requires { ⌜ (count ≤ 32) × (transitions ≤ 32) ⌝ }
     requires { ⌜ i * 6 + 6 ≤ length (now orders) ⌝ }
     ensures { λ r. ⌜ ((n : Net) → Ready (now (s .entry)) n (now (sizes .entry)) (now (vars .entry)) (now (seconds .entry)) (now (starts .entry)) (now (uses .entry)) (now (guards .entry)) (now (arcs .entry)) count transitions
-        → 12288 ≤ length (now (places .entry)) → 12288 ≤ length (now (amounts .entry)) → length (now (m .entry)) ≡ flatPlaceCount n
+        → room (now (s .entry)) n ≤ length (now (places .entry)) → room (now (s .entry)) n ≤ length (now (amounts .entry)) → length (now (m .entry)) ≡ flatPlaceCount n
         → fired r (now (m .exit)) ≡ fireOrder n (take 6 (drop (i * 6) (now (orders .entry)))) (now (m .entry))) ⌝ }
 {
     let at = i * 6;
@@ -184,7 +257,7 @@ pub fn fire_list(
     starts: &[usize],
     uses: &[u32],
     guards: &[u16],
-    arcs: &[u16],
+    arcs: &[u32],
     count: usize,
     transitions: usize,
     m: &mut [u16],
@@ -196,7 +269,7 @@ pub fn fire_list(
     requires { ⌜ (count ≤ 32) × (transitions ≤ 32) ⌝ }
     requires { ⌜ length (now orders) / 6 ≤ length (now answers) ⌝ }
     ensures { λ _. ⌜ ((n : Net) → Ready (now (s .entry)) n (now (sizes .entry)) (now (vars .entry)) (now (seconds .entry)) (now (starts .entry)) (now (uses .entry)) (now (guards .entry)) (now (arcs .entry)) count transitions
-        → 12288 ≤ length (now (places .entry)) → 12288 ≤ length (now (amounts .entry)) → length (now (m .entry)) ≡ flatPlaceCount n
+        → room (now (s .entry)) n ≤ length (now (places .entry)) → room (now (s .entry)) n ≤ length (now (amounts .entry)) → length (now (m .entry)) ≡ flatPlaceCount n
         → Ran (fireOrder n) (items 6 (now (orders .entry))) (now (m .entry)) (now (answers .entry)) (now (m .exit)) (now (answers .exit))) ⌝ }
 {
     let many = orders.len() / 6;
@@ -233,7 +306,7 @@ fn fires_binding(
     starts: &[usize],
     uses: &[u32],
     guards: &[u16],
-    arcs: &[u16],
+    arcs: &[u32],
     count: usize,
     t: usize,
     index: usize,
@@ -243,10 +316,11 @@ fn fires_binding(
 ) -> bool
     requires { ⌜ (count ≤ 32) × (t < 32) ⌝ }
     ensures { λ r. ⌜ ((n : Net) (transitions : ℕ) → Ready (now (s .entry)) n (now (sizes .entry)) (now (vars .entry)) (now (seconds .entry)) (now (starts .entry)) (now (uses .entry)) (now (guards .entry)) (now (arcs .entry)) count transitions
-        → t < transitions → 12288 ≤ length (now (places .entry)) → 12288 ≤ length (now (amounts .entry)) → length (now (m .entry)) ≡ flatPlaceCount n
+        → t < transitions → room (now (s .entry)) n ≤ length (now (places .entry)) → room (now (s .entry)) n ≤ length (now (amounts .entry)) → length (now (m .entry)) ≡ flatPlaceCount n
         → r ≡ eqb (fireBinding n (numbered n t index) (now (m .entry)) .answer) 0) ⌝ }
 {
-    match load_binding(
+    let mut env = [0u8; 32];
+    match bind_takes(
         s,
         sizes,
         vars,
@@ -258,26 +332,30 @@ fn fires_binding(
         count,
         t,
         index,
+        &mut env,
         places,
         amounts,
     ) {
-        Loaded::Nothing => false,
-        Loaded::Row {
-            takes,
-            puts,
-            hinders,
-        } => {
-            answer(
+        Takes::Nothing => false,
+        Takes::Upto { end } => {
+            if some_lacks(places, amounts, end, m) {
+                return false;
+            }
+            let ends = load_rest(
+                s,
+                sizes,
+                vars,
+                &env,
+                seconds,
+                starts,
+                arcs,
+                count,
+                t,
+                end,
                 places,
                 amounts,
-                Ends {
-                    takes,
-                    puts,
-                    hinders,
-                },
-                m,
-            )
-                == 0
+            );
+            answer_rest(places, amounts, ends, m) == 0
         }
     }
 }
@@ -291,7 +369,7 @@ fn search_bindings(
     starts: &[usize],
     uses: &[u32],
     guards: &[u16],
-    arcs: &[u16],
+    arcs: &[u32],
     count: usize,
     t: usize,
     many: usize,
@@ -301,7 +379,7 @@ fn search_bindings(
 ) -> usize
     requires { ⌜ (count ≤ 32) × (t < 32) ⌝ }
     ensures { λ r. ⌜ ((n : Net) (transitions : ℕ) → Ready (now (s .entry)) n (now (sizes .entry)) (now (vars .entry)) (now (seconds .entry)) (now (starts .entry)) (now (uses .entry)) (now (guards .entry)) (now (arcs .entry)) count transitions
-        → t < transitions → 12288 ≤ length (now (places .entry)) → 12288 ≤ length (now (amounts .entry)) → length (now (m .entry)) ≡ flatPlaceCount n
+        → t < transitions → room (now (s .entry)) n ≤ length (now (places .entry)) → room (now (s .entry)) n ≤ length (now (amounts .entry)) → length (now (m .entry)) ≡ flatPlaceCount n
         → first (λ i. eqb (fireBinding n (numbered n t i) (now (m .entry)) .answer) 0) (below many) ≡ stoppedAt many r) ⌝ }
 {
     let mut i: usize = 0;
@@ -350,7 +428,7 @@ pub fn search_all(
     starts: &[usize],
     uses: &[u32],
     guards: &[u16],
-    arcs: &[u16],
+    arcs: &[u32],
     count: usize,
     transitions: usize,
     m: &[u16],
@@ -359,7 +437,7 @@ pub fn search_all(
 ) -> Searched
     requires { ⌜ (count ≤ 32) × (transitions ≤ 32) ⌝ }
     ensures { λ r. ⌜ ((n : Net) → Ready (now (s .entry)) n (now (sizes .entry)) (now (vars .entry)) (now (seconds .entry)) (now (starts .entry)) (now (uses .entry)) (now (guards .entry)) (now (arcs .entry)) count transitions
-        → 12288 ≤ length (now (places .entry)) → 12288 ≤ length (now (amounts .entry)) → length (now (m .entry)) ≡ flatPlaceCount n
+        → room (now (s .entry)) n ≤ length (now (places .entry)) → room (now (s .entry)) n ≤ length (now (amounts .entry)) → length (now (m .entry)) ≡ flatPlaceCount n
         → (first (λ order. eqb (fireOrder n order (now (m .entry)) .answer) 0) (map orderOf (bindings n)) ≡ searchTold n r) × SearchWithin n r) ⌝ }
 {
     let mut tried: usize = 0;

@@ -3,6 +3,8 @@ mod binding;
 mod effect;
 mod engine;
 mod order;
+mod pack;
+mod steady;
 
 pub use binding::Numbered;
 pub use binding::binding_number;
@@ -17,10 +19,15 @@ use net_file::NetRead;
 use net_file::read_net;
 pub use order::Order;
 pub use order::order_at;
+pub use pack::pack_arcs;
+pub use steady::Steady;
+pub use steady::steady_row;
 ghost use mathlib.Core.Path.{_≡_};
-ghost use Prim.Native.Nat.{_≤_};
+ghost use Prim.Native.Nat.{_≤_, _+_, _*_, _/_};
 ghost use lib.ListN.{length, take};
+ghost use lib.Dec.{leb};
 ghost use Rattle.net.specs.Net.{Net, flatPlaceCount};
+ghost use Rattle.coloured.specs.Drawing.{room};
 ghost use Rattle.coloured.specs.Orders.{fireOrders, firstOrder};
 ghost use Rattle.coloured.specs.Ready.{Ready};
 ghost use Rattle.coloured.specs.Replies.{fireCalled, firstReply};
@@ -31,8 +38,18 @@ pub enum FireReply {
     Refused { number: u8, place: usize },
 }
 
-// Fires a list of orders on a net that has been read.
-fn fire_on(
+// Whether a row's lists of 1,024 slots have the room for a net of so many flat places, with a file of so many bytes.
+pub fn is_small(total: usize, len: usize) -> bool
+    ensures { λ r. ⌜ r ≡ leb (3 * total + len / 2) 1024 ⌝ }
+{
+    if 341 < total {
+        return false;
+    }
+    3 * total + len / 2 <= 1024
+}
+
+// Fires a list of orders on a net that has been read, with lists lent for a row's arcs.
+fn fire_with(
     s: &[u8],
     sizes: &[u8],
     vars: &[u8],
@@ -40,7 +57,7 @@ fn fire_on(
     starts: &[usize],
     uses: &[u32],
     guards: &[u16],
-    arcs: &[u16],
+    arcs: &[u32],
     sets: usize,
     variables: usize,
     count: usize,
@@ -49,10 +66,12 @@ fn fire_on(
     marking: &mut [u16],
     orders: &[u8],
     answers: &mut [u8],
+    places: &mut [u16],
+    amounts: &mut [u16],
 ) -> FireReply
     requires { ⌜ (sets ≤ length (now sizes)) × (variables ≤ length (now vars)) × (count ≤ 32) × (transitions ≤ 32) ⌝ }
     ensures { λ r. ⌜ ((n : Net) → Ready (now (s .entry)) n (take sets (now (sizes .entry))) (take variables (now (vars .entry))) (now (seconds .entry)) (now (starts .entry)) (now (uses .entry)) (now (guards .entry)) (now (arcs .entry)) count transitions
-        → flatPlaceCount n ≡ total
+        → flatPlaceCount n ≡ total → room (now (s .entry)) n ≤ length (now (places .entry)) → room (now (s .entry)) n ≤ length (now (amounts .entry))
         → fireCalled r (now (marking .exit)) (now (answers .exit)) ≡ fireOrders (now (s .entry)) (now (marking .entry)) (now (orders .entry)) (now (answers .entry))) ⌝ }
 {
     if marking.len() != total {
@@ -73,8 +92,6 @@ fn fire_on(
             place: 0,
         };
     }
-    let mut places = [0u16; 12288];
-    let mut amounts = [0u16; 12288];
     fire_list(
         s,
         &sizes[..sets],
@@ -89,12 +106,172 @@ fn fire_on(
         marking,
         orders,
         answers,
-        &mut places,
-        &mut amounts,
+        places,
+        amounts,
     );
     FireReply::Answered {
         count: orders.len() / 6,
     }
+}
+
+// With small lists, which a small net with a short file has room in.
+fn fire_small(
+    s: &[u8],
+    sizes: &[u8],
+    vars: &[u8],
+    seconds: &[u8],
+    starts: &[usize],
+    uses: &[u32],
+    guards: &[u16],
+    arcs: &[u32],
+    sets: usize,
+    variables: usize,
+    count: usize,
+    transitions: usize,
+    total: usize,
+    marking: &mut [u16],
+    orders: &[u8],
+    answers: &mut [u8],
+) -> FireReply
+    requires { ⌜ (sets ≤ length (now sizes)) × (variables ≤ length (now vars)) × (count ≤ 32) × (transitions ≤ 32) ⌝ }
+    ensures { λ r. ⌜ ((n : Net) → Ready (now (s .entry)) n (take sets (now (sizes .entry))) (take variables (now (vars .entry))) (now (seconds .entry)) (now (starts .entry)) (now (uses .entry)) (now (guards .entry)) (now (arcs .entry)) count transitions
+        → flatPlaceCount n ≡ total → room (now (s .entry)) n ≤ 1024
+        → fireCalled r (now (marking .exit)) (now (answers .exit)) ≡ fireOrders (now (s .entry)) (now (marking .entry)) (now (orders .entry)) (now (answers .entry))) ⌝ }
+{
+    let mut places = [0u16; 1024];
+    let mut amounts = [0u16; 1024];
+    fire_with(
+        s,
+        sizes,
+        vars,
+        seconds,
+        starts,
+        uses,
+        guards,
+        arcs,
+        sets,
+        variables,
+        count,
+        transitions,
+        total,
+        marking,
+        orders,
+        answers,
+        &mut places,
+        &mut amounts,
+    )
+}
+
+// With lists that have room for every net.
+fn fire_large(
+    s: &[u8],
+    sizes: &[u8],
+    vars: &[u8],
+    seconds: &[u8],
+    starts: &[usize],
+    uses: &[u32],
+    guards: &[u16],
+    arcs: &[u32],
+    sets: usize,
+    variables: usize,
+    count: usize,
+    transitions: usize,
+    total: usize,
+    marking: &mut [u16],
+    orders: &[u8],
+    answers: &mut [u8],
+) -> FireReply
+    requires { ⌜ (sets ≤ length (now sizes)) × (variables ≤ length (now vars)) × (count ≤ 32) × (transitions ≤ 32) ⌝ }
+    ensures { λ r. ⌜ ((n : Net) → Ready (now (s .entry)) n (take sets (now (sizes .entry))) (take variables (now (vars .entry))) (now (seconds .entry)) (now (starts .entry)) (now (uses .entry)) (now (guards .entry)) (now (arcs .entry)) count transitions
+        → flatPlaceCount n ≡ total
+        → fireCalled r (now (marking .exit)) (now (answers .exit)) ≡ fireOrders (now (s .entry)) (now (marking .entry)) (now (orders .entry)) (now (answers .entry))) ⌝ }
+{
+    let mut places = [0u16; 20480];
+    let mut amounts = [0u16; 20480];
+    fire_with(
+        s,
+        sizes,
+        vars,
+        seconds,
+        starts,
+        uses,
+        guards,
+        arcs,
+        sets,
+        variables,
+        count,
+        transitions,
+        total,
+        marking,
+        orders,
+        answers,
+        &mut places,
+        &mut amounts,
+    )
+}
+
+// Fires a list of orders on a net that has been read.
+fn fire_on(
+    s: &[u8],
+    sizes: &[u8],
+    vars: &[u8],
+    seconds: &[u8],
+    starts: &[usize],
+    uses: &[u32],
+    guards: &[u16],
+    arcs: &[u32],
+    sets: usize,
+    variables: usize,
+    count: usize,
+    transitions: usize,
+    total: usize,
+    marking: &mut [u16],
+    orders: &[u8],
+    answers: &mut [u8],
+) -> FireReply
+    requires { ⌜ (sets ≤ length (now sizes)) × (variables ≤ length (now vars)) × (count ≤ 32) × (transitions ≤ 32) ⌝ }
+    ensures { λ r. ⌜ ((n : Net) → Ready (now (s .entry)) n (take sets (now (sizes .entry))) (take variables (now (vars .entry))) (now (seconds .entry)) (now (starts .entry)) (now (uses .entry)) (now (guards .entry)) (now (arcs .entry)) count transitions
+        → flatPlaceCount n ≡ total
+        → fireCalled r (now (marking .exit)) (now (answers .exit)) ≡ fireOrders (now (s .entry)) (now (marking .entry)) (now (orders .entry)) (now (answers .entry))) ⌝ }
+{
+    if is_small(total, s.len()) {
+        return fire_small(
+            s,
+            sizes,
+            vars,
+            seconds,
+            starts,
+            uses,
+            guards,
+            arcs,
+            sets,
+            variables,
+            count,
+            transitions,
+            total,
+            marking,
+            orders,
+            answers,
+        );
+    }
+    fire_large(
+        s,
+        sizes,
+        vars,
+        seconds,
+        starts,
+        uses,
+        guards,
+        arcs,
+        sets,
+        variables,
+        count,
+        transitions,
+        total,
+        marking,
+        orders,
+        answers,
+    )
 }
 
 // Fires a list of orders, 6 bytes each, on a net file and a marking, an answer each. A refusal changes neither list.
@@ -133,24 +310,28 @@ pub fn fire_orders(net: &[u8], marking: &mut [u16], orders: &[u8], answers: &mut
             total,
             transitions,
             space: _,
-        } => fire_on(
-            net,
-            &sizes,
-            &vars,
-            &seconds,
-            &starts,
-            &uses,
-            &guards,
-            &arcs,
-            sets,
-            variables,
-            places,
-            transitions,
-            total,
-            marking,
-            orders,
-            answers,
-        ),
+        } => {
+            let mut packed = [0u32; 3072];
+            pack_arcs(&arcs, places, transitions, &mut packed);
+            fire_on(
+                net,
+                &sizes,
+                &vars,
+                &seconds,
+                &starts,
+                &uses,
+                &guards,
+                &packed,
+                sets,
+                variables,
+                places,
+                transitions,
+                total,
+                marking,
+                orders,
+                answers,
+            )
+        }
     }
 }
 
@@ -161,8 +342,8 @@ pub enum FirstReply {
     Refused { number: u8, place: usize },
 }
 
-// The first order that would fire on a net that has been read.
-fn first_on(
+// The first order that would fire on a net that has been read, with lists lent for a row's arcs.
+fn first_with(
     s: &[u8],
     sizes: &[u8],
     vars: &[u8],
@@ -170,17 +351,20 @@ fn first_on(
     starts: &[usize],
     uses: &[u32],
     guards: &[u16],
-    arcs: &[u16],
+    arcs: &[u32],
     sets: usize,
     variables: usize,
     count: usize,
     transitions: usize,
     total: usize,
     marking: &[u16],
+    places: &mut [u16],
+    amounts: &mut [u16],
 ) -> FirstReply
     requires { ⌜ (sets ≤ length (now sizes)) × (variables ≤ length (now vars)) × (count ≤ 32) × (transitions ≤ 32) ⌝ }
     ensures { λ r. ⌜ ((n : Net) → Ready (now (s .entry)) n (take sets (now (sizes .entry))) (take variables (now (vars .entry))) (now (seconds .entry)) (now (starts .entry)) (now (uses .entry)) (now (guards .entry)) (now (arcs .entry)) count transitions
-        → flatPlaceCount n ≡ total → firstReply r ≡ firstOrder (now (s .entry)) (now (marking .entry))) ⌝ }
+        → flatPlaceCount n ≡ total → room (now (s .entry)) n ≤ length (now (places .entry)) → room (now (s .entry)) n ≤ length (now (amounts .entry))
+        → firstReply r ≡ firstOrder (now (s .entry)) (now (marking .entry))) ⌝ }
 {
     if marking.len() != total {
         return FirstReply::Refused {
@@ -188,8 +372,6 @@ fn first_on(
             place: 0,
         };
     }
-    let mut places = [0u16; 12288];
-    let mut amounts = [0u16; 12288];
     let used = &sizes[..sets];
     let variable_sets = &vars[..variables];
     match search_all(
@@ -204,8 +386,8 @@ fn first_on(
         count,
         transitions,
         marking,
-        &mut places,
-        &mut amounts,
+        places,
+        amounts,
     ) {
         Searched::Nothing { tried } => FirstReply::Nothing { tried },
         Searched::At { t, index, tried } => FirstReply::Found {
@@ -219,6 +401,152 @@ fn first_on(
             tried,
         },
     }
+}
+
+// With small lists, which a small net with a short file has room in.
+fn first_small(
+    s: &[u8],
+    sizes: &[u8],
+    vars: &[u8],
+    seconds: &[u8],
+    starts: &[usize],
+    uses: &[u32],
+    guards: &[u16],
+    arcs: &[u32],
+    sets: usize,
+    variables: usize,
+    count: usize,
+    transitions: usize,
+    total: usize,
+    marking: &[u16],
+) -> FirstReply
+    requires { ⌜ (sets ≤ length (now sizes)) × (variables ≤ length (now vars)) × (count ≤ 32) × (transitions ≤ 32) ⌝ }
+    ensures { λ r. ⌜ ((n : Net) → Ready (now (s .entry)) n (take sets (now (sizes .entry))) (take variables (now (vars .entry))) (now (seconds .entry)) (now (starts .entry)) (now (uses .entry)) (now (guards .entry)) (now (arcs .entry)) count transitions
+        → flatPlaceCount n ≡ total → room (now (s .entry)) n ≤ 1024
+        → firstReply r ≡ firstOrder (now (s .entry)) (now (marking .entry))) ⌝ }
+{
+    let mut places = [0u16; 1024];
+    let mut amounts = [0u16; 1024];
+    first_with(
+        s,
+        sizes,
+        vars,
+        seconds,
+        starts,
+        uses,
+        guards,
+        arcs,
+        sets,
+        variables,
+        count,
+        transitions,
+        total,
+        marking,
+        &mut places,
+        &mut amounts,
+    )
+}
+
+// With lists that have room for every net.
+fn first_large(
+    s: &[u8],
+    sizes: &[u8],
+    vars: &[u8],
+    seconds: &[u8],
+    starts: &[usize],
+    uses: &[u32],
+    guards: &[u16],
+    arcs: &[u32],
+    sets: usize,
+    variables: usize,
+    count: usize,
+    transitions: usize,
+    total: usize,
+    marking: &[u16],
+) -> FirstReply
+    requires { ⌜ (sets ≤ length (now sizes)) × (variables ≤ length (now vars)) × (count ≤ 32) × (transitions ≤ 32) ⌝ }
+    ensures { λ r. ⌜ ((n : Net) → Ready (now (s .entry)) n (take sets (now (sizes .entry))) (take variables (now (vars .entry))) (now (seconds .entry)) (now (starts .entry)) (now (uses .entry)) (now (guards .entry)) (now (arcs .entry)) count transitions
+        → flatPlaceCount n ≡ total
+        → firstReply r ≡ firstOrder (now (s .entry)) (now (marking .entry))) ⌝ }
+{
+    let mut places = [0u16; 20480];
+    let mut amounts = [0u16; 20480];
+    first_with(
+        s,
+        sizes,
+        vars,
+        seconds,
+        starts,
+        uses,
+        guards,
+        arcs,
+        sets,
+        variables,
+        count,
+        transitions,
+        total,
+        marking,
+        &mut places,
+        &mut amounts,
+    )
+}
+
+// The first order that would fire on a net that has been read.
+fn first_on(
+    s: &[u8],
+    sizes: &[u8],
+    vars: &[u8],
+    seconds: &[u8],
+    starts: &[usize],
+    uses: &[u32],
+    guards: &[u16],
+    arcs: &[u32],
+    sets: usize,
+    variables: usize,
+    count: usize,
+    transitions: usize,
+    total: usize,
+    marking: &[u16],
+) -> FirstReply
+    requires { ⌜ (sets ≤ length (now sizes)) × (variables ≤ length (now vars)) × (count ≤ 32) × (transitions ≤ 32) ⌝ }
+    ensures { λ r. ⌜ ((n : Net) → Ready (now (s .entry)) n (take sets (now (sizes .entry))) (take variables (now (vars .entry))) (now (seconds .entry)) (now (starts .entry)) (now (uses .entry)) (now (guards .entry)) (now (arcs .entry)) count transitions
+        → flatPlaceCount n ≡ total
+        → firstReply r ≡ firstOrder (now (s .entry)) (now (marking .entry))) ⌝ }
+{
+    if is_small(total, s.len()) {
+        return first_small(
+            s,
+            sizes,
+            vars,
+            seconds,
+            starts,
+            uses,
+            guards,
+            arcs,
+            sets,
+            variables,
+            count,
+            transitions,
+            total,
+            marking,
+        );
+    }
+    first_large(
+        s,
+        sizes,
+        vars,
+        seconds,
+        starts,
+        uses,
+        guards,
+        arcs,
+        sets,
+        variables,
+        count,
+        transitions,
+        total,
+        marking,
+    )
 }
 
 // The first order that would be answered 0 on a net file and a marking.
@@ -256,21 +584,25 @@ pub fn first_order(net: &[u8], marking: &[u16]) -> FirstReply
             total,
             transitions,
             space: _,
-        } => first_on(
-            net,
-            &sizes,
-            &vars,
-            &seconds,
-            &starts,
-            &uses,
-            &guards,
-            &arcs,
-            sets,
-            variables,
-            places,
-            transitions,
-            total,
-            marking,
-        ),
+        } => {
+            let mut packed = [0u32; 3072];
+            pack_arcs(&arcs, places, transitions, &mut packed);
+            first_on(
+                net,
+                &sizes,
+                &vars,
+                &seconds,
+                &starts,
+                &uses,
+                &guards,
+                &packed,
+                sets,
+                variables,
+                places,
+                transitions,
+                total,
+                marking,
+            )
+        }
     }
 }

@@ -7,13 +7,14 @@ use Rattle.reading.specs.Basics.{_-_, length, items}
 use Rattle.firing.proofs.Running.{Running, run-begin, run-item, run-items-end}
 use Rattle.net.specs.Net.{Net, flatPlaceCount}
 use Rattle.coloured.specs.Orders.{fireOrder}
+use Rattle.coloured.specs.Drawing.{room}
 use Rattle.coloured.specs.Ready.{Ready}
 use Rattle.coloured.proofs.engine.fire_list.Statement.{statement}
 use Rattle.coloured.proofs.engine.fire_list.Tie as tie
 
 abbrev Inv-loop : tie.InvT-loop
 Inv-loop s sizes vars seconds starts uses guards arcs count transitions m₀ orders answers₀ places₀ amounts₀ many i₀ m answers places amounts i =
-    ((n : Net) → Ready s n sizes vars seconds starts uses guards arcs count transitions → 12288 ≤ length places₀ → 12288 ≤ length amounts₀ → length m₀ ≡ flatPlaceCount n
+    ((n : Net) → Ready s n sizes vars seconds starts uses guards arcs count transitions → room s n ≤ length places₀ → room s n ≤ length amounts₀ → length m₀ ≡ flatPlaceCount n
     → Running (fireOrder n) (items 6 orders) m₀ answers₀ m answers i)
     × (length m ≡ length m₀) × (length answers ≡ length answers₀) × (length places ≡ length places₀) × (length amounts ≡ length amounts₀) × (many < 18446744073709551615)
 

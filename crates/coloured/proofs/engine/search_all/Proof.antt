@@ -5,6 +5,7 @@ use mathlib.Core.Path.{_≡_, refl}
 use Prim.Native.Nat.{_≤_}
 use Rattle.reading.specs.Basics.{_-_, _*_, length}
 use Rattle.net.specs.Net.{Net, flatPlaceCount}
+use Rattle.coloured.specs.Drawing.{room}
 use Rattle.coloured.specs.Ready.{Ready}
 use Rattle.coloured.proofs.Searching.{Seeking, seek-begin, seek-found, seek-next, seek-none}
 use Rattle.coloured.proofs.engine.search_all.Statement.{statement}
@@ -12,7 +13,7 @@ use Rattle.coloured.proofs.engine.search_all.Tie as tie
 
 abbrev Inv-loop : tie.InvT-loop
 Inv-loop s sizes vars seconds starts uses guards arcs count transitions m places₀ amounts₀ tried₀ t₀ places amounts tried t =
-    ((n : Net) → Ready s n sizes vars seconds starts uses guards arcs count transitions → 12288 ≤ length places₀ → 12288 ≤ length amounts₀ → length m ≡ flatPlaceCount n → Seeking n m tried t)
+    ((n : Net) → Ready s n sizes vars seconds starts uses guards arcs count transitions → room s n ≤ length places₀ → room s n ≤ length amounts₀ → length m ≡ flatPlaceCount n → Seeking n m tried t)
     × (length places ≡ length places₀) × (length amounts ≡ length amounts₀) × (t ≤ transitions) × (tried ≤ t * 4228250625)
 
 abbrev μ-loop : tie.MeasureT-loop

@@ -5,13 +5,14 @@ use Prim.Native.Nat.{ℕ, _≤_, _<_}
 use Rattle.reading.specs.Basics.{_-_, length, eqb, below}
 use Rattle.firing.proofs.Running.{Searching, search-begin, below-step, below-found, below-none, stopped-in, stopped-out}
 use Rattle.net.specs.Net.{Net, flatPlaceCount}
+use Rattle.coloured.specs.Drawing.{room}
 use Rattle.coloured.specs.Ready.{Ready, numbered, fireBinding}
 use Rattle.coloured.proofs.engine.search_bindings.Statement.{statement}
 use Rattle.coloured.proofs.engine.search_bindings.Tie as tie
 
 abbrev Inv-loop : tie.InvT-loop
 Inv-loop s sizes vars seconds starts uses guards arcs count t many m places₀ amounts₀ i₀ places amounts i =
-    ((n : Net) (transitions : ℕ) → Ready s n sizes vars seconds starts uses guards arcs count transitions → t < transitions → 12288 ≤ length places₀ → 12288 ≤ length amounts₀ → length m ≡ flatPlaceCount n
+    ((n : Net) (transitions : ℕ) → Ready s n sizes vars seconds starts uses guards arcs count transitions → t < transitions → room s n ≤ length places₀ → room s n ≤ length amounts₀ → length m ≡ flatPlaceCount n
     → Searching (λ j. eqb (fireBinding n (numbered n t j) m .answer) 0) (below many) i)
     × (length places ≡ length places₀) × (length amounts ≡ length amounts₀) × (i ≤ many)
 

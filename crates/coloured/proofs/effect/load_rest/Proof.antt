@@ -1,0 +1,17 @@
+use borrow.Author.Needs.{needs}
+use Rattle.coloured.proofs.Effects.{effect-rest}
+use Rattle.coloured.proofs.effect.load_rest.Statement.{statement}
+use Rattle.coloured.proofs.effect.load_rest.Tie as tie
+
+pub load-rest-spec : {M : Type 1} → statement M
+load-rest-spec =
+    tie.close
+    (tie.spec
+    (λ c. search needs)
+    (λ c. search needs)
+    (λ c κs. search needs)
+    (λ c. search needs)
+    (λ c κs. search needs)
+    (λ c. search needs)
+    (λ c. search needs)
+    (λ c. λ n guards colours d ht e binds x y k. effect-rest (c .before .before .before .before .before .before .before .before .before .before .before .before .before .before .before .before .before .before .before .before .before .before .before .args .env .now) d _ ht colours binds e x y k (c .before .before .before .before .before .before .before .before .before .before .before .load-kind .ensures) (c .before .before .before .before .load-kind2 .ensures)))

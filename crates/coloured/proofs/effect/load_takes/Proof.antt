@@ -1,0 +1,17 @@
+use borrow.Author.Needs.{needs}
+use Rattle.coloured.proofs.Effects.{effect-nothing, effect-takes}
+use Rattle.coloured.proofs.effect.load_takes.Statement.{statement}
+use Rattle.coloured.proofs.effect.load_takes.Tie as tie
+
+pub load-takes-spec : {M : Type 1} → statement M
+load-takes-spec =
+    tie.close
+    (tie.spec
+    (λ c κs. search needs)
+    (λ c κs. search needs)
+    (λ c. λ n colours d ht e binds x y. effect-nothing (c .before .before .before .before .before .before .before .before .before .before .before .before .before .args .env .now) d _ ht colours binds _ (c .before .before .slot-at .ensures) (c .before .guard-holds .ensures) (c .if1 .taken))
+    (λ c. search needs)
+    (λ c κs. search needs)
+    (λ c. search needs)
+    (λ c. search needs)
+    (λ c. λ n colours d ht e binds x y. effect-takes (c .before .before .before .before .before .before .before .before .before .before .before .before .before .before .before .before .before .before .before .before .args .env .now) d _ ht colours binds _ (c .before .before .before .before .before .before .before .before .before .slot-at .ensures) (c .before .before .before .before .before .before .before .before .guard-holds .ensures) (c .before .before .before .before .before .before .before .if1 .left) e x y (c .before .before .before .before .load-kind .ensures)))

@@ -1,0 +1,9 @@
+pub mod Appending
+pub mod Few
+pub mod Joining
+pub mod Merging
+pub mod Listing
+pub mod Ranks
+pub mod Loads
+pub mod Walking
+pub mod Counted
