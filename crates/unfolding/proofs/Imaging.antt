@@ -4,21 +4,20 @@ use Prim.Native.Nat.{_≤_, _<_}
 use native.Mathlib.Omega.{arith}
 use native.Mathlib.Nat.{add-zero}
 use native.Mathlib.Numerals.{add-one}
+use borrow.Author.Tests.{ltb-true, ltb-false}
 use lib.ListN.{length-drop}
 use lib.Seq.{drop-cons, length-take-le}
-use Rattle.reading.specs.Basics.{ℕ, zero, suc, _+_, _*_, _/_, List, [], _∷_, length, take, drop, getD, byteAt, items, over}
-use Rattle.reading.proofs.Lists.{below-at, getD-at}
+use Rattle.reading.specs.Basics.{ℕ, zero, suc, _+_, _*_, _/_, Bool, true, false, ltb, product, List, [], _∷_, length, take, drop, getD, byteAt, items, over}
+use Rattle.reading.proofs.Lists.{getD-at}
 use Rattle.firing.proofs.Running.{item-at, length-items}
 use Rattle.net.specs.Net.{Net, variablesOf, sizesOf, inTransition}
-use Rattle.coloured.specs.Effect.{transitionAt, bindings}
-use Rattle.coloured.specs.Numbers.{digits, before, those, sizesOver, numberOf}
+use Rattle.coloured.specs.Effect.{transitionAt}
+use Rattle.coloured.specs.Numbers.{those, sizesOver, numberOf}
 use Rattle.coloured.specs.declared.binding.Numbered.{Numbered}
 use Rattle.coloured.specs.declared.binding.Numbered.the-variants.{At, Nothing}
-use Rattle.coloured.proofs.Bindings.{bound, bindings-length}
-use Rattle.coloured.proofs.Digits.{bindings-at}
 use Rattle.coloured.proofs.Ordering.{numbered-at, named-other, named-past, named-nothing, named-at, order-colours, order-byte}
 use Rattle.unfolding.specs.Unfolding.{rowNumber, image, images}
-use Rattle.unfolding.specs.Walked.{Numbers, Bases, Tables}
+use Rattle.unfolding.specs.Walked.{orderAt, Starts, Tables}
 use Rattle.unfolding.specs.Out.{Appended}
 use Rattle.unfolding.proofs.Rows.{noRow}
 use Rattle.unfolding.proofs.Walking.{unnamed-number, named-number}
@@ -67,20 +66,23 @@ module _ {s guards sizes vars uses : List ℕ} {n : Net} {transitions : ℕ} (ta
     no-binding e h = unnamed-number n (tables .limits) order (named-nothing n order first few (sym e ∙ told h))
 
     -- the number of the binding that they name
-    pub the-number : {bases numbers : List ℕ} {r : Numbered} {index x base : ℕ} → r ≡ At index → r ≡ numberOf (sizesOver n (those n (λ v. inTransition v (transitionAt n t)))) (take 4 (drop (i * 6 + 2) orders))
-        → Bases n bases transitions → Numbers n numbers (length (bindings n)) → length numbers ≡ 65536 → base ≡ getD bases t 0
-        → (base + index < length numbers → x ≡ getD numbers (base + index) 0) → x ≡ rowNumber n order
-    the-number {bases} {numbers} {r} {index} {x} {base} e h starts held len at read =
+    pub the-number : {starts numbers : List ℕ} {r : Numbered} {index x guard start : ℕ} → r ≡ At index → r ≡ numberOf (sizesOver n (those n (λ v. inTransition v (transitionAt n t)))) (take 4 (drop (i * 6 + 2) orders))
+        → Starts n guards starts numbers transitions → guard ≡ getD guards t 0 → start ≡ getD starts t 0
+        → (guard < 1 → start + index < 65536 → x ≡ start + index) → (1 ≤ guard → x ≡ getD numbers (start + index) 0) → x ≡ rowNumber n order
+    the-number {starts} {numbers} {r} {index} {x} {guard} {start} e h held kind at follows stands =
         let f = sym e ∙ told h in
-        let u : ℕ = byteAt order 1 in
-        let (fit, small, same) = numbered-at (sizesOf n (transitionAt n u)) (drop 2 order) f in
-        let b : base ≡ before n u = at ∙ starts .base t lt ∙ ap (before n) (sym this) in
-        let here = bindings-at n u index few small in
-        let below = below-at (bindings n) (before n u + index) here in
-        let inside : base + index < length numbers = omega (arith, bindings-length n, tables .limits .space) in
-        let j : base + index ≡ before n u + index = omega arith in
-        read inside ∙ ap (λ k. getD numbers k 0) j ∙ held .number (before n u + index) (bound u (digits (sizesOf n (transitionAt n u)) index)) below here
-        ∙ named-number n (tables .limits) order six (named-at n order first few f)
+        let (fit, inside, same) = numbered-at (sizesOf n (transitionAt n (byteAt order 1))) (drop 2 order) f in
+        let small : index < product (sizesOf n (transitionAt n t)) = rw this at inside in
+        by-guard small (ltb guard 1) refl ∙ ap (λ u. rowNumber n (orderAt n u index)) (sym this) ∙ named-number n (tables .limits) order six (named-at n order first few f)
+      where
+        by-guard : index < product (sizesOf n (transitionAt n t)) → (b : Bool) → ltb guard 1 ≡ b → x ≡ rowNumber n (orderAt n t index)
+        by-guard small true q =
+            let without = ltb-true guard 1 q in
+            let rows = held .rows t lt (omega arith) in
+            follows without (rw at (rows .few index small)) ∙ rw at (rows .number index small)
+        by-guard small false q =
+            let some = ltb-false guard 1 q in
+            stands some ∙ rw at (held .held t lt (omega arith) .number index small)
 
 -- ---- order after order
 drop-past : {A : Type 0} (l : List A) (i : ℕ) → length l ≤ i → drop i l ≡ []

@@ -12,9 +12,8 @@ use Rattle.net.specs.Net.{Net, coloursOf, placeAt, flatPlaceCount, tokensOn}
 use Rattle.net_file.proofs.Spaces.{below-next}
 use Rattle.coloured.specs.Effect.{FlatPlace, flatPlaces}
 use Rattle.coloured.specs.Drawing.{startOf}
-use Rattle.coloured.proofs.Split.{start-next, start-low}
+use Rattle.coloured.proofs.Split.{flat-append, start-next, start-low}
 use Rattle.unfolding.specs.Unfolding.{unfolded, initialAt}
-use Rattle.unfolding.proofs.Pieces.{flat-append}
 
 -- so many elements more
 take-on : (l : List ℕ) (a c : ℕ) → a + c ≤ length l → take (a + c) l ≡ take a l ++ map (λ r. getD l (a + r) 0) (below c)

@@ -1,6 +1,5 @@
 -- The rows' bytes are what each transition's bindings give, one after the other; and the loops that measure and write them. Assumes nothing.
 use mathlib.Core.Path.{_≡_, refl, sym, ap, _∙_, subst}
-use mathlib.Core.List.{append-assoc}
 use Prim.Native.Nat.{_≤_, _<_}
 use native.Mathlib.Omega.{arith}
 use native.Mathlib.Nat.{add-zero}
@@ -22,6 +21,7 @@ use Rattle.coloured.specs.declared.effect.Loaded.{Loaded}
 use Rattle.coloured.specs.declared.effect.Loaded.the-variants as loaded
 use Rattle.coloured.proofs.Bindings.{bound, bindingsOf, choices-length}
 use Rattle.coloured.proofs.Digits.{choices-at}
+use Rattle.coloured.proofs.Split.{flat-flat}
 use Rattle.coloured.proofs.Readied.{limited}
 use Rattle.unfolding.specs.Unfolding.{Rowed, rows, unfolded}
 use Rattle.unfolding.specs.Pieces.{bindingBytes, transitionBytes}
@@ -29,18 +29,8 @@ use Rattle.unfolding.proofs.Appending.{length-row-in, Going, go-begin}
 use Rattle.unfolding.proofs.Rows.{rowed, rowedIf}
 
 -- ---- lists
--- pieces of two joined lists, of a list made piece by piece, and of one made element by element
+-- pieces of a list made element by element
 module _ {B C : Type 0} (f : B → List C) where
-  pub flat-append : (l m : List B) → flatMap f (l ++ m) ≡ flatMap f l ++ flatMap f m
-  unfolding flatMap
-  flat-append [] m = refl
-  flat-append (b ∷ l) m = ap (λ k. f b ++ k) (flat-append l m) ∙ sym (append-assoc (f b) (flatMap f l) (flatMap f m))
-
-  flat-flat : {A : Type 0} (g : A → List B) (l : List A) → flatMap f (flatMap g l) ≡ flatMap (λ a. flatMap f (g a)) l
-  unfolding flatMap
-  flat-flat g [] = refl
-  flat-flat g (a ∷ l) = flat-append (g a) (flatMap g l) ∙ ap (λ k. flatMap f (g a) ++ k) (flat-flat g l)
-
   flat-map : {A : Type 0} (g : A → B) (l : List A) → flatMap f (map g l) ≡ flatMap (λ a. f (g a)) l
   unfolding flatMap
   flat-map g [] = refl

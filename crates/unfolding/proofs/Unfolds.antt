@@ -5,13 +5,15 @@ use native.Mathlib.Omega.{arith}
 use borrow.Author.Tests.{le-leb, lt-leb, leb-true, leb-false}
 use lib.ListN.{length-append, length-take}
 use lib.Seq.{length-take-le}
-use Rattle.reading.specs.Basics.{ℕ, _+_, _*_, Bool, true, false, List, [], _∷_, _++_, flatMap, length, take, leb, below, over}
+use Rattle.reading.specs.Basics.{ℕ, _+_, _*_, _/_, Bool, true, false, List, [], _∷_, _++_, flatMap, length, take, leb, below, over}
 use Rattle.reading.specs.Reading.{Outcome, accepted, refused, failing}
 use Rattle.flat.specs.Flat.{rowBytes, writeFlat}
 use Rattle.flat.proofs.Written.{placeBytes, length-places}
 use Rattle.net.specs.Net.{Net}
 use Rattle.net_file.specs.Parts.{readNet}
 use Rattle.net_file.specs.Held.{NetHeld}
+use Rattle.coloured.specs.Packed.{Packed}
+use Rattle.coloured.specs.Drawing.{room}
 use Rattle.coloured.proofs.Accepted.{ready}
 use Rattle.unfolding.specs.Unfolding.{unfolded, flatFile, WriteCall, unfoldCall, line, program}
 use Rattle.unfolding.specs.Pieces.{transitionBytes, Tabled}
@@ -52,6 +54,13 @@ module _ {s sizes vars seconds starts uses guards arcs initial : List ℕ} {coun
   unfolding writeFlat
   file-is = rw (t .counts, rows-are)
 
+  -- the room for its rows, where it is small
+  pub small-room : 3 * total + length s / 2 ≤ 1024 → (n : Net) → readNet s ≡ accepted n → room s n ≤ 1024
+  small-room h n read =
+      let both : accepted n ≡ accepted (t .net) = sym read ∙ t .ready .read in
+      let same : n ≡ t .net = cc in
+      rw same (omega (arith, t .sized))
+
   -- its length, from that of the rows
   pub file-length : total ≤ length initial → {rows : ℕ} → rows ≡ length rowsOf → 3 + 3 * total + rows ≡ length (flatFile (t .net))
   file-length h {rows} e =
@@ -74,20 +83,21 @@ module _ {s sizes vars seconds starts uses guards arcs initial : List ℕ} {coun
 
 -- ---- the tables that the reader leaves
 module _ (s sizes vars firsts seconds starts uses guards arcs initial : List ℕ) {sets variables places total transitions space : ℕ} where
-  pub tabled : NetHeld s sizes vars firsts seconds starts uses guards arcs initial sets variables places total transitions space → total ≤ length initial
-      → Tabled s (take sets sizes) (take variables vars) seconds starts uses guards arcs initial places total transitions
-  tabled held room = record {
+  pub tabled : {packed : List ℕ} → NetHeld s sizes vars firsts seconds starts uses guards arcs initial sets variables places total transitions space → Packed arcs packed places transitions → total ≤ length initial
+      → Tabled s (take sets sizes) (take variables vars) seconds starts uses guards packed initial places total transitions
+  tabled held packs room = record {
     net = held .value;
-    ready = ready s sizes vars firsts seconds starts uses guards arcs initial held;
-    counts = initial-counted (held .value) starts initial (ready s sizes vars firsts seconds starts uses guards arcs initial held .drawing .begin)
+    ready = ready s sizes vars firsts seconds starts uses guards arcs initial held packs;
+    sized = held .holds .started .all;
+    counts = initial-counted (held .value) starts initial (ready s sizes vars firsts seconds starts uses guards arcs initial held packs .drawing .begin)
         (held .holds .counts) (omega (arith, held .holds .started .all)) (held .holds .started .all);
   }
 
   -- over the fronts of two of them
-  pub tabled-fronts : {fore front : List ℕ} → fore ≡ take sets sizes → front ≡ take variables vars
-      → NetHeld s sizes vars firsts seconds starts uses guards arcs initial sets variables places total transitions space → total ≤ length initial
-      → Tabled s fore front seconds starts uses guards arcs initial places total transitions
-  tabled-fronts e f held room = rw (e, f) (tabled held room)
+  pub tabled-fronts : {fore front packed : List ℕ} → fore ≡ take sets sizes → front ≡ take variables vars
+      → NetHeld s sizes vars firsts seconds starts uses guards arcs initial sets variables places total transitions space → Packed arcs packed places transitions → total ≤ length initial
+      → Tabled s fore front seconds starts uses guards packed initial places total transitions
+  tabled-fronts e f held packs room = rw (e, f) (tabled held packs room)
 
 -- ---- the program
 -- what the call gives over 65,536 bytes, and the program with it

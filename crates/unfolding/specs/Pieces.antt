@@ -1,11 +1,14 @@
 -- The bytes of the rows, binding by binding; and what the code that measures and writes them knows of the net.
 use mathlib.Core.Path.{_≡_}
-use Prim.Native.Nat.{_<_}
-use Rattle.reading.specs.Basics.{ℕ, List, [], flatMap, take, given, below, product}
+use Prim.Native.Nat.{_≤_, _<_}
+use Rattle.reading.specs.Basics.{ℕ, List, [], flatMap, length, take, given, below, product}
+use Rattle.reading.specs.Reading.{accepted}
 use Rattle.firing.specs.Arcs.{rowOf}
 use Rattle.flat.specs.Flat.{rowBytes}
 use Rattle.net.specs.Net.{Net, sizesOf, flatPlaceCount}
 use Rattle.coloured.specs.Effect.{transitionAt, effect}
+use Rattle.net_file.specs.Parts.{readNet}
+use Rattle.coloured.specs.Drawing.{room}
 use Rattle.coloured.specs.Ready.{Ready, numbered}
 use Rattle.unfolding.specs.Unfolding.{unfolded}
 
@@ -29,8 +32,13 @@ abbrev pub Of : List ℕ → List ℕ → List ℕ → List ℕ → List ℕ →
 Of s sizes vars seconds starts uses guards arcs count t P =
     (n : Net) (transitions : ℕ) → Ready s n sizes vars seconds starts uses guards arcs count transitions → t < transitions → P n
 
+-- a lent list has the room that loading the net's rows needs
+abbrev pub Roomy : List ℕ → List ℕ → Type 0
+Roomy s l = (n : Net) → readNet s ≡ accepted n → room s n ≤ length l
+
 -- the tables are those of a net, with its initial counts
 pub record Tabled (s sizes vars seconds starts uses guards arcs initial : List ℕ) (count total transitions : ℕ) : Type 0 where
   pub net : Net
   pub ready : Ready s net sizes vars seconds starts uses guards arcs count transitions
+  pub sized : flatPlaceCount net ≡ total
   pub counts : take total initial ≡ unfolded net .initial

@@ -1,12 +1,12 @@
--- What the walk over all bindings tells: the rows among the first so many, and a table of row numbers.
+-- What the walk over all bindings tells: the rows among the first so many, and their numbers.
 use mathlib.Core.Path.{_≡_}
 use Prim.Native.Nat.{_≤_, _<_}
-use Rattle.reading.specs.Basics.{ℕ, _+_, Bool, true, _||_, List, [], _∷_, filterMap, Option·map, none, some, length, take, getD, getElem?, any}
-use Rattle.net.specs.Net.{Transition, Net, net, inGuard, inExpression, sizesOf, inTransition}
+use Rattle.reading.specs.Basics.{ℕ, zero, suc, _+_, true, ltb, if_then_else_, List, [], filterMap, Option·map, none, some, length, take, getD, product}
+use Rattle.net.specs.Net.{Transition, Net, net, inGuard, sizesOf, inTransition}
 use Rattle.net_file.specs.Limits.{Limits}
 use Rattle.net_file.specs.Tables.{GuardHolds}
 use Rattle.net.specs.Told.{bits}
-use Rattle.coloured.specs.Effect.{Binding, transitionAt, bindings, effect}
+use Rattle.coloured.specs.Effect.{transitionAt, bindings, effect}
 use Rattle.coloured.specs.Orders.{orderOf}
 use Rattle.coloured.specs.Numbers.{digits, before}
 use Rattle.unfolding.specs.Unfolding.{Rowed, rowNumber, orderOfRow}
@@ -22,13 +22,33 @@ rowsAmong n i = filterMap (λ b. Option·map (λ w. record { order = orderOf b; 
 abbrev pub passed : Net → ℕ → ℕ
 passed n i = length (rowsAmong n i)
 
--- a table holds the row number of each of the first so many bindings
-pub record Numbers (n : Net) (numbers : List ℕ) (i : ℕ) : Type 0 where
-  pub number : (j : ℕ) (b : Binding) → j < i → getElem? (bindings n) j ≡ some b → getD numbers j 0 ≡ rowNumber n (orderOf b)
+-- ---- row numbers
+-- the order of binding number i of a transition
+abbrev pub orderAt : Net → ℕ → ℕ → List ℕ
+orderAt n t i = orderOf (record { transition = t; colours = digits (sizesOf n (transitionAt n t)) i })
 
--- another holds how many bindings stand before each of the first so many transitions
-pub record Bases (n : Net) (bases : List ℕ) (t : ℕ) : Type 0 where
-  pub base : (u : ℕ) → u < t → getD bases u 0 ≡ before n u
+-- the table has an entry for each binding of a transition with a guard, none for one without
+abbrev pub entriesAt : ℕ → ℕ → ℕ
+entriesAt guard size = if ltb guard 1 then 0 else size
+
+-- how many entries the first so many transitions have
+unfoldable pub entries : Net → List ℕ → ℕ → ℕ
+entries n guards zero = 0
+entries n guards (suc t) = entries n guards t + entriesAt (getD guards t 0) (product (sizesOf n (transitionAt n t)))
+
+-- from a start on, the table holds the row number of each of a transition's first so many bindings
+pub record Numbers (n : Net) (t : ℕ) (numbers : List ℕ) (start size : ℕ) : Type 0 where
+  pub number : (i : ℕ) → i < size → getD numbers (start + i) 0 ≡ rowNumber n (orderAt n t i)
+
+-- from a start on, the row numbers of a transition's first so many bindings follow each other
+pub record Follows (n : Net) (t start size : ℕ) : Type 0 where
+  pub number : (i : ℕ) → i < size → start + i ≡ rowNumber n (orderAt n t i)
+  pub few : (i : ℕ) → i < size → start + i < 65536
+
+-- another table holds the starts of the first so many transitions: without a guard of its rows, with one of its entries
+pub record Starts (n : Net) (guards starts numbers : List ℕ) (t : ℕ) : Type 0 where
+  pub rows : (u : ℕ) → u < t → getD guards u 0 < 1 → Follows n u (getD starts u 0) (product (sizesOf n (transitionAt n u)))
+  pub held : (u : ℕ) → u < t → 1 ≤ getD guards u 0 → Numbers n u numbers (getD starts u 0) (product (sizesOf n (transitionAt n u)))
 
 -- ---- what the walk reads
 -- of one transition: its variables as bits, and where its guard stands
@@ -46,18 +66,14 @@ pub record Tables (s : List ℕ) (n : Net) (sizes vars uses guards : List ℕ) (
   pub each : (t : ℕ) → t < count → Listed s n sizes vars (transitionAt n t) (getD uses t 0) (getD guards t 0)
 
 -- ---- what the search for a row tells
--- the order of binding number i of a transition
-abbrev pub orderAt : Net → ℕ → ℕ → List ℕ
-orderAt n t i = orderOf (record { transition = t; colours = digits (sizesOf n (transitionAt n t)) i })
-
 -- among the bindings of a transition, of which there are so many: the row is one of them, or it comes after them
 abbrev pub SoughtTold : Net → ℕ → ℕ → ℕ → Sought → Type 0
 SoughtTold n t size row (sought.At index) = orderOfRow n row ≡ some (orderAt n t index)
-SoughtTold n t size row (sought.Past count) = (count ≡ passed n (before n t + size)) × (count ≤ row)
+SoughtTold n t size row (sought.Past count) = count ≡ passed n (before n t + size)
 
-abbrev pub SoughtRoom : ℕ → ℕ → Sought → Type 0
-SoughtRoom size count (sought.At index) = index < size
-SoughtRoom size count (sought.Past more) = more ≤ count + size
+abbrev pub SoughtRoom : ℕ → ℕ → ℕ → Sought → Type 0
+SoughtRoom size row count (sought.At index) = index < size
+SoughtRoom size row count (sought.Past more) = (more ≤ count + size) × (more ≤ row)
 
 -- among all
 abbrev pub LocatedTold : Net → ℕ → Located → Type 0

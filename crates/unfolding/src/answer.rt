@@ -9,21 +9,24 @@ ghost use Prim.Native.Nat.{ℕ, _≤_, _<_, _+_, _*_, _/_};
 ghost use lib.ListN.{length, getD, take, drop};
 ghost use Rattle.reading.specs.Basics.{over};
 ghost use Rattle.net.specs.Net.{Net};
-ghost use Rattle.coloured.specs.Effect.{bindings};
 ghost use Rattle.unfolding.specs.Unfolding.{rowNumber, images};
-ghost use Rattle.unfolding.specs.Walked.{Numbers, Bases, Tables};
+ghost use Rattle.unfolding.specs.Walked.{Starts, Tables};
 
-// The number of a binding that stands so far behind a base.
-fn number_at(numbers: &[u32], base: usize, index: usize) -> u32
-    ensures { λ r. ⌜ (base + index < length (now (numbers .entry)) → r ≡ getD (now (numbers .entry)) (base + index) 0) ⌝ }
+// The row number of a transition's binding: without a guard they follow each other from its start on, else they stand in the table from there on.
+fn row_at(numbers: &[u32], guard: u16, start: usize, index: usize) -> u32
+    ensures follows { λ r. ⌜ (guard < 1 → start + index < 65536 → r ≡ start + index) ⌝ }
+    ensures stands { λ r. ⌜ (1 ≤ guard → r ≡ getD (now (numbers .entry)) (start + index) 0) ⌝ }
 {
-    if numbers.len() <= base {
+    if guard < 1 {
+        return (start % 65536 + index % 65536) as u32;
+    }
+    if numbers.len() <= start {
         return 0;
     }
-    if numbers.len() - base <= index {
+    if numbers.len() - start <= index {
         return 0;
     }
-    numbers[base + index]
+    numbers[start + index]
 }
 
 // The row number of order number i, 4,294,967,295 where it has no row.
@@ -31,19 +34,20 @@ fn row_of(
     sizes: &[u8],
     vars: &[u8],
     uses: &[u32],
+    guards: &[u16],
     transitions: usize,
-    bases: &[usize],
+    starts: &[usize],
     numbers: &[u32],
     orders: &[u8],
     i: usize,
 ) -> u32
     requires { ⌜ transitions ≤ 32 ⌝ }
     requires { ⌜ length (now uses) ≡ 32 ⌝ }
-    requires { ⌜ length (now bases) ≡ 32 ⌝ }
-    requires { ⌜ length (now numbers) ≡ 65536 ⌝ }
+    requires { ⌜ length (now guards) ≡ 32 ⌝ }
+    requires { ⌜ length (now starts) ≡ 32 ⌝ }
     requires { ⌜ i * 6 + 6 ≤ length (now orders) ⌝ }
-    ensures { λ r. ⌜ ((s guards : List ℕ) (n : Net) → Tables s n (now (sizes .entry)) (now (vars .entry)) (now (uses .entry)) guards transitions
-        → Bases n (now (bases .entry)) transitions → Numbers n (now (numbers .entry)) (length (bindings n))
+    ensures { λ r. ⌜ ((s : List ℕ) (n : Net) → Tables s n (now (sizes .entry)) (now (vars .entry)) (now (uses .entry)) (now (guards .entry)) transitions
+        → Starts n (now (guards .entry)) (now (starts .entry)) (now (numbers .entry)) transitions
         → r ≡ rowNumber n (take 6 (drop (i * 6) (now (orders .entry))))) ⌝ }
 {
     let at = i * 6;
@@ -57,7 +61,7 @@ fn row_of(
     let Numbered::At { index } = binding_number(uses[t], sizes, vars, orders, at + 2) else {
         return 4294967295;
     };
-    number_at(numbers, bases[t], index)
+    row_at(numbers, guards[t], starts[t], index)
 }
 
 // Writes the image of each order.
@@ -65,26 +69,37 @@ pub fn write_images(
     sizes: &[u8],
     vars: &[u8],
     uses: &[u32],
+    guards: &[u16],
     transitions: usize,
-    bases: &[usize],
+    starts: &[usize],
     numbers: &[u32],
     orders: &[u8],
     out: &mut [u8],
 )
     requires { ⌜ transitions ≤ 32 ⌝ }
     requires { ⌜ length (now uses) ≡ 32 ⌝ }
-    requires { ⌜ length (now bases) ≡ 32 ⌝ }
-    requires { ⌜ length (now numbers) ≡ 65536 ⌝ }
+    requires { ⌜ length (now guards) ≡ 32 ⌝ }
+    requires { ⌜ length (now starts) ≡ 32 ⌝ }
     requires { ⌜ length (now orders) / 6 * 5 ≤ length (now out) ⌝ }
-    ensures { λ _. ⌜ ((s guards : List ℕ) (n : Net) → Tables s n (now (sizes .entry)) (now (vars .entry)) (now (uses .entry)) guards transitions
-        → Bases n (now (bases .entry)) transitions → Numbers n (now (numbers .entry)) (length (bindings n))
+    ensures { λ _. ⌜ ((s : List ℕ) (n : Net) → Tables s n (now (sizes .entry)) (now (vars .entry)) (now (uses .entry)) (now (guards .entry)) transitions
+        → Starts n (now (guards .entry)) (now (starts .entry)) (now (numbers .entry)) transitions
         → now (out .exit) ≡ over (images n (now (orders .entry))) (now (out .entry))) ⌝ }
 {
     let count = orders.len() / 6;
     let mut next: usize = 0;
     let mut i: usize = 0;
     while i < count {
-        let row = row_of(sizes, vars, uses, transitions, bases, numbers, orders, i);
+        let row = row_of(
+            sizes,
+            vars,
+            uses,
+            guards,
+            transitions,
+            starts,
+            numbers,
+            orders,
+            i,
+        );
         next = write_image(row, out, next);
         i += 1;
     }

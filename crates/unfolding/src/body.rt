@@ -10,7 +10,7 @@ ghost use Rattle.reading.specs.Basics.{flatMap, below};
 ghost use Rattle.net.specs.Net.{Net};
 ghost use Rattle.coloured.specs.Ready.{Ready};
 ghost use Rattle.unfolding.specs.Out.{Appended};
-ghost use Rattle.unfolding.specs.Pieces.{bindingBytes, transitionBytes, Known, Of};
+ghost use Rattle.unfolding.specs.Pieces.{bindingBytes, transitionBytes, Known, Of, Roomy};
 
 // A transition's variables, or none past the end.
 fn uses_of(uses: &[u32], t: usize) -> u32
@@ -28,14 +28,14 @@ fn measure_one(
     starts: &[usize],
     uses: &[u32],
     guards: &[u16],
-    arcs: &[u16],
+    arcs: &[u32],
     count: usize,
     t: usize,
     index: usize,
     places: &mut [u16],
     amounts: &mut [u16],
 ) -> usize
-    requires { ⌜ (count ≤ 32) × (t < 32) × (12288 ≤ length (now places)) × (12288 ≤ length (now amounts)) ⌝ }
+    requires { ⌜ (count ≤ 32) × (t < 32) × Roomy (now s) (now places) × Roomy (now s) (now amounts) ⌝ }
     requires { ⌜ Known (now s) (now sizes) (now vars) (now seconds) (now starts) (now uses) (now guards) (now arcs) count t ⌝ }
     ensures is { λ r. ⌜ Of (now (s .entry)) (now (sizes .entry)) (now (vars .entry)) (now (seconds .entry)) (now (starts .entry)) (now (uses .entry)) (now (guards .entry)) (now (arcs .entry)) count t
         (λ n. r ≡ length (bindingBytes n t index)) ⌝ }
@@ -70,14 +70,14 @@ fn measure_bindings(
     starts: &[usize],
     uses: &[u32],
     guards: &[u16],
-    arcs: &[u16],
+    arcs: &[u32],
     count: usize,
     t: usize,
     many: usize,
     places: &mut [u16],
     amounts: &mut [u16],
 ) -> usize
-    requires { ⌜ (count ≤ 32) × (t < 32) × (12288 ≤ length (now places)) × (12288 ≤ length (now amounts)) × (many ≤ 4228250625) ⌝ }
+    requires { ⌜ (count ≤ 32) × (t < 32) × Roomy (now s) (now places) × Roomy (now s) (now amounts) × (many ≤ 4228250625) ⌝ }
     requires { ⌜ Known (now s) (now sizes) (now vars) (now seconds) (now starts) (now uses) (now guards) (now arcs) count t ⌝ }
     ensures is { λ r. ⌜ Of (now (s .entry)) (now (sizes .entry)) (now (vars .entry)) (now (seconds .entry)) (now (starts .entry)) (now (uses .entry)) (now (guards .entry)) (now (arcs .entry)) count t
         (λ n. r ≡ length (flatMap (bindingBytes n t) (below many))) ⌝ }
@@ -115,13 +115,13 @@ pub fn measure_all(
     starts: &[usize],
     uses: &[u32],
     guards: &[u16],
-    arcs: &[u16],
+    arcs: &[u32],
     count: usize,
     transitions: usize,
     places: &mut [u16],
     amounts: &mut [u16],
 ) -> usize
-    requires { ⌜ (count ≤ 32) × (transitions ≤ 32) × (12288 ≤ length (now places)) × (12288 ≤ length (now amounts)) ⌝ }
+    requires { ⌜ (count ≤ 32) × (transitions ≤ 32) × Roomy (now s) (now places) × Roomy (now s) (now amounts) ⌝ }
     requires { ⌜ ((n : Net) × Ready (now s) n (now sizes) (now vars) (now seconds) (now starts) (now uses) (now guards) (now arcs) count transitions) ⌝ }
     ensures is { λ r. ⌜ ((n : Net) → Ready (now (s .entry)) n (now (sizes .entry)) (now (vars .entry)) (now (seconds .entry)) (now (starts .entry)) (now (uses .entry)) (now (guards .entry)) (now (arcs .entry)) count transitions
         → r ≡ length (flatMap (transitionBytes n) (below transitions))) ⌝ }
@@ -160,7 +160,7 @@ fn write_one(
     starts: &[usize],
     uses: &[u32],
     guards: &[u16],
-    arcs: &[u16],
+    arcs: &[u32],
     count: usize,
     t: usize,
     index: usize,
@@ -169,7 +169,7 @@ fn write_one(
     out: &mut [u8],
     at: usize,
 ) -> usize
-    requires { ⌜ (count ≤ 32) × (t < 32) × (12288 ≤ length (now places)) × (12288 ≤ length (now amounts)) ⌝ }
+    requires { ⌜ (count ≤ 32) × (t < 32) × Roomy (now s) (now places) × Roomy (now s) (now amounts) ⌝ }
     requires { ⌜ Known (now s) (now sizes) (now vars) (now seconds) (now starts) (now uses) (now guards) (now arcs) count t ⌝ }
     requires { ⌜ Of (now s) (now sizes) (now vars) (now seconds) (now starts) (now uses) (now guards) (now arcs) count t
         (λ n. at + length (bindingBytes n t index) ≤ length (now out)) ⌝ }
@@ -209,7 +209,7 @@ fn write_bindings(
     starts: &[usize],
     uses: &[u32],
     guards: &[u16],
-    arcs: &[u16],
+    arcs: &[u32],
     count: usize,
     t: usize,
     many: usize,
@@ -218,7 +218,7 @@ fn write_bindings(
     out: &mut [u8],
     at: usize,
 ) -> usize
-    requires { ⌜ (count ≤ 32) × (t < 32) × (12288 ≤ length (now places)) × (12288 ≤ length (now amounts)) ⌝ }
+    requires { ⌜ (count ≤ 32) × (t < 32) × Roomy (now s) (now places) × Roomy (now s) (now amounts) ⌝ }
     requires { ⌜ Known (now s) (now sizes) (now vars) (now seconds) (now starts) (now uses) (now guards) (now arcs) count t ⌝ }
     requires { ⌜ Of (now s) (now sizes) (now vars) (now seconds) (now starts) (now uses) (now guards) (now arcs) count t
         (λ n. at + length (flatMap (bindingBytes n t) (below many)) ≤ length (now out)) ⌝ }
@@ -259,7 +259,7 @@ pub fn write_all(
     starts: &[usize],
     uses: &[u32],
     guards: &[u16],
-    arcs: &[u16],
+    arcs: &[u32],
     count: usize,
     transitions: usize,
     places: &mut [u16],
@@ -267,7 +267,7 @@ pub fn write_all(
     out: &mut [u8],
     at: usize,
 ) -> usize
-    requires { ⌜ (count ≤ 32) × (transitions ≤ 32) × (12288 ≤ length (now places)) × (12288 ≤ length (now amounts)) ⌝ }
+    requires { ⌜ (count ≤ 32) × (transitions ≤ 32) × Roomy (now s) (now places) × Roomy (now s) (now amounts) ⌝ }
     requires { ⌜ ((n : Net) × Ready (now s) n (now sizes) (now vars) (now seconds) (now starts) (now uses) (now guards) (now arcs) count transitions) ⌝ }
     requires { ⌜ ((n : Net) → Ready (now s) n (now sizes) (now vars) (now seconds) (now starts) (now uses) (now guards) (now arcs) count transitions
         → at + length (flatMap (transitionBytes n) (below transitions)) ≤ length (now out)) ⌝ }

@@ -4,13 +4,15 @@ use crate::body::write_all;
 use crate::write::write_end;
 use crate::write::write_head;
 use crate::write::write_places;
+use coloured::is_small;
+use coloured::pack_arcs;
 use net_file::NetRead;
 use net_file::read_net;
 ghost use mathlib.Core.Path.{_≡_};
-ghost use Prim.Native.Nat.{_≤_};
+ghost use Prim.Native.Nat.{_≤_, _+_, _*_, _/_};
 ghost use lib.ListN.{length, take};
 ghost use Rattle.unfolding.specs.Unfolding.{unfoldCall};
-ghost use Rattle.unfolding.specs.Pieces.{Tabled};
+ghost use Rattle.unfolding.specs.Pieces.{Roomy, Tabled};
 ghost use Rattle.unfolding.specs.Replies.{unfoldCalled};
 
 // The flat file's length in bytes, or why it was not written.
@@ -19,8 +21,8 @@ pub enum UnfoldReply {
     Refused { number: u8, place: usize },
 }
 
-// Writes the flat file of the net that the tables hold, if there is space for it.
-fn write_file(
+// Writes the flat file of the net that the tables hold, if there is space for it, with lists lent for a row's arcs.
+fn write_with(
     s: &[u8],
     sizes: &[u8],
     vars: &[u8],
@@ -28,19 +30,19 @@ fn write_file(
     starts: &[usize],
     uses: &[u32],
     guards: &[u16],
-    arcs: &[u16],
+    arcs: &[u32],
     initial: &[u16],
     count: usize,
     total: usize,
     transitions: usize,
+    places: &mut [u16],
+    amounts: &mut [u16],
     out: &mut [u8],
 ) -> UnfoldReply
-    requires { ⌜ (count ≤ 32) × (transitions ≤ 32) × (total ≤ 4096) × (total ≤ length (now initial)) ⌝ }
+    requires { ⌜ (count ≤ 32) × (transitions ≤ 32) × (total ≤ 4096) × (total ≤ length (now initial)) × Roomy (now s) (now places) × Roomy (now s) (now amounts) ⌝ }
     requires { ⌜ Tabled (now s) (now sizes) (now vars) (now seconds) (now starts) (now uses) (now guards) (now arcs) (now initial) count total transitions ⌝ }
     ensures { λ r. ⌜ unfoldCalled r (now (out .exit)) ≡ unfoldCall (now (s .entry)) (now (out .entry)) ⌝ }
 {
-    let mut places = [0u16; 12288];
-    let mut amounts = [0u16; 12288];
     let rows = measure_all(
         s,
         sizes,
@@ -52,8 +54,8 @@ fn write_file(
         arcs,
         count,
         transitions,
-        &mut places,
-        &mut amounts,
+        places,
+        amounts,
     );
     let length = 3 + 3 * total + rows;
     if out.len() < length {
@@ -75,8 +77,8 @@ fn write_file(
         arcs,
         count,
         transitions,
-        &mut places,
-        &mut amounts,
+        places,
+        amounts,
         out,
         next,
     );
@@ -84,8 +86,144 @@ fn write_file(
     UnfoldReply::Written { length }
 }
 
+// With small lists, which a small net with a short file has room in.
+fn write_small(
+    s: &[u8],
+    sizes: &[u8],
+    vars: &[u8],
+    seconds: &[u8],
+    starts: &[usize],
+    uses: &[u32],
+    guards: &[u16],
+    arcs: &[u32],
+    initial: &[u16],
+    count: usize,
+    total: usize,
+    transitions: usize,
+    out: &mut [u8],
+) -> UnfoldReply
+    requires { ⌜ (count ≤ 32) × (transitions ≤ 32) × (total ≤ 4096) × (total ≤ length (now initial)) × (3 * total + length (now s) / 2 ≤ 1024) ⌝ }
+    requires { ⌜ Tabled (now s) (now sizes) (now vars) (now seconds) (now starts) (now uses) (now guards) (now arcs) (now initial) count total transitions ⌝ }
+    ensures { λ r. ⌜ unfoldCalled r (now (out .exit)) ≡ unfoldCall (now (s .entry)) (now (out .entry)) ⌝ }
+{
+    let mut places = [0u16; 1024];
+    let mut amounts = [0u16; 1024];
+    write_with(
+        s,
+        sizes,
+        vars,
+        seconds,
+        starts,
+        uses,
+        guards,
+        arcs,
+        initial,
+        count,
+        total,
+        transitions,
+        &mut places,
+        &mut amounts,
+        out,
+    )
+}
+
+// With lists that have room for every net.
+fn write_large(
+    s: &[u8],
+    sizes: &[u8],
+    vars: &[u8],
+    seconds: &[u8],
+    starts: &[usize],
+    uses: &[u32],
+    guards: &[u16],
+    arcs: &[u32],
+    initial: &[u16],
+    count: usize,
+    total: usize,
+    transitions: usize,
+    out: &mut [u8],
+) -> UnfoldReply
+    requires { ⌜ (count ≤ 32) × (transitions ≤ 32) × (total ≤ 4096) × (total ≤ length (now initial)) ⌝ }
+    requires { ⌜ Tabled (now s) (now sizes) (now vars) (now seconds) (now starts) (now uses) (now guards) (now arcs) (now initial) count total transitions ⌝ }
+    ensures { λ r. ⌜ unfoldCalled r (now (out .exit)) ≡ unfoldCall (now (s .entry)) (now (out .entry)) ⌝ }
+{
+    let mut places = [0u16; 20480];
+    let mut amounts = [0u16; 20480];
+    write_with(
+        s,
+        sizes,
+        vars,
+        seconds,
+        starts,
+        uses,
+        guards,
+        arcs,
+        initial,
+        count,
+        total,
+        transitions,
+        &mut places,
+        &mut amounts,
+        out,
+    )
+}
+
+// Writes the flat file of the net that the tables hold, if there is space for it.
+fn write_file(
+    s: &[u8],
+    sizes: &[u8],
+    vars: &[u8],
+    seconds: &[u8],
+    starts: &[usize],
+    uses: &[u32],
+    guards: &[u16],
+    arcs: &[u32],
+    initial: &[u16],
+    count: usize,
+    total: usize,
+    transitions: usize,
+    out: &mut [u8],
+) -> UnfoldReply
+    requires { ⌜ (count ≤ 32) × (transitions ≤ 32) × (total ≤ 4096) × (total ≤ length (now initial)) ⌝ }
+    requires { ⌜ Tabled (now s) (now sizes) (now vars) (now seconds) (now starts) (now uses) (now guards) (now arcs) (now initial) count total transitions ⌝ }
+    ensures { λ r. ⌜ unfoldCalled r (now (out .exit)) ≡ unfoldCall (now (s .entry)) (now (out .entry)) ⌝ }
+{
+    if is_small(total, s.len()) {
+        return write_small(
+            s,
+            sizes,
+            vars,
+            seconds,
+            starts,
+            uses,
+            guards,
+            arcs,
+            initial,
+            count,
+            total,
+            transitions,
+            out,
+        );
+    }
+    write_large(
+        s,
+        sizes,
+        vars,
+        seconds,
+        starts,
+        uses,
+        guards,
+        arcs,
+        initial,
+        count,
+        total,
+        transitions,
+        out,
+    )
+}
+
 // The first `n` of a list; all of it where there are fewer.
-fn front(l: &[u8], n: usize) -> &[u8]
+pub fn front(l: &[u8], n: usize) -> &[u8]
     ensures { λ r. ⌜ now r ≡ take n (now (l .entry)) ⌝ }
 {
     if n <= l.len() { &l[..n] } else { l }
@@ -126,20 +264,24 @@ pub fn unfold(net: &[u8], out: &mut [u8]) -> UnfoldReply
             total,
             transitions,
             ..
-        } => write_file(
-            net,
-            front(&sizes, sets),
-            front(&vars, variables),
-            &seconds,
-            &starts,
-            &uses,
-            &guards,
-            &arcs,
-            &initial,
-            places,
-            total,
-            transitions,
-            out,
-        ),
+        } => {
+            let mut packed = [0u32; 3072];
+            pack_arcs(&arcs, places, transitions, &mut packed);
+            write_file(
+                net,
+                front(&sizes, sets),
+                front(&vars, variables),
+                &seconds,
+                &starts,
+                &uses,
+                &guards,
+                &packed,
+                &initial,
+                places,
+                total,
+                transitions,
+                out,
+            )
+        }
     }
 }

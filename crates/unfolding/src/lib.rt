@@ -10,6 +10,7 @@ mod write;
 
 use answer::write_images;
 pub use call::UnfoldReply;
+use call::front;
 pub use call::unfold;
 pub use coloured::Order;
 use coloured::order_at;
@@ -18,28 +19,133 @@ use net_file::read_net;
 pub use program::write_reply;
 use seek::Located;
 use seek::seek_row;
+use walk::count_entries;
 use walk::number_all;
 ghost use mathlib.Core.Path.{_≡_};
-ghost use Prim.Native.Nat.{_≤_};
-ghost use lib.ListN.{length, take};
+ghost use Prim.Native.Nat.{_≤_, _*_, _/_};
+ghost use lib.ListN.{length};
+ghost use Rattle.reading.specs.Basics.{over};
 ghost use Rattle.reading.specs.Reading.{accepted};
 ghost use Rattle.net.specs.Net.{Net};
 ghost use Rattle.net_file.specs.Parts.{readNet};
+ghost use Rattle.unfolding.specs.Unfolding as meant;
 ghost use Rattle.unfolding.specs.Unfolding.{imagesCall, orderCall};
-ghost use Rattle.unfolding.specs.Walked.{Tables};
+ghost use Rattle.unfolding.specs.Walked.{entries, Tables};
 ghost use Rattle.unfolding.specs.Replies.{imagesCalled, orderReply};
-
-// The first so many of a list.
-fn front(l: &[u8], n: usize) -> &[u8]
-    ensures { λ r. ⌜ now r ≡ take n (now (l .entry)) ⌝ }
-{
-    if n <= l.len() { &l[..n] } else { l }
-}
 
 // How many orders were answered, or the refusal.
 pub enum ImagesReply {
     Answered { count: usize },
     Refused { number: u8, place: usize },
+}
+
+// Writes the images of orders on a net that has been read, with a table lent for the row numbers.
+fn images_with(
+    s: &[u8],
+    sizes: &[u8],
+    vars: &[u8],
+    uses: &[u32],
+    guards: &[u16],
+    transitions: usize,
+    orders: &[u8],
+    out: &mut [u8],
+    numbers: &mut [u32],
+)
+    requires { ⌜ transitions ≤ 32 ⌝ }
+    requires { ⌜ length (now uses) ≡ 32 ⌝ }
+    requires { ⌜ length (now guards) ≡ 32 ⌝ }
+    requires { ⌜ length (now orders) / 6 * 5 ≤ length (now out) ⌝ }
+    ensures { λ _. ⌜ ((n : Net) → Tables (now (s .entry)) n (now (sizes .entry)) (now (vars .entry)) (now (uses .entry)) (now (guards .entry)) transitions
+        → entries n (now (guards .entry)) transitions ≤ length (now (numbers .entry))
+        → now (out .exit) ≡ over (meant.images n (now (orders .entry))) (now (out .entry))) ⌝ }
+{
+    let mut starts = [0usize; 32];
+    number_all(
+        s,
+        sizes,
+        vars,
+        uses,
+        guards,
+        transitions,
+        &mut starts,
+        numbers,
+    );
+    write_images(
+        sizes,
+        vars,
+        uses,
+        guards,
+        transitions,
+        &starts,
+        numbers,
+        orders,
+        out,
+    );
+}
+
+// Where a table of 1,024 entries is enough.
+fn images_short(
+    s: &[u8],
+    sizes: &[u8],
+    vars: &[u8],
+    uses: &[u32],
+    guards: &[u16],
+    transitions: usize,
+    orders: &[u8],
+    out: &mut [u8],
+)
+    requires { ⌜ transitions ≤ 32 ⌝ }
+    requires { ⌜ length (now uses) ≡ 32 ⌝ }
+    requires { ⌜ length (now guards) ≡ 32 ⌝ }
+    requires { ⌜ length (now orders) / 6 * 5 ≤ length (now out) ⌝ }
+    ensures { λ _. ⌜ ((n : Net) → Tables (now (s .entry)) n (now (sizes .entry)) (now (vars .entry)) (now (uses .entry)) (now (guards .entry)) transitions
+        → entries n (now (guards .entry)) transitions ≤ 1024
+        → now (out .exit) ≡ over (meant.images n (now (orders .entry))) (now (out .entry))) ⌝ }
+{
+    let mut numbers = [0u32; 1024];
+    images_with(
+        s,
+        sizes,
+        vars,
+        uses,
+        guards,
+        transitions,
+        orders,
+        out,
+        &mut numbers,
+    );
+}
+
+// On any net.
+fn images_long(
+    s: &[u8],
+    sizes: &[u8],
+    vars: &[u8],
+    uses: &[u32],
+    guards: &[u16],
+    transitions: usize,
+    orders: &[u8],
+    out: &mut [u8],
+)
+    requires { ⌜ transitions ≤ 32 ⌝ }
+    requires { ⌜ length (now uses) ≡ 32 ⌝ }
+    requires { ⌜ length (now guards) ≡ 32 ⌝ }
+    requires { ⌜ length (now orders) / 6 * 5 ≤ length (now out) ⌝ }
+    ensures { λ _. ⌜ ((n : Net) → Tables (now (s .entry)) n (now (sizes .entry)) (now (vars .entry)) (now (uses .entry)) (now (guards .entry)) transitions
+        → now (out .exit) ≡ over (meant.images n (now (orders .entry))) (now (out .entry))) ⌝ }
+{
+    let mut numbers = [0u32; 65536];
+    images_with(
+        s,
+        sizes,
+        vars,
+        uses,
+        guards,
+        transitions,
+        orders,
+        out,
+        &mut numbers,
+    );
 }
 
 // The images of orders on a net that has been read.
@@ -73,28 +179,11 @@ fn images_of(
             place: 0,
         };
     }
-    let mut bases = [0usize; 32];
-    let mut numbers = [0u32; 65536];
-    number_all(
-        s,
-        sizes,
-        vars,
-        uses,
-        guards,
-        transitions,
-        &mut bases,
-        &mut numbers,
-    );
-    write_images(
-        sizes,
-        vars,
-        uses,
-        transitions,
-        &bases,
-        &numbers,
-        orders,
-        out,
-    );
+    if count_entries(sizes, vars, uses, guards, transitions) <= 1024 {
+        images_short(s, sizes, vars, uses, guards, transitions, orders, out);
+        return ImagesReply::Answered { count };
+    }
+    images_long(s, sizes, vars, uses, guards, transitions, orders, out);
     ImagesReply::Answered { count }
 }
 

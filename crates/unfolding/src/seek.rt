@@ -17,8 +17,8 @@ pub enum Sought {
     Past { count: usize },
 }
 
-// Seeks a row among the bindings of one transition, after so many rows.
-fn seek_in(
+// Seeks a row among the bindings of a transition with a guard, after so many rows.
+fn seek_guarded(
     s: &[u8],
     sizes: &[u8],
     vars: &[u8],
@@ -28,11 +28,13 @@ fn seek_in(
     row: usize,
     count: usize,
 ) -> Sought
+    requires { ⌜ 1 ≤ guard ⌝ }
+    requires { ⌜ count ≤ row ⌝ }
     requires { ⌜ count + size ≤ 1000000000000 ⌝ }
     ensures is { λ r. ⌜ ((n : Net) (t : ℕ) → Limits n → t < length (n .transitions)
         → Listed (now (s .entry)) n (now (sizes .entry)) (now (vars .entry)) (transitionAt n t) uses guard
-        → size ≡ product (sizesOf n (transitionAt n t)) → count ≡ passed n (before n t) → count ≤ row → SoughtTold n t size row r) ⌝ }
-    ensures room { λ r. ⌜ SoughtRoom size count r ⌝ }
+        → size ≡ product (sizesOf n (transitionAt n t)) → count ≡ passed n (before n t) → SoughtTold n t size row r) ⌝ }
+    ensures room { λ r. ⌜ SoughtRoom size row count r ⌝ }
 {
     let mut total = count;
     let mut i: usize = 0;
@@ -45,6 +47,35 @@ fn seek_in(
         i += 1;
     }
     Sought::Past { count: total }
+}
+
+// Seeks a row among the bindings of one transition, after so many rows. Without a guard its rows follow each other.
+fn seek_in(
+    s: &[u8],
+    sizes: &[u8],
+    vars: &[u8],
+    uses: u32,
+    guard: u16,
+    size: usize,
+    row: usize,
+    count: usize,
+) -> Sought
+    requires { ⌜ count ≤ row ⌝ }
+    requires { ⌜ count + size ≤ 1000000000000 ⌝ }
+    ensures is { λ r. ⌜ ((n : Net) (t : ℕ) → Limits n → t < length (n .transitions)
+        → Listed (now (s .entry)) n (now (sizes .entry)) (now (vars .entry)) (transitionAt n t) uses guard
+        → size ≡ product (sizesOf n (transitionAt n t)) → count ≡ passed n (before n t) → SoughtTold n t size row r) ⌝ }
+    ensures room { λ r. ⌜ SoughtRoom size row count r ⌝ }
+{
+    if 0 < guard {
+        return seek_guarded(s, sizes, vars, uses, guard, size, row, count);
+    }
+    if row - count < size {
+        return Sought::At { index: row - count };
+    }
+    Sought::Past {
+        count: count + size,
+    }
 }
 
 // A binding by its transition and its number there, or none.

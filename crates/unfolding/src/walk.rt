@@ -4,29 +4,28 @@ use net::eval_guard;
 use net_file::bindings_of;
 ghost use mathlib.Core.Path.{_≡_};
 ghost use Prim.Native.Nat.{ℕ, _≤_, _<_, _+_};
-ghost use lib.ListN.{length, set};
+ghost use mathlib.Core.List.{List};
+ghost use lib.ListN.{length, getD, set};
 ghost use Rattle.reading.specs.Basics.{product};
 ghost use Rattle.net.specs.Net.{Net, Transition, variablesOf, sizesOf};
 ghost use Rattle.net.specs.Values.{holds};
 ghost use Rattle.net_file.specs.Limits.{Limits};
-ghost use Rattle.coloured.specs.Effect.{transitionAt, standsFor, bindings};
+ghost use Rattle.coloured.specs.Effect.{transitionAt, standsFor};
 ghost use Rattle.coloured.specs.Numbers.{digits, before};
-ghost use Rattle.unfolding.specs.Walked.{passed, Numbers, Bases, Listed, Tables};
+ghost use Rattle.unfolding.specs.Walked.{passed, entriesAt, entries, Numbers, Starts, Listed, Tables};
 
-// Whether a transition's guard holds in its binding number i. A guard at 0 is none.
+// Whether a transition's guard holds in its binding number i.
 fn passes(s: &[u8], sizes: &[u8], vars: &[u8], uses: u32, guard: u16, i: usize) -> bool
+    requires { ⌜ 1 ≤ guard ⌝ }
     ensures { λ r. ⌜ ((n : Net) (t : Transition) → Limits n → Listed (now (s .entry)) n (now (sizes .entry)) (now (vars .entry)) t uses guard
         → r ≡ holds n (standsFor (variablesOf n t) (digits (sizesOf n t) i)) (t .guard)) ⌝ }
 {
-    if guard < 1 {
-        return true;
-    }
     let mut env = [0u8; 32];
     set_binding(uses, sizes, vars, i, &mut env);
     eval_guard(s, sizes, vars, &env, 16, guard as usize).holds
 }
 
-// How many rows there are with binding number i of a transition, after so many.
+// How many rows there are with binding number i of a transition with a guard, after so many.
 pub fn count_one(
     s: &[u8],
     sizes: &[u8],
@@ -36,6 +35,7 @@ pub fn count_one(
     i: usize,
     count: usize,
 ) -> usize
+    requires { ⌜ 1 ≤ guard ⌝ }
     requires { ⌜ count ≤ 1000000000000 ⌝ }
     ensures is { λ r. ⌜ ((n : Net) (t : ℕ) → Limits n → t < length (n .transitions)
         → Listed (now (s .entry)) n (now (sizes .entry)) (now (vars .entry)) (transitionAt n t) uses guard
@@ -69,7 +69,7 @@ fn store(numbers: &mut [u32], at: usize, number: u32)
     }
 }
 
-// Numbers the bindings of one transition, which stand from base on; it tells how many rows there are with them.
+// Numbers the bindings of a transition with a guard, in the table from base on; it tells how many rows there are with them.
 fn number_those(
     s: &[u8],
     sizes: &[u8],
@@ -81,14 +81,15 @@ fn number_those(
     count: usize,
     numbers: &mut [u32],
 ) -> usize
-    requires { ⌜ count ≤ base ⌝ }
+    requires { ⌜ 1 ≤ guard ⌝ }
     requires { ⌜ base + size ≤ 1000000000000 ⌝ }
-    requires { ⌜ length (now numbers) ≡ 65536 ⌝ }
+    requires { ⌜ count + size ≤ 1000000000000 ⌝ }
     ensures is { λ r. ⌜ ((n : Net) (t : ℕ) → Limits n → t < length (n .transitions)
         → Listed (now (s .entry)) n (now (sizes .entry)) (now (vars .entry)) (transitionAt n t) uses guard
-        → size ≡ product (sizesOf n (transitionAt n t)) → base ≡ before n t → count ≡ passed n base → Numbers n (now (numbers .entry)) base
-        → (r ≡ passed n (base + size)) × Numbers n (now (numbers .exit)) (base + size)) ⌝ }
-    ensures high { λ r. ⌜ r ≤ base + size ⌝ }
+        → size ≡ product (sizesOf n (transitionAt n t)) → count ≡ passed n (before n t) → base + size ≤ length (now (numbers .entry))
+        → (r ≡ passed n (before n t + size)) × Numbers n t (now (numbers .exit)) base size) ⌝ }
+    ensures high { λ r. ⌜ r ≤ count + size ⌝ }
+    ensures same { λ _. ⌜ ((j : ℕ) → j < base → getD (now (numbers .exit)) j 0 ≡ getD (now (numbers .entry)) j 0) ⌝ }
 {
     let mut total = count;
     let mut i: usize = 0;
@@ -101,7 +102,42 @@ fn number_those(
     total
 }
 
-// Numbers all bindings, and tells where those of each transition begin.
+// How many entries a transition has in the table: one for each binding, none without a guard.
+fn entries_of(sizes: &[u8], vars: &[u8], uses: u32, guard: u16) -> usize
+    ensures is { λ r. ⌜ ((s : List ℕ) (n : Net) (t : ℕ) → Limits n → t < length (n .transitions)
+        → Listed s n (now (sizes .entry)) (now (vars .entry)) (transitionAt n t) uses guard → r ≡ entriesAt guard (product (sizesOf n (transitionAt n t)))) ⌝ }
+    ensures small { λ r. ⌜ r ≤ 4228250625 ⌝ }
+{
+    if guard < 1 {
+        return 0;
+    }
+    bindings_of(uses, sizes, vars)
+}
+
+// How many entries the table needs.
+pub fn count_entries(
+    sizes: &[u8],
+    vars: &[u8],
+    uses: &[u32],
+    guards: &[u16],
+    transitions: usize,
+) -> usize
+    requires { ⌜ transitions ≤ 32 ⌝ }
+    requires { ⌜ length (now uses) ≡ 32 ⌝ }
+    requires { ⌜ length (now guards) ≡ 32 ⌝ }
+    ensures { λ r. ⌜ ((s : List ℕ) (n : Net) → Tables s n (now (sizes .entry)) (now (vars .entry)) (now (uses .entry)) (now (guards .entry)) transitions
+        → r ≡ entries n (now (guards .entry)) transitions) ⌝ }
+{
+    let mut total: usize = 0;
+    let mut t: usize = 0;
+    while t < transitions {
+        total += entries_of(sizes, vars, uses[t], guards[t]);
+        t += 1;
+    }
+    total
+}
+
+// Numbers the bindings of all transitions with a guard, and tells where each transition starts: in the table, or without a guard its first row.
 pub fn number_all(
     s: &[u8],
     sizes: &[u8],
@@ -109,35 +145,40 @@ pub fn number_all(
     uses: &[u32],
     guards: &[u16],
     transitions: usize,
-    bases: &mut [usize],
+    starts: &mut [usize],
     numbers: &mut [u32],
 )
     requires { ⌜ transitions ≤ 32 ⌝ }
     requires { ⌜ length (now uses) ≡ 32 ⌝ }
     requires { ⌜ length (now guards) ≡ 32 ⌝ }
-    requires { ⌜ length (now bases) ≡ 32 ⌝ }
-    requires { ⌜ length (now numbers) ≡ 65536 ⌝ }
+    requires { ⌜ length (now starts) ≡ 32 ⌝ }
     ensures { λ _. ⌜ ((n : Net) → Tables (now (s .entry)) n (now (sizes .entry)) (now (vars .entry)) (now (uses .entry)) (now (guards .entry)) transitions
-        → Bases n (now (bases .exit)) transitions × Numbers n (now (numbers .exit)) (length (bindings n))) ⌝ }
+        → entries n (now (guards .entry)) transitions ≤ length (now (numbers .entry))
+        → Starts n (now (guards .entry)) (now (starts .exit)) (now (numbers .exit)) transitions) ⌝ }
 {
     let mut base: usize = 0;
     let mut count: usize = 0;
     let mut t: usize = 0;
     while t < transitions {
-        bases[t] = base;
         let size = bindings_of(uses[t], sizes, vars);
-        count = number_those(
-            s,
-            sizes,
-            vars,
-            uses[t],
-            guards[t],
-            size,
-            base,
-            count,
-            numbers,
-        );
-        base += size;
+        if guards[t] < 1 {
+            starts[t] = count;
+            count += size;
+        } else {
+            starts[t] = base;
+            count = number_those(
+                s,
+                sizes,
+                vars,
+                uses[t],
+                guards[t],
+                size,
+                base,
+                count,
+                numbers,
+            );
+            base += size;
+        }
         t += 1;
     }
 }

@@ -1,5 +1,6 @@
-use Rattle.unfolding.proofs.Replying.{images-13, images-14, images-done}
 use borrow.Author.Needs.{needs}
+use native.Mathlib.Omega.{arith}
+use Rattle.unfolding.proofs.Replying.{images-13, images-14, images-done}
 use Rattle.unfolding.proofs.images_of.Statement.{statement}
 use Rattle.unfolding.proofs.images_of.Tie as tie
 
@@ -10,14 +11,11 @@ images-of-spec =
     (λ c. λ n is tables. images-13 (c .before .before .before .before .before .before .before .before .args .s .now) is (c .before .before .before .before .before .before .before .before .args .orders .now) (c .before .before .before .before .before .before .before .before .args .out .now) (c .if1 .taken))
     (λ c. search needs)
     (λ c. λ n is tables. images-14 (c .before .before .before .before .before .before .before .before .before .args .s .now) is (c .before .before .before .before .before .before .before .before .before .args .orders .now) (c .before .before .before .before .before .before .before .before .before .args .out .now) (c .before .if1 .left) (c .if2 .taken))
-    (λ c. search needs)
-    (λ c. search needs)
+    (λ c κs. search needs)
     (λ c κs. search needs)
     (λ c. search needs)
-    (λ c. search needs)
+    (λ c. λ n is tables. images-done (c .before .before .before .before .before .before .before .before .before .before .before .before .before .before .before .args .s .now) is (c .before .before .before .before .before .before .before .before .before .before .before .before .before .before .before .args .orders .now) (c .before .before .before .before .before .before .before .before .before .before .before .before .before .before .before .args .out .now) (c .before .before .before .before .before .before .before .if1 .left) _ (c .before .before .before .before .before .before .if2 .left)
+    (c .before .before .images-short .ensures n tables (omega (arith, c .before .before .before .before .if3 .taken, c .before .before .before .before .before .count-entries .ensures (c .before .before .before .before .before .before .before .before .before .before .before .before .before .before .before .args .s .now) n tables))))
     (λ c κs. search needs)
     (λ c. search needs)
-    (λ c. λ n is tables.
-    let walked = c .before .before .before .before .before .before .before .before .number-all .ensures n tables in
-    images-done (c .before .before .before .before .before .before .before .before .before .before .before .before .before .before .before .before .before .before .before .before .args .s .now) is (c .before .before .before .before .before .before .before .before .before .before .before .before .before .before .before .before .before .before .before .before .args .orders .now) (c .before .before .before .before .before .before .before .before .before .before .before .before .before .before .before .before .before .before .before .before .args .out .now) (c .before .before .before .before .before .before .before .before .before .before .before .before .if1 .left) _ (c .before .before .before .before .before .before .before .before .before .before .before .if2 .left)
-    (c .before .before .write-images .ensures (c .before .before .before .before .before .before .before .before .before .before .before .before .before .before .before .before .before .before .before .before .args .s .now) (c .before .before .before .before .before .before .before .before .before .before .before .before .before .before .before .before .before .before .before .before .args .guards .now) n tables (walked .0) (walked .1))))
+    (λ c. λ n is tables. images-done (c .before .before .before .before .before .before .before .before .before .before .before .before .before .before .before .args .s .now) is (c .before .before .before .before .before .before .before .before .before .before .before .before .before .before .before .args .orders .now) (c .before .before .before .before .before .before .before .before .before .before .before .before .before .before .before .args .out .now) (c .before .before .before .before .before .before .before .if1 .left) _ (c .before .before .before .before .before .before .if2 .left) (c .before .before .images-long .ensures n tables)))

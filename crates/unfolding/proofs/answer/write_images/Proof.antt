@@ -5,20 +5,19 @@ use mathlib.Core.List.{List}
 use Prim.Native.Nat.{ℕ, _≤_, _+_, _*_, _-_}
 use lib.ListN.{length}
 use Rattle.net.specs.Net.{Net}
-use Rattle.coloured.specs.Effect.{bindings}
-use Rattle.unfolding.specs.Walked.{Numbers, Bases, Tables}
+use Rattle.unfolding.specs.Walked.{Starts, Tables}
 use Rattle.unfolding.proofs.Appending.{go-begin}
 use Rattle.unfolding.proofs.Imaging.{Imaging, image-next, image-end}
 use Rattle.unfolding.proofs.answer.write_images.Statement.{statement}
 use Rattle.unfolding.proofs.answer.write_images.Tie as tie
 
 abbrev Inv-loop : tie.InvT-loop
-Inv-loop sizes vars uses transitions bases numbers orders out₀ count next₀ i₀ out next i =
+Inv-loop sizes vars uses guards transitions starts numbers orders out₀ count next₀ i₀ out next i =
     (i ≤ count) × (next ≡ i * 5) × (length out ≡ length out₀)
-    × ((s guards : List ℕ) (n : Net) → Tables s n sizes vars uses guards transitions → Bases n bases transitions → Numbers n numbers (length (bindings n)) → Imaging n orders out₀ out i next)
+    × ((s : List ℕ) (n : Net) → Tables s n sizes vars uses guards transitions → Starts n guards starts numbers transitions → Imaging n orders out₀ out i next)
 
 abbrev μ-loop : tie.MeasureT-loop
-μ-loop sizes vars uses transitions bases numbers orders out₀ count next₀ i₀ out next i = count - i
+μ-loop sizes vars uses guards transitions starts numbers orders out₀ count next₀ i₀ out next i = count - i
 
 pub write-images-spec : {M : Type 1} → statement M
 write-images-spec =
@@ -26,7 +25,7 @@ write-images-spec =
     (tie.spec
     Inv-loop
     μ-loop
-    (λ c. (omega arith, omega arith, refl, λ s guards n tables starts held. go-begin _ _ _ _))
+    (λ c. (omega arith, omega arith, refl, λ s n tables held. go-begin _ _ _ _))
     (λ c κs. search needs)
     (λ c κs. omega arith)
     (λ c. omega arith)
@@ -35,8 +34,8 @@ write-images-spec =
       omega arith,
       (let e : c .before .before .write-image .result ≡ c .before .before .before .before .before .before .loop .next + 5 = c .before .before .write-image .ensures .next-is in omega arith),
       c .before .before .write-image .kept .1 .0 ∙ c .before .before .before .before .before .before .loop .inv .2,
-      λ s guards n tables starts held.
-          image-next n (c .before .before .before .before .before .before .before .before .before .before .before .before .before .before .args .orders .now) (c .before .before .before .before .before .before .loop .inv .3 s guards n tables starts held) (c .before .before .before .before .before .loop-test .taken) (c .before .before .before .before .row-of .ensures s guards n tables starts held) (c .before .before .write-image .ensures),
+      λ s n tables held.
+          image-next n (c .before .before .before .before .before .before .before .before .before .before .before .before .before .before .before .args .orders .now) (c .before .before .before .before .before .before .loop .inv .3 s n tables held) (c .before .before .before .before .before .loop-test .taken) (c .before .before .before .before .row-of .ensures s n tables held) (c .before .before .write-image .ensures),
     ))
     (λ c. c .before .loop .inv .2)
-    (λ c. λ s guards n tables starts held. image-end n (c .before .before .before .before .before .before .before .before .before .args .orders .now) (c .before .loop .inv .3 s guards n tables starts held) (c .loop-test .left)))
+    (λ c. λ s n tables held. image-end n (c .before .before .before .before .before .before .before .before .before .before .args .orders .now) (c .before .loop .inv .3 s n tables held) (c .loop-test .left)))

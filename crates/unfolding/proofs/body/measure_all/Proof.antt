@@ -29,7 +29,7 @@ measure-all-spec =
     (λ c κs. search needs)
     (λ c κs. search needs)
     (λ c κs. (
-      (c .before .before .before .before .before .before .before .before .before .before .before .before .before .before .before .before .pre .0 .0, omega (arith, c .before .before .before .before .before .before .before .before .before .before .before .before .before .before .before .before .pre .0 .1, c .before .before .before .before .loop-test .taken), omega (arith, c .before .before .before .before .before .before .before .before .before .before .before .before .before .before .before .before .pre .0 .2, c .before .before .before .before .before .loop .inv .2), omega (arith, c .before .before .before .before .before .before .before .before .before .before .before .before .before .before .before .before .pre .0 .3, c .before .before .before .before .before .loop .inv .3), c .before .before .bindings-of .ensures .1 .1),
+      (c .before .before .before .before .before .before .before .before .before .before .before .before .before .before .before .before .pre .0 .0, omega (arith, c .before .before .before .before .before .before .before .before .before .before .before .before .before .before .before .before .pre .0 .1, c .before .before .before .before .loop-test .taken), λ n read. omega (arith, c .before .before .before .before .before .before .before .before .before .before .before .before .before .before .before .before .pre .0 .2 n read, c .before .before .before .before .before .loop .inv .2), λ n read. omega (arith, c .before .before .before .before .before .before .before .before .before .before .before .before .before .before .before .before .pre .0 .3 n read, c .before .before .before .before .before .loop .inv .3), c .before .before .bindings-of .ensures .1 .1),
       record { net = c .before .before .before .before .before .before .before .before .before .before .before .before .before .before .before .before .pre .1 .0; transitions = c .before .before .before .before .before .before .before .before .before .before .before .before .before .before .before .before .args .transitions; ready = c .before .before .before .before .before .before .before .before .before .before .before .before .before .before .before .before .pre .1 .1; stands = c .before .before .before .before .loop-test .taken },
     ))
     (λ c. omega (arith, c .before .before .before .before .measure-bindings .ensures .1, c .before .before .before .before .before .before .before .before .before .before .loop .inv .1, c .before .before .before .before .before .before .before .before .before .loop-test .taken, c .before .before .before .before .before .before .before .before .before .before .before .before .before .before .before .before .before .before .before .before .before .pre .0 .1))

@@ -23,7 +23,7 @@ measure-bindings-spec =
     Inv-loop
     μ-loop
     (λ c. (omega arith, omega arith, refl, refl, λ n transitions ready lt. measure-begins (bindingBytes n (c .before .before .before .before .before .before .before .before .before .before .args .t)) (c .before .before .before .before .before .before .before .before .before .before .args .many) 0))
-    (λ c κs. ((c .before .before .before .before .before .before .before .before .before .before .before .before .before .before .pre .0 .0, c .before .before .before .before .before .before .before .before .before .before .before .before .before .before .pre .0 .1, omega (arith, c .before .before .before .before .before .before .before .before .before .before .before .before .before .before .pre .0 .2, c .before .before .before .loop .inv .2), omega (arith, c .before .before .before .before .before .before .before .before .before .before .before .before .before .before .pre .0 .3, c .before .before .before .loop .inv .3)), c .before .before .before .before .before .before .before .before .before .before .before .before .before .before .pre .1))
+    (λ c κs. ((c .before .before .before .before .before .before .before .before .before .before .before .before .before .before .pre .0 .0, c .before .before .before .before .before .before .before .before .before .before .before .before .before .before .pre .0 .1, λ n read. omega (arith, c .before .before .before .before .before .before .before .before .before .before .before .before .before .before .pre .0 .2 n read, c .before .before .before .loop .inv .2), λ n read. omega (arith, c .before .before .before .before .before .before .before .before .before .before .before .before .before .before .pre .0 .3 n read, c .before .before .before .loop .inv .3)), c .before .before .before .before .before .before .before .before .before .before .before .before .before .before .pre .1))
     (λ c. omega (arith, c .before .before .before .before .measure-one .ensures .1, c .before .before .before .before .before .before .before .before .loop .inv .1, c .before .before .before .before .before .before .before .before .before .before .before .before .before .before .before .before .before .before .before .pre .0 .4))
     (λ c. omega arith)
     (λ c. omega arith)

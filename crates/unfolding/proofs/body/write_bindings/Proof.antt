@@ -34,7 +34,7 @@ write-bindings-spec =
       λ n transitions ready lt. write-begins (bindingBytes n (c .before .before .before .before .before .before .before .before .before .before .before .args .t)) (c .before .before .before .before .before .before .before .before .before .before .before .args .many) _ (c .before .before .before .before .before .before .before .before .before .before .before .args .at),
     ))
     (λ c κs. (
-      (c .before .before .before .before .before .before .before .before .before .before .before .before .before .before .before .before .pre .0 .0, c .before .before .before .before .before .before .before .before .before .before .before .before .before .before .before .before .pre .0 .1, omega (arith, c .before .before .before .before .before .before .before .before .before .before .before .before .before .before .before .before .pre .0 .2, c .before .before .before .before .loop .inv .1), omega (arith, c .before .before .before .before .before .before .before .before .before .before .before .before .before .before .before .before .pre .0 .3, c .before .before .before .before .loop .inv .2)),
+      (c .before .before .before .before .before .before .before .before .before .before .before .before .before .before .before .before .pre .0 .0, c .before .before .before .before .before .before .before .before .before .before .before .before .before .before .before .before .pre .0 .1, λ n read. omega (arith, c .before .before .before .before .before .before .before .before .before .before .before .before .before .before .before .before .pre .0 .2 n read, c .before .before .before .before .loop .inv .1), λ n read. omega (arith, c .before .before .before .before .before .before .before .before .before .before .before .before .before .before .before .before .pre .0 .3 n read, c .before .before .before .before .loop .inv .2)),
       (
         c .before .before .before .before .before .before .before .before .before .before .before .before .before .before .before .before .pre .1 .0,
         λ n transitions ready lt. omega (arith, measure-rest (bindingBytes n (c .before .before .before .before .before .before .before .before .before .before .before .before .before .before .before .before .args .t)) (c .before .before .before .before .before .before .before .before .before .before .before .before .before .before .before .before .args .many) (c .before .before .before .before .before .before .before .before .before .before .before .before .before .before .before .before .args .at) (c .before .before .before .before .loop .inv .4 n transitions ready lt) (c .before .before .before .loop-test .taken), c .before .before .before .before .loop .inv .3, c .before .before .before .before .before .before .before .before .before .before .before .before .before .before .before .before .pre .1 .1 n transitions ready lt),

@@ -3,22 +3,23 @@ use native.Mathlib.Omega.{arith}
 use native.Mathlib.Nat.{add-zero}
 use mathlib.Core.Path.{_≡_, refl, _∙_, subst}
 use Prim.Native.Nat.{ℕ, _≤_, _<_, _+_, _-_}
-use lib.ListN.{length}
+use lib.ListN.{length, getD}
 use Rattle.reading.specs.Basics.{product}
 use Rattle.net.specs.Net.{Net, sizesOf}
 use Rattle.net_file.specs.Limits.{Limits}
 use Rattle.coloured.specs.Effect.{transitionAt}
 use Rattle.coloured.specs.Numbers.{before}
 use Rattle.unfolding.specs.Walked.{passed, Numbers, Listed}
-use Rattle.unfolding.proofs.Tabled.{number-turn}
+use Rattle.unfolding.proofs.Tabled.{number-none, number-turn, same-below}
 use Rattle.unfolding.proofs.walk.number_those.Statement.{statement}
 use Rattle.unfolding.proofs.walk.number_those.Tie as tie
 
 abbrev Inv-loop : tie.InvT-loop
 Inv-loop s sizes vars uses guard size base count numbers₀ total₀ i₀ numbers total i =
-    (i ≤ size) × (total ≤ base + i) × (length numbers ≡ length numbers₀)
+    (i ≤ size) × (total ≤ count + i) × (length numbers ≡ length numbers₀)
     × ((n : Net) (t : ℕ) → Limits n → t < length (n .transitions) → Listed s n sizes vars (transitionAt n t) uses guard → size ≡ product (sizesOf n (transitionAt n t))
-    → base ≡ before n t → count ≡ passed n base → Numbers n numbers₀ base → (total ≡ passed n (base + i)) × Numbers n numbers (base + i))
+    → count ≡ passed n (before n t) → base + size ≤ length numbers₀ → (total ≡ passed n (before n t + i)) × Numbers n t numbers base i)
+    × ((j : ℕ) → j < base → getD numbers j 0 ≡ getD numbers₀ j 0)
 
 abbrev μ-loop : tie.MeasureT-loop
 μ-loop s sizes vars uses guard size base count numbers₀ total₀ i₀ numbers total i = size - i
@@ -29,7 +30,7 @@ number-those-spec =
     (tie.spec
     Inv-loop
     μ-loop
-    (λ c. (omega arith, omega arith, refl, λ n t limits lt listed is b rows held. rw add-zero (rows, held)))
+    (λ c. (omega arith, omega arith, refl, (λ n t limits lt listed is rows room. (rw add-zero rows, number-none n t _ _)), λ j lt. refl))
     (λ c κs. search needs)
     (λ c. omega arith)
     (λ c κs. search needs)
@@ -40,13 +41,14 @@ number-those-spec =
       omega arith,
       omega arith,
       c .before .before .store .kept .0 ∙ c .before .before .before .before .before .before .before .loop .inv .2,
-      λ n t limits lt listed is b rows held.
-          number-turn n t limits lt (c .before .before .before .before .before .before .loop-test .taken) is b (c .before .before .before .before .before .before .before .loop .inv .3 n t limits lt listed is b rows held) (c .before .before .before .before .before .count-one .ensures .0 n t limits lt listed)
-          (c .before .before .before .number-of .ensures .0) (c .before .before .before .number-of .ensures .1) (omega arith) (c .before .before .store .ensures),
+      (λ n t limits lt listed is rows room.
+          number-turn n t limits lt (c .before .before .before .before .before .before .loop-test .taken) is (omega (arith, c .before .before .before .before .before .before .before .loop .inv .2)) (c .before .before .before .before .before .before .before .loop .inv .3 n t limits lt listed is rows room) (c .before .before .before .before .before .count-one .ensures .0 n t limits lt listed)
+          (c .before .before .before .number-of .ensures .0) (c .before .before .before .number-of .ensures .1) (c .before .before .store .ensures)),
+      λ j lt. same-below (c .before .before .before .before .before .before .before .loop .numbers) (c .before .before .before .before .before .before .before .before .before .before .before .before .args .base) (c .before .before .before .before .before .before .before .loop .i) j (c .before .before .before .number-of .result) (c .before .before .store .ensures) lt ∙ c .before .before .before .before .before .before .before .loop .inv .4 j lt,
     ))
     (λ c. c .before .loop .inv .2)
     (λ c. (
-      λ n t limits lt listed is b rows held. subst (λ k. (c .before .loop .total ≡ passed n (c .before .before .before .before .before .before .args .base + k)) × Numbers n (c .before .loop .numbers) (c .before .before .before .before .before .before .args .base + k))
-          (let e : c .before .loop .i ≡ c .before .before .before .before .before .before .args .size = omega arith in e) (c .before .loop .inv .3 n t limits lt listed is b rows held),
-      omega arith,
+      (λ n t limits lt listed is rows room. subst (λ k. (c .before .loop .total ≡ passed n (before n t + k)) × Numbers n t (c .before .loop .numbers) (c .before .before .before .before .before .before .args .base) k)
+          (let e : c .before .loop .i ≡ c .before .before .before .before .before .before .args .size = omega arith in e) (c .before .loop .inv .3 n t limits lt listed is rows room)),
+      (omega arith, c .before .loop .inv .4),
     )))

@@ -1,0 +1,15 @@
+use borrow.Author.Needs.{needs}
+use native.Mathlib.Omega.{arith}
+use Rattle.coloured.proofs.Readied.{most-room}
+use Rattle.unfolding.proofs.call.write_large.Statement.{statement}
+use Rattle.unfolding.proofs.call.write_large.Tie as tie
+
+pub write-large-spec : {M : Type 1} → statement M
+write-large-spec =
+    tie.close
+    (tie.spec
+    (λ c. search needs)
+    (λ c. search needs)
+    (λ c κs. ((c .before .before .before .before .before .before .before .before .before .before .before .before .before .pre .0 .0, c .before .before .before .before .before .before .before .before .before .before .before .before .before .pre .0 .1, c .before .before .before .before .before .before .before .before .before .before .before .before .before .pre .0 .2, c .before .before .before .before .before .before .before .before .before .before .before .before .before .pre .0 .3, λ n read. omega (arith, most-room (c .before .before .before .before .before .before .before .before .before .before .before .before .before .args .s .now) n read), λ n read. omega (arith, most-room (c .before .before .before .before .before .before .before .before .before .before .before .before .before .args .s .now) n read)), c .before .before .before .before .before .before .before .before .before .before .before .before .before .pre .1))
+    (λ c. search needs)
+    (λ c. search needs))
