@@ -149,15 +149,18 @@ same-accepted e f = cc
 module _ {s : List ℕ} {n : Net} {sizes vars seconds starts uses guards arcs : List ℕ} {count transitions : ℕ}
     (ready : Ready s n sizes vars seconds starts uses guards arcs count transitions) where
   -- as many bindings as the code counts are all that a transition has
-  pub all-given : (t : ℕ) → t < transitions → {u many : ℕ} → u ≡ getD uses t 0
-      → ((m : Net) (p : ℕ → Bool) → m .sets ≡ sizes → m .variables ≡ vars → length (m .variables) ≤ 32 → u ≡ bits p 32
-      → length (keep p (below (length (m .variables)))) ≤ 4 → many ≡ product (map (λ v. sizeOf m (getD (m .variables) v 0)) (keep p (below (length (m .variables))))))
-      → flatMap (bindingBytes n t) (below many) ≡ transitionBytes n t
-  unfolding transitionBytes variablesOf
-  all-given t lt e told =
-      let inside : t < length (n .transitions) = omega (arith, ready .transitions-are) in
-      ap (λ k. flatMap (bindingBytes n t) (below k))
-      (told n (λ v. inTransition v (transitionAt n t)) (ready .drawing .sets) (ready .drawing .variables) (limited ready .variables) (e ∙ ready .used t inside) (limited ready .few-variables t inside))
+  module _ (t : ℕ) (lt : t < transitions) {u many : ℕ} (e : u ≡ getD uses t 0)
+      (told : (m : Net) (p : ℕ → Bool) → m .sets ≡ sizes → m .variables ≡ vars → length (m .variables) ≤ 32 → u ≡ bits p 32
+      → length (keep p (below (length (m .variables)))) ≤ 4 → many ≡ product (map (λ v. sizeOf m (getD (m .variables) v 0)) (keep p (below (length (m .variables)))))) where
+    pub all-many : many ≡ product (sizesOf n (transitionAt n t))
+    unfolding variablesOf
+    all-many =
+        let inside : t < length (n .transitions) = omega (arith, ready .transitions-are) in
+        told n (λ v. inTransition v (transitionAt n t)) (ready .drawing .sets) (ready .drawing .variables) (limited ready .variables) (e ∙ ready .used t inside) (limited ready .few-variables t inside)
+
+    pub all-given : flatMap (bindingBytes n t) (below many) ≡ transitionBytes n t
+    unfolding transitionBytes
+    all-given = ap (λ k. flatMap (bindingBytes n t) (below k)) all-many
 
   -- the tables are those of one net
   pub same-count : {m : Net} {j : ℕ} → Ready s m sizes vars seconds starts uses guards arcs count j → Ready s m sizes vars seconds starts uses guards arcs count transitions

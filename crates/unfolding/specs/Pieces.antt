@@ -1,8 +1,9 @@
 -- The bytes of the rows, binding by binding; and what the code that measures and writes them knows of the net.
 use mathlib.Core.Path.{_≡_}
 use Prim.Native.Nat.{_≤_, _<_}
-use Rattle.reading.specs.Basics.{ℕ, List, [], flatMap, length, take, given, below, product}
+use Rattle.reading.specs.Basics.{ℕ, List, [], flatMap, some, length, take, given, below, product}
 use Rattle.reading.specs.Reading.{accepted}
+use Rattle.firing.specs.Firing.{Weights}
 use Rattle.firing.specs.Arcs.{rowOf}
 use Rattle.flat.specs.Flat.{rowBytes}
 use Rattle.net.specs.Net.{Net, sizesOf, flatPlaceCount}
@@ -19,6 +20,10 @@ bindingBytes n t i = given (effect n (numbered n t i)) [] λ w. rowBytes (rowOf 
 -- what all its bindings give
 unfoldable pub transitionBytes : Net → ℕ → List ℕ
 transitionBytes n t = flatMap (bindingBytes n t) (below (product (sizesOf n (transitionAt n t))))
+
+-- each row of a transition has so many bytes
+abbrev pub RowsLong : Net → ℕ → ℕ → Type 0
+RowsLong n t row = (i : ℕ) (w : Weights) → i < product (sizesOf n (transitionAt n t)) → effect n (numbered n t i) ≡ some w → length (rowBytes (rowOf (flatPlaceCount n) w)) ≡ row
 
 -- the tables are those of a net, which has transition t
 pub record Known (s sizes vars seconds starts uses guards arcs : List ℕ) (count t : ℕ) : Type 0 where

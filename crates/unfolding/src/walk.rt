@@ -15,7 +15,7 @@ ghost use Rattle.coloured.specs.Numbers.{digits, before};
 ghost use Rattle.unfolding.specs.Walked.{passed, entriesAt, entries, Numbers, Starts, Listed, Tables};
 
 // Whether a transition's guard holds in its binding number i.
-fn passes(s: &[u8], sizes: &[u8], vars: &[u8], uses: u32, guard: u16, i: usize) -> bool
+pub fn passes(s: &[u8], sizes: &[u8], vars: &[u8], uses: u32, guard: u16, i: usize) -> bool
     requires { ⌜ 1 ≤ guard ⌝ }
     ensures { λ r. ⌜ ((n : Net) (t : Transition) → Limits n → Listed (now (s .entry)) n (now (sizes .entry)) (now (vars .entry)) t uses guard
         → r ≡ holds n (standsFor (variablesOf n t) (digits (sizesOf n t) i)) (t .guard)) ⌝ }
