@@ -5,9 +5,9 @@ ghost use mathlib.Core.Path.{_≡_};
 ghost use mathlib.Core.List.{List, []};
 ghost use Prim.Native.Nat.{ℕ, _≤_, _<_, _+_, _^_};
 ghost use lib.ListN.{length};
-ghost use Rattle.reading.specs.Basics.{if_then_else_};
+ghost use Rattle.reading.specs.Basics.{if_then_else_, ltb, eqb};
 ghost use Rattle.net.specs.Net.{net, Place, equal, less};
-ghost use Rattle.net.specs.Reader.{readColour, readGuard, readGuardIf, comparison, amount};
+ghost use Rattle.net.specs.Reader.{readColour, readGuard, comparison, amount};
 ghost use Rattle.net.specs.Evaluated.{Valued, Held, Ranks, placeBy, after, before};
 
 // The colour that an expression means, its set, and the place after it.
@@ -39,9 +39,9 @@ fn before_in(size: u8, c: u16) -> u16
 }
 
 // The colour expression at a place, with so many levels left. The file and the tables are handed on by address.
-fn colour_at(s: &&[u8], sizes: &&[u8], vars: &&[u8], env: &&[u8], left: u8, at: usize) -> Value
+fn colour_at(s: &&[u8], sizes: &&[u8], vars: &&[u8], env: &[u8; 32], left: u8, at: usize) -> Value
     requires { ⌜ length (now (now s)) < 2 ^ 63 ⌝ }
-    ensures is { λ r. ⌜ ((places : List Place) → Valued (net (now (now (sizes .entry))) (now (now (vars .entry))) places [] []) (now (now (env .entry))) r
+    ensures is { λ r. ⌜ ((places : List Place) → Valued (net (now (now (sizes .entry))) (now (now (vars .entry))) places [] []) (now (env .entry)) r
         (readColour (now (now (s .entry))) (net (now (now (sizes .entry))) (now (now (vars .entry))) places [] []) left at)) ⌝ }
     ensures small { λ r. ⌜ r .colour ≤ 255 + left ⌝ }
 {
@@ -57,7 +57,7 @@ fn colour_at(s: &&[u8], sizes: &&[u8], vars: &&[u8], env: &&[u8], left: u8, at: 
     if b == 0x30 {
         let v = entry(file, at + 1) as usize;
         return Value {
-            colour: entry(*env, v) as u16,
+            colour: entry(env, v) as u16,
             set: entry(*vars, v),
             next: at + 2,
         };
@@ -98,39 +98,56 @@ pub struct Tested {
     pub next: usize,
 }
 
-// Two colours one after the other, compared: for less, or for equal.
+// Whether a colour is less than another, or equal to it.
+fn compares(lesser: bool, x: u16, y: u16) -> bool
+    ensures { λ r. ⌜ r ≡ (if lesser then ltb x y else eqb x y) ⌝ }
+{
+    if lesser { x < y } else { x == y }
+}
+
+// Two colours one after the other, compared: for less, or for equal. Two variables are compared at once.
 fn compared_at(
     s: &&[u8],
     sizes: &&[u8],
     vars: &&[u8],
-    env: &&[u8],
+    env: &[u8; 32],
     lesser: bool,
     left: u8,
     next: usize,
 ) -> Tested
     requires { ⌜ length (now (now s)) < 2 ^ 63 ⌝ }
-    ensures { λ r. ⌜ ((places : List Place) (at : ℕ) → Held (net (now (now (sizes .entry))) (now (now (vars .entry))) places [] []) (now (now (env .entry))) r
+    ensures { λ r. ⌜ ((places : List Place) (at : ℕ) → Held (net (now (now (sizes .entry))) (now (now (vars .entry))) places [] []) (now (env .entry)) r
         (comparison (net (now (now (sizes .entry))) (now (now (vars .entry))) places [] [])
         (readColour (now (now (s .entry))) (net (now (now (sizes .entry))) (now (now (vars .entry))) places [] []) left) (if lesser then less else equal) at next)) ⌝ }
 {
+    let file = *s;
+    if next < file.len() {
+        if 3 < file.len() - next {
+            let second = next + 2;
+            if file[next] == 0x30 {
+                if file[second] == 0x30 {
+                    let x = entry(env, file[next + 1] as usize);
+                    let y = entry(env, file[second + 1] as usize);
+                    return Tested {
+                        holds: compares(lesser, x as u16, y as u16),
+                        next: second + 2,
+                    };
+                }
+            }
+        }
+    }
     let a = colour_at(s, sizes, vars, env, left, next);
     let b = colour_at(s, sizes, vars, env, left, a.next);
-    if lesser {
-        return Tested {
-            holds: a.colour < b.colour,
-            next: b.next,
-        };
-    }
     Tested {
-        holds: a.colour == b.colour,
+        holds: compares(lesser, a.colour, b.colour),
         next: b.next,
     }
 }
 
 // The guard at a place, with so many levels left.
-fn guard_at(s: &&[u8], sizes: &&[u8], vars: &&[u8], env: &&[u8], left: u8, at: usize) -> Tested
+fn guard_at(s: &&[u8], sizes: &&[u8], vars: &&[u8], env: &[u8; 32], left: u8, at: usize) -> Tested
     requires { ⌜ length (now (now s)) < 2 ^ 63 ⌝ }
-    ensures { λ r. ⌜ ((places : List Place) → Held (net (now (now (sizes .entry))) (now (now (vars .entry))) places [] []) (now (now (env .entry))) r
+    ensures { λ r. ⌜ ((places : List Place) → Held (net (now (now (sizes .entry))) (now (now (vars .entry))) places [] []) (now (env .entry)) r
         (readGuard (now (now (s .entry))) (net (now (now (sizes .entry))) (now (now (vars .entry))) places [] []) left at)) ⌝ }
 {
     let file = *s;
@@ -189,31 +206,18 @@ fn guard_at(s: &&[u8], sizes: &&[u8], vars: &&[u8], env: &&[u8], left: u8, at: u
 }
 
 // The same, of a guard in a file.
-pub fn eval_guard(s: &[u8], sizes: &[u8], vars: &[u8], env: &[u8], left: u8, at: usize) -> Tested
+pub fn eval_guard(
+    s: &[u8],
+    sizes: &[u8],
+    vars: &[u8],
+    env: &[u8; 32],
+    left: u8,
+    at: usize,
+) -> Tested
     ensures { λ r. ⌜ ((places : List Place) → Held (net (now (sizes .entry)) (now (vars .entry)) places [] []) (now (env .entry)) r
         (readGuard (now (s .entry)) (net (now (sizes .entry)) (now (vars .entry)) places [] []) left at)) ⌝ }
 {
-    guard_at(&s, &sizes, &vars, &env, left, at)
-}
-
-// The guard of a transition: 0x15 and a guard, or true.
-pub fn eval_guard_if(s: &[u8], sizes: &[u8], vars: &[u8], env: &[u8], at: usize) -> Tested
-    ensures { λ r. ⌜ ((places : List Place) → Held (net (now (sizes .entry)) (now (vars .entry)) places [] []) (now (env .entry)) r
-        (readGuardIf (now (s .entry)) (net (now (sizes .entry)) (now (vars .entry)) places [] []) at)) ⌝ }
-{
-    if s.len() <= at {
-        return Tested {
-            holds: true,
-            next: at,
-        };
-    }
-    if s[at] == 0x15 {
-        return eval_guard(s, sizes, vars, env, 16, at + 1);
-    }
-    Tested {
-        holds: true,
-        next: at,
-    }
+    guard_at(&s, &sizes, &vars, env, left, at)
 }
 
 // A rank, and the place after an expression.
@@ -227,13 +231,13 @@ fn rank_at(
     s: &&[u8],
     sizes: &&[u8],
     vars: &&[u8],
-    env: &&[u8],
+    env: &[u8; 32],
     paired: bool,
     left: u8,
     next: usize,
 ) -> Ranked
     requires { ⌜ length (now (now s)) < 2 ^ 63 ⌝ }
-    ensures { λ r. ⌜ ((places : List Place) (first second count at : ℕ) → Ranks (net (now (now (sizes .entry))) (now (now (vars .entry))) places [] []) (now (now (env .entry))) count r
+    ensures { λ r. ⌜ ((places : List Place) (first second count at : ℕ) → Ranks (net (now (now (sizes .entry))) (now (now (vars .entry))) places [] []) (now (env .entry)) count r
         (amount (net (now (now (sizes .entry))) (now (now (vars .entry))) places [] [])
         (readColour (now (now (s .entry))) (net (now (now (sizes .entry))) (now (now (vars .entry))) places [] []) left) (placeBy paired first second) count at next)) ⌝ }
 {
@@ -257,7 +261,7 @@ pub fn eval_rank(
     s: &[u8],
     sizes: &[u8],
     vars: &[u8],
-    env: &[u8],
+    env: &[u8; 32],
     paired: bool,
     left: u8,
     next: usize,
@@ -266,5 +270,5 @@ pub fn eval_rank(
         (amount (net (now (sizes .entry)) (now (vars .entry)) places [] [])
         (readColour (now (s .entry)) (net (now (sizes .entry)) (now (vars .entry)) places [] []) left) (placeBy paired first second) count at next)) ⌝ }
 {
-    rank_at(&s, &sizes, &vars, &env, paired, left, next)
+    rank_at(&s, &sizes, &vars, env, paired, left, next)
 }

@@ -13,16 +13,16 @@ use Rattle.net.proofs.evaluate.before_in.Reads as before-in-reads
 use Rattle.net.proofs.evaluate.+colour_at.{statement}
 use Rattle.net.proofs.evaluate.+colour_at.Tie.{close}
 
-abbrev μ-colour-at : Measures 8 colour-at-kinds.ps ℕ
+abbrev μ-colour-at : Measures 7 colour-at-kinds.ps ℕ
 μ-colour-at κs a = a .1 .1 .1 .1 .0
 
-abbrev colour-at-at : ℕ → In 8 colour-at-kinds.ps
+abbrev colour-at-at : ℕ → In 7 colour-at-kinds.ps
 colour-at-at t =
-    and 8 colour-at-kinds.ps (is 8 colour-at-kinds.ps μ-colour-at t) colour-at.Pre
+    and 7 colour-at-kinds.ps (is 7 colour-at-kinds.ps μ-colour-at t) colour-at.Pre
 
-abbrev colour-at-below : ℕ → In 8 colour-at-kinds.ps
+abbrev colour-at-below : ℕ → In 7 colour-at-kinds.ps
 colour-at-below t =
-    and 8 colour-at-kinds.ps (falls 8 colour-at-kinds.ps _<_ μ-colour-at t) colour-at.Pre
+    and 7 colour-at-kinds.ps (falls 7 colour-at-kinds.ps _<_ μ-colour-at t) colour-at.Pre
 
 pub +colour-at-spec : {M : Type 1} → statement M
 +colour-at-spec = close μ-colour-at λ t. colour-at-lts.spec (
