@@ -4,15 +4,30 @@ use native.Mathlib.Omega.{arith}
 use Prim.Native.Nat.{_≤_}
 use native.Mathlib.Decide.{decLt}
 use borrow.Author.Needs.{zero≤}
-use borrow.Author.Tests.{lt-ltb, le-ltb}
-use Rattle.reading.specs.Basics.{ℕ, zero, suc, _+_, _<_, Bool, true, false, _&&_, List, _∷_, getD, ltb, leb, find, any}
+use borrow.Author.Tests.{lt-ltb, le-ltb, leb-true, leb-false}
+use Rattle.reading.specs.Basics.{ℕ, zero, suc, _+_, _<_, Bool, true, false, _&&_, List, _∷_, length, getD, ltb, leb, find, any}
 use Rattle.firing.specs.Arcs.{Arc, Rising, none, more, weightIn, arcsIn}
-use Rattle.firing.specs.Steps.{arcAt, spilling, changedBy, changed, Sought}
+use Rattle.firing.specs.Steps.{Within, EndsWithin, told, arcAt, spilling, changedBy, changed, Sought}
 use Rattle.firing.proofs.Rows.{arcs-more, arcs-none, weight-hit, weight-skip, weight-below}
 
 -- the first of rising arcs, and the rest
 rise-first : {n from : ℕ} {a : Arc} {l : List Arc} → Rising n from (a ∷ l) → (from ≤ a .place) × Rising n (a .place + 1) l
 rise-first (more f k w r) = (f, r)
+
+-- ---- room in two lent lists
+module _ (places weights : List ℕ) where
+  -- the second reaches to an end where the first does, or not
+  pub reaches : (end : ℕ) → end ≤ length places → told (Within places weights end) (leb end (length weights))
+  reaches end h = go (leb end (length weights)) refl
+    where
+      go : (t : Bool) → leb end (length weights) ≡ t → told (Within places weights end) t
+      go true e = (h, leb-true end (length weights) e)
+      go false e = λ w. let l = leb-false end (length weights) e in omega (arith, l, w)
+
+  -- a row lies there where its kinds end in turn, and both reach to its end
+  pub lies : (takes puts hinders : ℕ) → takes ≤ puts → puts ≤ hinders → (t : Bool) → told (Within places weights hinders) t → told (EndsWithin places weights takes puts hinders) t
+  lies takes puts hinders f g true h = (f, g, h)
+  lies takes puts hinders f g false h = λ w. h (w .2)
 
 -- the arc number i, of those that end at b
 module _ (places weights : List ℕ) (b i : ℕ) where

@@ -1,10 +1,25 @@
 -- Firing arc by arc: the three tests, and the change.
-use Rattle.reading.specs.Basics.{ℕ, _+_, _-_, _%_, Bool, _&&_, List, [], _∷_, getD, ltb, leb}
+use Rattle.reading.specs.Basics.{ℕ, _+_, _-_, _%_, Bool, true, false, _&&_, List, [], _∷_, length, getD, ltb, leb}
 use mathlib.Core.Path.{_≡_}
 use Prim.Native.Nat.{_≤_, _<_}
 use lib.ListN.{set}
 use Rattle.firing.specs.Arcs.{Arc, weightIn, arcsIn}
 
+-- ---- room in two lent lists, one of places and one of weights
+-- both reach to an end
+abbrev pub Within : List ℕ → List ℕ → ℕ → Type 0
+Within places weights end = (end ≤ length places) × (end ≤ length weights)
+
+-- a row's kinds end in turn, and both lists reach to its end
+abbrev pub EndsWithin : List ℕ → List ℕ → ℕ → ℕ → ℕ → Type 0
+EndsWithin places weights takes puts hinders = (takes ≤ puts) × (puts ≤ hinders) × Within places weights hinders
+
+-- a test that tells a fact, or that it does not hold
+abbrev pub told : Type 0 → Bool → Type 0
+told P true = P
+told P false = P → ⊥
+
+-- ---- the arcs
 -- the arc number i of two lent lists
 abbrev pub arcAt : List ℕ → List ℕ → ℕ → Arc
 arcAt places weights i = record { place = getD places i 0; weight = getD weights i 0 }

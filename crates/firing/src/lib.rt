@@ -1,13 +1,13 @@
 // Fires one row that lies in two lent lists, one of places and one of weights. The meanings of this crate stand in specs/.
 ghost use mathlib.Core.Path.{_≡_};
 ghost use mathlib.Core.Bool.{false};
-ghost use Prim.Native.Nat.{ℕ, _<_, _≤_, _-_};
+ghost use Prim.Native.Nat.{ℕ, _<_, _≤_, _+_, _-_};
 ghost use mathlib.Core.List.{List};
 ghost use lib.ListN.{length, getD, set};
 ghost use Rattle.reading.specs.Basics.{any};
 ghost use Rattle.firing.specs.Firing.{fire, fired};
 ghost use Rattle.firing.specs.Arcs.{weights, Rising, Proper, weightIn, arcsIn, rowIn};
-ghost use Rattle.firing.specs.Steps.{arcAt, lacking, hindering, Sought, spilling, changedBy, changed, added};
+ghost use Rattle.firing.specs.Steps.{Within, EndsWithin, told, arcAt, lacking, hindering, Sought, spilling, changedBy, changed, added};
 
 // Where a row's takes, puts and hinders end in the lent lists; each kind starts where the one before it ends.
 pub struct Ends {
@@ -23,6 +23,38 @@ fn entry(l: &[u16], i: usize) -> usize
     if i < l.len() { l[i] as usize } else { 0 }
 }
 
+// An element that is there.
+fn slot(l: &[u16], i: usize) -> usize
+    requires { ⌜ i < length (now l) ⌝ }
+    ensures { λ r. ⌜ (r ≡ getD (now (l .entry)) i 0) × (r < 65536) ⌝ }
+{
+    l[i] as usize
+}
+
+// Whether both lists reach to an end.
+fn within(places: &[u16], amounts: &[u16], end: usize) -> bool
+    ensures { λ r. ⌜ told (Within (now (places .entry)) (now (amounts .entry)) end) r ⌝ }
+{
+    if places.len() < end {
+        false
+    } else {
+        end <= amounts.len()
+    }
+}
+
+// Whether a row's kinds end in turn, and both lists reach to its end.
+fn ends_within(places: &[u16], amounts: &[u16], takes: usize, puts: usize, hinders: usize) -> bool
+    ensures { λ r. ⌜ told (EndsWithin (now (places .entry)) (now (amounts .entry)) takes puts hinders) r ⌝ }
+{
+    if puts < takes {
+        false
+    } else if hinders < puts {
+        false
+    } else {
+        within(places, amounts, hinders)
+    }
+}
+
 // The difference, or 0 where more is taken than is there.
 fn less(a: usize, b: usize) -> usize
     ensures { λ r. ⌜ r ≡ a - b ⌝ }
@@ -32,13 +64,15 @@ fn less(a: usize, b: usize) -> usize
 
 // Whether the take number i is above its count.
 fn lacks(places: &[u16], amounts: &[u16], i: usize, m: &[u16]) -> bool
+    requires { ⌜ Within (now places) (now amounts) (i + 1) ⌝ }
     ensures { λ r. ⌜ r ≡ lacking (now (m .entry)) (arcAt (now (places .entry)) (now (amounts .entry)) i) ⌝ }
 {
-    entry(m, entry(places, i)) < entry(amounts, i)
+    entry(m, slot(places, i)) < slot(amounts, i)
 }
 
 // Whether some take is above its count.
-pub fn some_lacks(places: &[u16], amounts: &[u16], end: usize, m: &[u16]) -> bool
+fn any_lacks(places: &[u16], amounts: &[u16], end: usize, m: &[u16]) -> bool
+    requires { ⌜ Within (now places) (now amounts) end ⌝ }
     ensures { λ r. ⌜ r ≡ any (lacking (now (m .entry))) (arcsIn (now (places .entry)) (now (amounts .entry)) 0 end) ⌝ }
 {
     let mut i = 0;
@@ -53,17 +87,19 @@ pub fn some_lacks(places: &[u16], amounts: &[u16], end: usize, m: &[u16]) -> boo
 
 // Whether the hinder number i has a weight above 0 and not above its count.
 fn hinders(places: &[u16], amounts: &[u16], i: usize, m: &[u16]) -> bool
+    requires { ⌜ Within (now places) (now amounts) (i + 1) ⌝ }
     ensures { λ r. ⌜ r ≡ hindering (now (m .entry)) (arcAt (now (places .entry)) (now (amounts .entry)) i) ⌝ }
 {
-    let weight = entry(amounts, i);
+    let weight = slot(amounts, i);
     if weight < 1 {
         return false;
     }
-    weight <= entry(m, entry(places, i))
+    weight <= entry(m, slot(places, i))
 }
 
 // Whether some hinder is not above its count.
 fn some_hinders(places: &[u16], amounts: &[u16], start: usize, end: usize, m: &[u16]) -> bool
+    requires { ⌜ Within (now places) (now amounts) end ⌝ }
     ensures { λ r. ⌜ r ≡ any (hindering (now (m .entry))) (arcsIn (now (places .entry)) (now (amounts .entry)) start end) ⌝ }
 {
     let mut i = start;
@@ -78,11 +114,12 @@ fn some_hinders(places: &[u16], amounts: &[u16], start: usize, end: usize, m: &[
 
 // The first arc from `from` on whose place is not below p, or the end.
 fn seek(places: &[u16], from: usize, end: usize, p: usize) -> usize
+    requires { ⌜ end ≤ length (now places) ⌝ }
     ensures { λ r. ⌜ Sought (now (places .entry)) from end p r ⌝ }
 {
     let mut t = from;
     while t < end {
-        if p <= entry(places, t) {
+        if p <= slot(places, t) {
             return t;
         }
         t += 1;
@@ -92,31 +129,36 @@ fn seek(places: &[u16], from: usize, end: usize, p: usize) -> usize
 
 // The weight at place p of rising arcs from t on, of which none stands below p.
 fn weight_at(places: &[u16], amounts: &[u16], t: usize, end: usize, p: usize) -> usize
+    requires { ⌜ Within (now places) (now amounts) end ⌝ }
     ensures here { λ r. ⌜ ((n : ℕ) → Rising n 0 (arcsIn (now (places .entry)) (now (amounts .entry)) t end)
         → (t < end → p ≤ getD (now (places .entry)) t 0) → r ≡ weightIn (arcsIn (now (places .entry)) (now (amounts .entry)) t end) p) ⌝ }
 {
     if end <= t {
         return 0;
     }
-    if entry(places, t) == p {
-        return entry(amounts, t);
+    if slot(places, t) == p {
+        return slot(amounts, t);
     }
     0
 }
 
 // Whether the put number i brings its count above 65,535, where the take at its place, if there is one, has number t.
 fn spills(places: &[u16], amounts: &[u16], t: usize, takes: usize, i: usize, m: &[u16]) -> bool
+    requires { ⌜ Within (now places) (now amounts) takes ⌝ }
+    requires { ⌜ Within (now places) (now amounts) (i + 1) ⌝ }
     ensures { λ r. ⌜ ((n : ℕ) → Rising n 0 (arcsIn (now (places .entry)) (now (amounts .entry)) t takes)
         → (t < takes → getD (now (places .entry)) i 0 ≤ getD (now (places .entry)) t 0)
         → r ≡ spilling (now (m .entry)) (arcsIn (now (places .entry)) (now (amounts .entry)) t takes) (arcAt (now (places .entry)) (now (amounts .entry)) i)) ⌝ }
 {
-    let p = entry(places, i);
+    let p = slot(places, i);
     let left = less(entry(m, p), weight_at(places, amounts, t, takes, p));
-    65535 < left + entry(amounts, i)
+    65535 < left + slot(amounts, i)
 }
 
 // Whether some put brings its count above 65,535. Takes and puts stand by rising place, so each take is passed once.
 fn some_spills(places: &[u16], amounts: &[u16], takes: usize, puts: usize, m: &[u16]) -> bool
+    requires { ⌜ takes ≤ puts ⌝ }
+    requires { ⌜ Within (now places) (now amounts) puts ⌝ }
     ensures { λ r. ⌜ ((n : ℕ) → Rising n 0 (arcsIn (now (places .entry)) (now (amounts .entry)) 0 takes)
         → Rising n 0 (arcsIn (now (places .entry)) (now (amounts .entry)) takes puts)
         → r ≡ any (spilling (now (m .entry)) (arcsIn (now (places .entry)) (now (amounts .entry)) 0 takes))
@@ -125,7 +167,7 @@ fn some_spills(places: &[u16], amounts: &[u16], takes: usize, puts: usize, m: &[
     let mut t = 0;
     let mut i = takes;
     while i < puts {
-        t = seek(places, t, takes, entry(places, i));
+        t = seek(places, t, takes, slot(places, i));
         if spills(places, amounts, t, takes, i, m) {
             return true;
         }
@@ -145,15 +187,17 @@ fn store(m: &mut [u16], p: usize, count: u16)
 
 // Takes the take number i from its count.
 fn take_one(places: &[u16], amounts: &[u16], i: usize, m: &mut [u16])
+    requires { ⌜ Within (now places) (now amounts) (i + 1) ⌝ }
     ensures { λ _. ⌜ now (m .exit) ≡ changedBy _-_ (arcAt (now (places .entry)) (now (amounts .entry)) i) (now (m .entry)) ⌝ }
 {
-    let p = entry(places, i);
-    let count = less(entry(m, p), entry(amounts, i));
+    let p = slot(places, i);
+    let count = less(entry(m, p), slot(amounts, i));
     store(m, p, count as u16);
 }
 
 // Takes every take from its count.
 fn take_all(places: &[u16], amounts: &[u16], end: usize, m: &mut [u16])
+    requires { ⌜ Within (now places) (now amounts) end ⌝ }
     ensures { λ _. ⌜ now (m .exit) ≡ changed _-_ (arcsIn (now (places .entry)) (now (amounts .entry)) 0 end) (now (m .entry)) ⌝ }
 {
     let mut i = 0;
@@ -165,15 +209,17 @@ fn take_all(places: &[u16], amounts: &[u16], end: usize, m: &mut [u16])
 
 // Adds the put number i to its count.
 fn put_one(places: &[u16], amounts: &[u16], i: usize, m: &mut [u16])
+    requires { ⌜ Within (now places) (now amounts) (i + 1) ⌝ }
     ensures { λ _. ⌜ now (m .exit) ≡ changedBy added (arcAt (now (places .entry)) (now (amounts .entry)) i) (now (m .entry)) ⌝ }
 {
-    let p = entry(places, i);
-    let count = entry(m, p) + entry(amounts, i);
+    let p = slot(places, i);
+    let count = entry(m, p) + slot(amounts, i);
     store(m, p, (count % 65536) as u16);
 }
 
 // Adds every put to its count.
 fn put_all(places: &[u16], amounts: &[u16], start: usize, end: usize, m: &mut [u16])
+    requires { ⌜ Within (now places) (now amounts) end ⌝ }
     ensures { λ _. ⌜ now (m .exit) ≡ changed added (arcsIn (now (places .entry)) (now (amounts .entry)) start end) (now (m .entry)) ⌝ }
 {
     let mut i = start;
@@ -184,14 +230,19 @@ fn put_all(places: &[u16], amounts: &[u16], start: usize, end: usize, m: &mut [u
 }
 
 // The answer to a row of which no take is lacking: 4, 5 or 0.
-pub fn answer_rest(places: &[u16], amounts: &[u16], ends: Ends, m: &[u16]) -> u8
-    ensures { λ r. ⌜ (Proper (length (now (m .entry))) (rowIn (now (places .entry)) (now (amounts .entry)) (ends .takes) (ends .puts) (ends .hinders))
-        → any (lacking (now (m .entry))) (arcsIn (now (places .entry)) (now (amounts .entry)) 0 (ends .takes)) ≡ false
-        → r ≡ fire (weights (rowIn (now (places .entry)) (now (amounts .entry)) (ends .takes) (ends .puts) (ends .hinders))) (now (m .entry)) .answer) ⌝ }
+fn rest_answer(
+    places: &[u16],
+    amounts: &[u16],
+    takes: usize,
+    puts: usize,
+    hinders: usize,
+    m: &[u16],
+) -> u8
+    requires { ⌜ EndsWithin (now places) (now amounts) takes puts hinders ⌝ }
+    ensures { λ r. ⌜ (Proper (length (now (m .entry))) (rowIn (now (places .entry)) (now (amounts .entry)) takes puts hinders)
+        → any (lacking (now (m .entry))) (arcsIn (now (places .entry)) (now (amounts .entry)) 0 takes) ≡ false
+        → r ≡ fire (weights (rowIn (now (places .entry)) (now (amounts .entry)) takes puts hinders)) (now (m .entry)) .answer) ⌝ }
 {
-    let takes = ends.takes;
-    let puts = ends.puts;
-    let hinders = ends.hinders;
     if some_hinders(places, amounts, puts, hinders, m) {
         return 4;
     }
@@ -203,6 +254,8 @@ pub fn answer_rest(places: &[u16], amounts: &[u16], ends: Ends, m: &[u16]) -> u8
 
 // Moves the marking by a row's takes and puts where the row was answered 0.
 pub fn move_row(places: &[u16], amounts: &[u16], takes: usize, puts: usize, a: u8, m: &mut [u16])
+    requires { ⌜ takes ≤ puts ⌝ }
+    requires { ⌜ Within (now places) (now amounts) puts ⌝ }
     ensures { λ _. ⌜ ((hinders : ℕ) → Proper (length (now (m .entry))) (rowIn (now (places .entry)) (now (amounts .entry)) takes puts hinders)
         → a ≡ fire (weights (rowIn (now (places .entry)) (now (amounts .entry)) takes puts hinders)) (now (m .entry)) .answer
         → fired a (now (m .exit)) ≡ fire (weights (rowIn (now (places .entry)) (now (amounts .entry)) takes puts hinders)) (now (m .entry))) ⌝ }
@@ -215,24 +268,52 @@ pub fn move_row(places: &[u16], amounts: &[u16], takes: usize, puts: usize, a: u
 
 // The answer of the firing rule to a row: 3, 4, 5 or 0.
 pub fn answer(places: &[u16], amounts: &[u16], ends: Ends, m: &[u16]) -> u8
+    requires { ⌜ EndsWithin (now places) (now amounts) (ends .takes) (ends .puts) (ends .hinders) ⌝ }
     ensures { λ r. ⌜ (Proper (length (now (m .entry))) (rowIn (now (places .entry)) (now (amounts .entry)) (ends .takes) (ends .puts) (ends .hinders))
         → r ≡ fire (weights (rowIn (now (places .entry)) (now (amounts .entry)) (ends .takes) (ends .puts) (ends .hinders))) (now (m .entry)) .answer) ⌝ }
 {
-    if some_lacks(places, amounts, ends.takes, m) {
+    if any_lacks(places, amounts, ends.takes, m) {
         return 3;
     }
-    answer_rest(places, amounts, ends, m)
+    rest_answer(places, amounts, ends.takes, ends.puts, ends.hinders, m)
 }
 
-// Fires a row of which no take is lacking: its answer, and the marking after it.
+// ---- for callers that cannot say that the lists reach so far: it is tested once
+// Whether some take is above its count; no, where the lists are too short.
+pub fn some_lacks(places: &[u16], amounts: &[u16], end: usize, m: &[u16]) -> bool
+    ensures { λ r. ⌜ (Within (now (places .entry)) (now (amounts .entry)) end
+        → r ≡ any (lacking (now (m .entry))) (arcsIn (now (places .entry)) (now (amounts .entry)) 0 end)) ⌝ }
+{
+    if within(places, amounts, end) {
+        return any_lacks(places, amounts, end, m);
+    }
+    false
+}
+
+// The answer to a row of which no take is lacking; 0 where the lists are too short.
+pub fn answer_rest(places: &[u16], amounts: &[u16], ends: Ends, m: &[u16]) -> u8
+    ensures { λ r. ⌜ (EndsWithin (now (places .entry)) (now (amounts .entry)) (ends .takes) (ends .puts) (ends .hinders)
+        → Proper (length (now (m .entry))) (rowIn (now (places .entry)) (now (amounts .entry)) (ends .takes) (ends .puts) (ends .hinders))
+        → any (lacking (now (m .entry))) (arcsIn (now (places .entry)) (now (amounts .entry)) 0 (ends .takes)) ≡ false
+        → r ≡ fire (weights (rowIn (now (places .entry)) (now (amounts .entry)) (ends .takes) (ends .puts) (ends .hinders))) (now (m .entry)) .answer) ⌝ }
+{
+    if ends_within(places, amounts, ends.takes, ends.puts, ends.hinders) {
+        return rest_answer(places, amounts, ends.takes, ends.puts, ends.hinders, m);
+    }
+    0
+}
+
+// Fires a row of which no take is lacking: its answer, and the marking after it. Nothing is moved where the lists are too short.
 pub fn fire_rest(places: &[u16], amounts: &[u16], ends: Ends, m: &mut [u16]) -> u8
-    ensures { λ r. ⌜ (Proper (length (now (m .entry))) (rowIn (now (places .entry)) (now (amounts .entry)) (ends .takes) (ends .puts) (ends .hinders))
+    ensures { λ r. ⌜ (EndsWithin (now (places .entry)) (now (amounts .entry)) (ends .takes) (ends .puts) (ends .hinders)
+        → Proper (length (now (m .entry))) (rowIn (now (places .entry)) (now (amounts .entry)) (ends .takes) (ends .puts) (ends .hinders))
         → any (lacking (now (m .entry))) (arcsIn (now (places .entry)) (now (amounts .entry)) 0 (ends .takes)) ≡ false
         → fired r (now (m .exit)) ≡ fire (weights (rowIn (now (places .entry)) (now (amounts .entry)) (ends .takes) (ends .puts) (ends .hinders))) (now (m .entry))) ⌝ }
 {
-    let takes = ends.takes;
-    let puts = ends.puts;
-    let a = answer_rest(places, amounts, ends, m);
-    move_row(places, amounts, takes, puts, a, m);
-    a
+    if ends_within(places, amounts, ends.takes, ends.puts, ends.hinders) {
+        let a = rest_answer(places, amounts, ends.takes, ends.puts, ends.hinders, m);
+        move_row(places, amounts, ends.takes, ends.puts, a, m);
+        return a;
+    }
+    0
 }

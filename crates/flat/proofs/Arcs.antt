@@ -11,6 +11,7 @@ use Rattle.reading.specs.Reading.{fine, fault, _unless_, obey}
 use Rattle.reading.proofs.Commands.{Fails, fails, later, passes, done, other, end, both-hold, first-fails, second-fails, standing-at, standing-none, obey-cut, obey-fails, obey-goes}
 use Rattle.reading.proofs.Parts.{Reading, begins, goes-on, ends, stops}
 use Rattle.firing.specs.Arcs.{Arc, Row, row, Rising, Proper, arcsIn, rowIn}
+use Rattle.firing.specs.Steps.{EndsWithin}
 use Rattle.flat.specs.Flat.{arcCommand, arcPart}
 use Rattle.flat.specs.Told.{ArcHere, mostArcs, inOrder, added, key, Least, arc, arcStep, ArcRoom, arcsAt, ArcsStand, laterEnd}
 use Rattle.flat.specs.declared.reader.ArcStep.{ArcStep}
@@ -161,6 +162,7 @@ pub record Loaded (s : List ℕ) (start size space : ℕ) (places weights : List
   pub counted : end * 5 ≤ at
   pub first : takes ≤ puts
   pub second : puts ≤ end
+  pub held : (end ≤ size) × (end ≤ space)
   pub read : (n : ℕ) (arcs : Row) (next : ℕ) → n ≤ 4096 → arcsAt s n start ≡ fine arcs next → (least : ℕ) × ArcsRead s n start (rowIn places weights takes puts end) least at
 
 pub load-begin : (s : List ℕ) (start : ℕ) (places weights : List ℕ) → mostArcs (length s) ≤ length places → mostArcs (length s) ≤ length weights
@@ -174,6 +176,7 @@ load-begin s start places weights e f =
       counted = omega arith;
       first = omega arith;
       second = omega arith;
+      held = omega arith;
       read = λ n arcs next small stands. (0, arcs-begin s n start);
     }
 
@@ -193,6 +196,10 @@ module _ {s : List ℕ} {start size space : ℕ} {places weights : List ℕ} {ta
   row-count : arcCount R ≡ end
   unfolding arcCount
   row-count = omega (arith, arcs-count places weights 0 takes, arcs-count places weights takes puts, arcs-count places weights puts end, here .first, here .second)
+
+  -- it lies in the lists
+  pub load-within : EndsWithin places weights takes puts end
+  load-within = omega (arith, here .first, here .second, here .held, here .long, here .wide)
 
   -- another byte ends the row
   pub load-end : ArcHere s at false → (n : ℕ) (arcs : Row) (next : ℕ) → n ≤ 4096 → arcsAt s n start ≡ fine arcs next → (R ≡ arcs) × Proper n arcs
@@ -264,5 +271,6 @@ module _ {s : List ℕ} {start size space : ℕ} {places weights : List ℕ} {ta
           counted = omega (arith, here .counted);
           first = rise .0;
           second = rise .1;
+          held = omega (arith, load-room);
           read = row-more;
         }

@@ -7,6 +7,7 @@ ghost use lib.ListN.{length, set};
 ghost use Rattle.reading.specs.Basics.{with, byteAt, wordAt};
 ghost use Rattle.reading.specs.Reading.{Answer, fine, under, whole};
 ghost use Rattle.firing.specs.Arcs.{Row, row, rowIn, Proper};
+ghost use Rattle.firing.specs.Steps.{EndsWithin};
 ghost use Rattle.flat.specs.Flat.{Flat, placePart, arcPart, rowPart};
 ghost use Rattle.flat.specs.Told.{mostArcs, ArcHere, Least, arcStep, ArcRoom, laterEnd, arcsAt, ArcsPassed, ArcsStand, stepTold, StepRoom, PlacesRead, rowEnd, RowsRead, opening, closing, partTold, PartWithin, Counts, scanOf, Scanned};
 
@@ -140,7 +141,8 @@ pub fn load_arcs(s: &[u8], at: usize, places: &mut [u16], weights: &mut [u16]) -
     requires { ⌜ ArcsStand (now s) at ⌝ }
     requires { ⌜ mostArcs (length (now s)) ≤ length (now places) ⌝ }
     requires { ⌜ mostArcs (length (now s)) ≤ length (now weights) ⌝ }
-    ensures { λ r. ⌜ ((n : ℕ) (arcs : Row) (next : ℕ) → n ≤ 4096 → arcsAt (now (s .entry)) n at ≡ fine arcs next
+    ensures within { λ r. ⌜ EndsWithin (now (places .exit)) (now (weights .exit)) (r .takes) (r .puts) (r .hinders) ⌝ }
+    ensures is { λ r. ⌜ ((n : ℕ) (arcs : Row) (next : ℕ) → n ≤ 4096 → arcsAt (now (s .entry)) n at ≡ fine arcs next
         → (rowIn (now (places .exit)) (now (weights .exit)) (r .takes) (r .puts) (r .hinders) ≡ arcs) × Proper n arcs) ⌝ }
 {
     let mut takes: usize = 0;

@@ -9,6 +9,6 @@ answer-spec =
     tie.close
     (tie.spec
     (λ c κs. search needs)
-    (λ c proper. ap (λ f. f .answer) (fires-3 _ _ proper (sym (c .before .some-lacks .ensures) ∙ c .if1 .taken)))
+    (λ c proper. ap (λ f. f .answer) (fires-3 _ _ proper (sym (c .before .any-lacks .ensures) ∙ c .if1 .taken)))
     (λ c κs. search needs)
-    (λ c proper. c .answer-rest .ensures proper (sym (c .before .before .some-lacks .ensures) ∙ c .before .if1 .left)))
+    (λ c proper. c .rest-answer .ensures proper (sym (c .before .before .any-lacks .ensures) ∙ c .before .if1 .left)))

@@ -8,7 +8,7 @@ hinders-spec =
     tie.close
     (tie.spec
     (λ c κs. search needs)
-    (λ c. rw (← c .before .entry .ensures .0) (hinders-none _ _ (c .if1 .taken)))
+    (λ c. rw (← c .before .slot .ensures .0) (hinders-none _ _ (c .if1 .taken)))
     (λ c κs. search needs)
     (λ c κs. search needs)
-    (λ c. rw (← c .before .before .before .entry .ensures .0, ← c .before .entry2 .ensures .0, ← c .entry3 .ensures .0) (hinders-some _ _ (c .before .before .if1 .left))))
+    (λ c. rw (← c .before .before .before .slot .ensures .0, ← c .before .slot2 .ensures .0, ← c .entry .ensures .0) (hinders-some _ _ (c .before .before .if1 .left))))

@@ -1,7 +1,7 @@
 use borrow.Author.Needs.{needs}
 use native.Mathlib.Omega.{arith}
 use mathlib.Core.Path.{_≡_, refl, sym, _∙_}
-use Prim.Native.Nat.{_-_}
+use Prim.Native.Nat.{_≤_, _-_}
 use Rattle.reading.specs.Basics.{any}
 use Rattle.firing.specs.Arcs.{arcsIn}
 use Rattle.firing.specs.Steps.{hindering}
@@ -10,7 +10,7 @@ use Rattle.firing.proofs.some_hinders.Statement.{statement}
 use Rattle.firing.proofs.some_hinders.Tie as tie
 
 abbrev Inv-loop : tie.InvT-loop
-Inv-loop places amounts start end m i₀ i = any (hindering m) (arcsIn places amounts start end) ≡ any (hindering m) (arcsIn places amounts i end)
+Inv-loop places amounts start end m i₀ i = (any (hindering m) (arcsIn places amounts start end) ≡ any (hindering m) (arcsIn places amounts i end)) × (start ≤ i)
 
 abbrev μ-loop : tie.MeasureT-loop
 μ-loop places amounts start end m i₀ i = end - i
@@ -21,10 +21,10 @@ some-hinders-spec =
     (tie.spec
     Inv-loop
     μ-loop
-    (λ c. refl)
+    (λ c. (refl, omega arith))
     (λ c κs. search needs)
-    (λ c. sym (c .before .before .before .loop .inv ∙ any-hit _ _ _ _ _ (c .before .before .loop-test .taken) (sym (c .before .hinders .ensures) ∙ c .if1 .taken)))
+    (λ c. sym (c .before .before .before .loop .inv .0 ∙ any-hit _ _ _ _ _ (c .before .before .loop-test .taken) (sym (c .before .hinders .ensures) ∙ c .if1 .taken)))
     (λ c. omega arith)
     (λ c. omega arith)
-    (λ c. c .before .before .before .loop .inv ∙ any-miss _ _ _ _ _ (c .before .before .loop-test .taken) (sym (c .before .hinders .ensures) ∙ c .if1 .left))
-    (λ c. sym (c .before .loop .inv ∙ any-past _ _ _ _ _ (c .loop-test .left))))
+    (λ c. (c .before .before .before .loop .inv .0 ∙ any-miss _ _ _ _ _ (c .before .before .loop-test .taken) (sym (c .before .hinders .ensures) ∙ c .if1 .left), omega arith))
+    (λ c. sym (c .before .loop .inv .0 ∙ any-past _ _ _ _ _ (c .loop-test .left))))

@@ -12,5 +12,5 @@ weight-at-spec =
     (λ c n r f. sym (weight-past _ _ _ _ _ (c .if1 .taken)))
     (λ c κs. search needs)
     (λ c κs. search needs)
-    (λ c n r f. c .entry2 .ensures .0 ∙ sym (weight-here _ _ _ _ (omega arith) (sym (c .before .before .entry .ensures .0) ∙ c .before .if2 .taken)))
+    (λ c n r f. c .slot2 .ensures .0 ∙ sym (weight-here _ _ _ _ (omega arith) (sym (c .before .before .slot .ensures .0) ∙ c .before .if2 .taken)))
     (λ c n r f. sym (weight-above _ _ _ _ (omega arith) r (let g = f (omega arith) in omega arith))))

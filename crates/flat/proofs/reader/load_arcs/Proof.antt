@@ -2,7 +2,7 @@ use borrow.Author.Needs.{needs}
 use native.Mathlib.Omega.{arith}
 use Prim.Native.Nat.{_-_}
 use lib.ListN.{length}
-use Rattle.flat.proofs.Arcs.{Loaded, load-begin, load-end, load-inside, load-room, load-more}
+use Rattle.flat.proofs.Arcs.{Loaded, load-begin, load-end, load-inside, load-room, load-more, load-within}
 use Rattle.flat.proofs.reader.load_arcs.Statement.{statement}
 use Rattle.flat.proofs.reader.load_arcs.Tie as tie
 
@@ -40,4 +40,4 @@ load-arcs-spec =
     (λ c. rw (c .before .later-end .ensures, c .later-end2 .ensures, c .before .before .before .word-in .ensures .0, c .before .before .word-in2 .ensures .0) (load-more (c .before .before .before .before .before .before .before .loop .inv) (c .before .before .before .before .before .before .before .before .before .before .before .pre .0) (rw (c .before .before .before .before .before .if1 .taken) at (c .before .before .before .before .before .before .arc-here .ensures))))
     (λ c. c .before .before .loop .inv .long)
     (λ c. c .before .before .loop .inv .wide)
-    (λ c. load-end (c .before .before .loop .inv) (rw (c .if1 .left) at (c .before .arc-here .ensures))))
+    (λ c. (load-within (c .before .before .loop .inv), load-end (c .before .before .loop .inv) (rw (c .if1 .left) at (c .before .arc-here .ensures)))))
