@@ -2,7 +2,7 @@
 use mathlib.Core.Path.{_≡_, refl, sym, subst, _∙_}
 use Prim.Native.Nat.{_≤_, _<_}
 use native.Mathlib.Omega.{arith}
-use borrow.Author.Tests.{eq-eqb, ne-eqb}
+use borrow.Author.Tests.{eq-eqb, ne-eqb, le-leb}
 use Rattle.reading.specs.Basics.{ℕ, _+_, Bool, List, [], length, eqb, if_then_else_, take, byteAt, wordAt}
 use Rattle.reading.specs.Reading.{fine}
 use Rattle.firing.specs.Arcs.{Arc}
@@ -28,10 +28,10 @@ behind : {arcs : List Arc} {places amounts places' amounts' places'' amounts'' :
 behind {arcs} {places} {amounts} {places'} {amounts'} used base r le p a size sizes g =
     record { front = g .front ∙ kept-shorter used base places' places le p; fronts = g .fronts ∙ kept-shorter used base amounts' amounts le a; are = g .are; end = g .end; size = g .size ∙ size; sizes = g .sizes ∙ sizes }
 
-module _ (s sizes vars env : List ℕ) (paired : Bool) (start count at : ℕ) (places amounts : List ℕ) (used : ℕ) where
+module _ (s sizes vars env : List ℕ) (paired : Bool) (start count at : ℕ) (places amounts : List ℕ) (used : ℕ) (other : byteAt s at ≡ 0x40 → ⊥) where
   -- there is no room
   pub listed-none : (r : ℕ) → length places < used + count → ArcLoaded s sizes vars env paired start count at places amounts used places amounts r
-  listed-none r h known first second next e reads a b = absurd (omega arith)
+  listed-none r h known first second next e reads a b = absurd (let room = rw (ne-eqb (byteAt s at) 0x40 other) at a in omega arith)
 
   -- its terms were listed behind the room for its arcs, and then turned into arcs
   pub listed-loads : (places' amounts' places'' amounts'' : List ℕ) (m : Multiset) (r : ℕ)
@@ -39,7 +39,9 @@ module _ (s sizes vars env : List ℕ) (paired : Bool) (start count at : ℕ) (p
       (readExpression s (net sizes vars known [] []) (placeBy paired first second) 16 at))
       → TermsLoaded start count (used + count) (m .end) (m .rest) places' amounts' used places'' amounts'' r
       → ArcLoaded s sizes vars env paired start count at places amounts used places'' amounts'' r
-  listed-loads places' amounts' places'' amounts'' m r told loads known first second next e reads a b =
+  listed-loads places' amounts' places'' amounts'' m r told loads known first second next e reads a' b' =
+      let a = rw (ne-eqb (byteAt s at) 0x40 other) at a' in
+      let b = rw (ne-eqb (byteAt s at) 0x40 other) at b' in
       let few = terms-few s (net sizes vars known [] []) (placeBy paired first second) 16 at reads in
       let l : Listed (net sizes vars known [] []) env count places amounts (used + count) places' amounts' m e next = subst (ListedTold (net sizes vars known [] []) env count places amounts (used + count) places' amounts' m) reads (told known first second) (omega arith) (omega arith) in
       let lie = l .lie in
@@ -87,12 +89,14 @@ module _ (s sizes vars env : List ℕ) (paired : Bool) (start count at : ℕ) (p
   pub count-one : (places' amounts' : List ℕ) (end : ℕ) → k .rank < count
       → ((0 < wordAt s (at + 1) → (used < length places) × (used < length amounts)) → Appended (oneArc (start + k .rank) (wordAt s (at + 1))) places amounts used places' amounts' end)
       → ArcLoaded s sizes vars env paired start count at places amounts used places' amounts' end
-  count-one places' amounts' end h app known first second next x reads a b =
+  count-one places' amounts' end h app known first second next x reads a' b' =
+      let a = rw (eq-eqb (byteAt s at) 0x40 e, le-leb 1 count (omega arith)) at a' in
+      let b = rw (eq-eqb (byteAt s at) 0x40 e, le-leb 1 count (omega arith)) at b' in
       let w : ℕ → ℕ = λ rank. weight (net sizes vars known [] []) (bound env) rank x in
       loading-ends start count w places amounts used places' amounts' end count
-      (loading-goes start count w places amounts used places amounts places' amounts' used end (k .rank) count (wordAt s (at + 1))
+      (loading-goes start count w places amounts used places amounts places' amounts' used end (k .rank)
       (loading-begins start count w places amounts used (k .rank) (λ rank lo hi lt. elsewhere known first second next x reads rank (λ q. omega arith)))
-      h (omega arith) (omega arith)
+      count (wordAt s (at + 1)) h
       (sym (weighs known first second next x reads (k .rank) ∙ rw (eq-eqb (k .rank) (k .rank) refl) refl))
-      app (omega arith) (λ rank lo hi lt. elsewhere known first second next x reads rank (λ q. omega arith)))
+      (app (λ p. (omega arith, omega arith))) (omega arith) (λ rank lo hi lt. elsewhere known first second next x reads rank (λ q. omega arith)))
       (omega arith)

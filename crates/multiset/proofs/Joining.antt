@@ -2,12 +2,12 @@
 use mathlib.Core.Path.{_≡_, refl, sym, ap, ap₂, _∙_}
 use Prim.Native.Nat.{_≤_, _<_}
 use native.Mathlib.Omega.{arith}
-use borrow.Author.Tests.{ltb-true, ltb-false, lt-ltb, le-ltb, eqb-true, eqb-false, eq-eqb, ne-eqb}
+use borrow.Author.Tests.{le-leb, ltb-true, ltb-false, lt-ltb, le-ltb, eqb-true, eqb-false, eq-eqb, ne-eqb}
 use lib.ListN.{length-map}
-use Rattle.reading.specs.Basics.{ℕ, _+_, _*_, Bool, true, false, List, [], _∷_, map, length, ltb, eqb, if_then_else_}
+use Rattle.reading.specs.Basics.{ℕ, _+_, _*_, Bool, true, false, List, [], _∷_, _++_, map, length, ltb, eqb, if_then_else_}
 use Rattle.firing.specs.Arcs.{Arc}
 use Rattle.net.specs.Evaluated.{limit}
-use Rattle.multiset.specs.Terms.{term, countIn, Terms, none, more, joinOne, joined, timesAll}
+use Rattle.multiset.specs.Terms.{term, countIn, Terms, none, more, joinOne, joined, joinBy, timesAll}
 
 -- ---- terms by rising rank
 -- a rank below the first term has the rest
@@ -33,6 +33,15 @@ terms-from (more {a = a} x y t) low h = more {from = low} {a = a} (omega arith) 
 -- the first term's rank, and the terms after it
 pub terms-split : {count from : ℕ} {a : Arc} {l : List Arc} → Terms count from (a ∷ l) → (from ≤ a .place) × (a .place < count) × Terms count (a .place + 1) l
 terms-split (more x y t) = (x, y, t)
+
+-- from, the last term's rank is no less, and where that is below a number, all are
+terms-last : {count from : ℕ} (l : List Arc) (z : Arc) → Terms count from (l ++ (z ∷ [])) → from ≤ z .place
+terms-last [] z (more x y t) = x
+terms-last (a ∷ l) z (more x y t) = let h = terms-last l z t in omega arith
+
+pub terms-below : {count from : ℕ} (l : List Arc) (z : Arc) (below : ℕ) → Terms count from (l ++ (z ∷ [])) → z .place < below → Terms below from (l ++ (z ∷ []))
+terms-below [] z below (more x y t) h = more {a = z} x h none
+terms-below (a ∷ l) z below (more x y t) h = let k = terms-last l z t in more {a = a} x (omega arith) (terms-below l z below t h)
 
 -- ---- every count through a function
 module _ (g : ℕ → ℕ) where
@@ -181,3 +190,26 @@ module _ (f : ℕ → ℕ → ℕ) (p q : ℕ) where
   pub joined-counts : {count from : ℕ} {l m : List Arc} → Terms count from l → Terms count from m → (rank : ℕ) → countIn (joined f p q l m) (f p q) rank ≡ f (countIn l p rank) (countIn m q rank)
   joined-counts {count} {from} {l} {m} t u rank =
       joined-by (Same count rank) (same-start count rank) (same-last count rank) (same-first count rank) (same-second count rank) (same-both count rank) l m from t u
+
+-- ---- a sum of which the first lies wholly below the second
+-- counts of which none is above 65,535
+abbrev pub Small : List Arc → Type 0
+Small [] = Unit {0}
+Small (a ∷ l) = (a .weight ≤ 65535) × Small l
+
+-- nothing is added to a count
+add-none : (a : Arc) (n : ℕ) → a .weight ≤ 65535 → n ≡ a .weight → term (a .place) (limit n) ≡ a
+add-none a n h e = rw (e, le-leb (a .weight) 65535 h)
+
+add-all : (m : List Arc) → Small m → joined (joinBy false) 0 0 [] m ≡ m
+unfolding joined
+add-all [] s = refl
+add-all (a ∷ m) (h, s) = ap₂ _∷_ (add-none a (0 + a .weight) h (omega arith)) (add-all m s)
+
+pub joined-apart : {count from middle : ℕ} (l m : List Arc) → Terms middle from l → Terms count middle m → Small l → Small m → joined (joinBy false) 0 0 l m ≡ l ++ m
+joined-apart [] m t u r s = add-all m s
+joined-apart (a ∷ l) [] (more x y t) u (h, r) s =
+    joined-last (joinBy false) 0 0 a l ∙ ap₂ _∷_ (add-none a (a .weight + 0) h (omega arith)) (joined-apart l [] t u r s)
+joined-apart (a ∷ l) (b ∷ m) (more x y t) u (h, r) s =
+    let (x', y', v) = terms-split u in
+    joined-first (joinBy false) 0 0 a l b m (omega arith) ∙ ap₂ _∷_ (add-none a (a .weight + 0) h (omega arith)) (joined-apart l (b ∷ m) t u r s)

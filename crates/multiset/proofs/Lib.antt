@@ -7,3 +7,4 @@ pub mod Ranks
 pub mod Loads
 pub mod Walking
 pub mod Counted
+pub mod Slots

@@ -17,7 +17,7 @@ use Rattle.net.proofs.Shut.{commands}
 use Rattle.net.proofs.Values.{needed-by}
 use Rattle.net.proofs.Expressions.{expression-step, expression-in}
 use Rattle.net.proofs.Weights.{weight-le, joined-by, times-by, one-by, two-by, expression-past, expression-shut, expression-stray}
-use Rattle.multiset.specs.Terms.{term, countIn, none, more, joined, joinBy, timesAll, terms, Counted, Appended}
+use Rattle.multiset.specs.Terms.{term, countIn, Terms, none, more, joined, joinBy, timesAll, terms, Counted, Appended}
 use Rattle.multiset.specs.Loaded.{Listed, ListedTold}
 use Rattle.multiset.specs.declared.terms.Multiset.{Multiset}
 use Rattle.multiset.proofs.Appending.{arcs-kept, append-none, append-join}
@@ -110,7 +110,8 @@ module _ (n : Net) (env : List ℕ) (count : ℕ) (ranks counts : List ℕ) (use
 
   -- where both were listed, and their terms joined
   module _ (ranks₂ counts₂ : List ℕ) (q : Multiset) (second : ListedTold n env count ranks₁ counts₁ (p .end) ranks₂ counts₂ q (inner (p .next))) (less : Bool) (ranks₃ counts₃ : List ℕ) (r : ℕ)
-      (merged : q .end + (q .end - used) ≤ length ranks₂ → q .end + (q .end - used) ≤ length counts₂
+      (merged : (below : ℕ) → Terms below 0 (arcsIn ranks₂ counts₂ used (p .end)) → Terms below 0 (arcsIn ranks₂ counts₂ (p .end) (q .end))
+      → q .end + (q .end - used) ≤ length ranks₂ → q .end + (q .end - used) ≤ length counts₂
       → Appended (joined (joinBy less) (p .rest) (q .rest) (arcsIn ranks₂ counts₂ used (p .end)) (arcsIn ranks₂ counts₂ (p .end) (q .end))) ranks₂ counts₂ used ranks₃ counts₃ r) where
     abbrev whole : Multiset
     whole = record { end = r; rest = joinBy less (p .rest) (q .rest); next = q .next }
@@ -120,10 +121,10 @@ module _ (n : Net) (env : List ℕ) (count : ℕ) (ranks counts : List ℕ) (use
         → Listed n env count ranks counts used ranks₃ counts₃ whole (joins less a b) end
     both-listed a b mid end g h small i j =
         let both = append-join (g .lie) (h .lie) in
-        let room = merged
+        let first-kept : arcsIn ranks₂ counts₂ used (p .end) ≡ g .list = arcs-kept ranks₁ counts₁ ranks₂ counts₂ used (p .end) (h .lie .front) (h .lie .fronts) ∙ g .lie .are in
+        let room = merged count (rw first-kept (g .counted .rising)) (rw (h .lie .are) (h .counted .rising))
         (omega (arith, g .lie .end, h .lie .end, g .counted .few, h .counted .few, both .size))
         (omega (arith, g .lie .end, h .lie .end, g .counted .few, h .counted .few, both .sizes)) in
-        let first-kept : arcsIn ranks₂ counts₂ used (p .end) ≡ g .list = arcs-kept ranks₁ counts₁ ranks₂ counts₂ used (p .end) (h .lie .front) (h .lie .fronts) ∙ g .lie .are in
         record {
           list = joined (joinBy less) (p .rest) (q .rest) (g .list) (h .list);
           lie = append-over both (rw (first-kept, h .lie .are) at room);

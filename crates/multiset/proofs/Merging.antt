@@ -10,10 +10,10 @@ use Rattle.reading.specs.Basics.{ℕ, zero, suc, _+_, _-_, _*_, Bool, true, fal
 use Rattle.reading.proofs.Lists.{of-from, length-from, map-same, map-map}
 use Rattle.firing.specs.Arcs.{Arc, arcsIn}
 use Rattle.net.specs.Evaluated.{limit}
-use Rattle.multiset.specs.Terms.{term, joined, timesAll, Appended, MergedFirst}
+use Rattle.multiset.specs.Terms.{term, Terms, none, more, joined, joinBy, timesAll, Appended, MergedFirst, Apart}
 use Rattle.multiset.specs.declared.merge.Merged.{Merged}
 use Rattle.multiset.proofs.Appending.{map-join, kept-at, kept-shorter, arcs-join, arcs-kept, append-none, append-join}
-use Rattle.multiset.proofs.Joining.{times-few, joined-last, joined-first, joined-second, joined-both}
+use Rattle.multiset.proofs.Joining.{terms-split, terms-below, times-few, Small, joined-apart, joined-last, joined-first, joined-second, joined-both}
 
 -- two numbers, of which the first is less or not
 by-less : (a b : ℕ) {C : Type 0} → (a < b → C) → (b ≤ a → C) → C
@@ -298,3 +298,40 @@ module _ (f : ℕ → ℕ → ℕ) (p q : ℕ) (ranks₀ counts₀ : List ℕ) (
         size = d .size ∙ u .size;
         sizes = d .sizes ∙ u .sizes;
       }
+
+-- ---- runs that lie joined
+small-arcs : (ranks counts : List ℕ) → ((i : ℕ) → getD counts i 0 ≤ 65535) → (a n : ℕ) → Small (map (λ i. term (getD ranks i 0) (getD counts i 0)) (numbersFrom a n))
+unfolding numbersFrom
+small-arcs ranks counts h a zero = tt
+small-arcs ranks counts h a (suc n) = (h a, small-arcs ranks counts h (a + 1) n)
+
+module _ (ranks counts : List ℕ) (small : (i : ℕ) → getD counts i 0 ≤ 65535) (start middle end below p q : ℕ) (less : Bool) (le : start ≤ middle) (up : middle ≤ end)
+    (first : Terms below 0 (arcsIn ranks counts start middle)) (second : Terms below 0 (arcsIn ranks counts middle end)) (h : Apart less ranks start middle end p q) where
+  apart-small : (a b : ℕ) → Small (arcsIn ranks counts a b)
+  unfolding arcsIn
+  apart-small a b = small-arcs ranks counts small a (b - a)
+
+  apart-by : {m : ℕ} → Terms m 0 (arcsIn ranks counts start middle) → Terms below m (arcsIn ranks counts middle end)
+      → joined (joinBy less) p q (arcsIn ranks counts start middle) (arcsIn ranks counts middle end) ≡ arcsIn ranks counts start end
+  apart-by t u =
+      rw (h .sum, h .none-first, h .none-second)
+      (joined-apart (arcsIn ranks counts start middle) (arcsIn ranks counts middle end) t u (apart-small start middle) (apart-small middle end) ∙ sym (arcs-join ranks counts start middle end le up))
+
+  -- the last rank of the first run is below the first of the second
+  apart-between : start < middle → middle < end → joined (joinBy less) p q (arcsIn ranks counts start middle) (arcsIn ranks counts middle end) ≡ arcsIn ranks counts start end
+  apart-between s e =
+      let k : middle ≡ middle - 1 + 1 = omega arith in
+      let split : arcsIn ranks counts start middle ≡ arcsIn ranks counts start (middle - 1) ++ (term (getD ranks (middle - 1) 0) (getD counts (middle - 1) 0) ∷ []) =
+      ap (arcsIn ranks counts start) k ∙ arcs-next ranks counts start (middle - 1) (omega arith) in
+      let low = subst (Terms (getD ranks middle 0) 0) (sym split) (terms-below (arcsIn ranks counts start (middle - 1)) (term (getD ranks (middle - 1) 0) (getD counts (middle - 1) 0)) (getD ranks middle 0) (subst (Terms below 0) split first) (h .after s e)) in
+      let (x, y, t) = terms-split (subst (Terms below 0) (arcs-more ranks counts middle end e) second) in
+      apart-by low (subst (Terms below (getD ranks middle 0)) (sym (arcs-more ranks counts middle end e)) (more {a = term (getD ranks middle 0) (getD counts middle 0)} (omega arith) y t))
+
+  pub apart-joined : Appended (joined (joinBy less) p q (arcsIn ranks counts start middle) (arcsIn ranks counts middle end)) ranks counts start ranks counts end
+  apart-joined = rw all (record { front = refl; fronts = refl; are = refl; end = omega (arith, arcs-length ranks counts start end); size = refl; sizes = refl })
+    where
+      all : joined (joinBy less) p q (arcsIn ranks counts start middle) (arcsIn ranks counts middle end) ≡ arcsIn ranks counts start end
+      all =
+          by-less start middle
+          (λ s. by-less middle end (apart-between s) (λ e. apart-by first (rw (arcs-none ranks counts middle end e) none)))
+          (λ s. apart-by {m = 0} (rw (arcs-none ranks counts start middle s) none) second)

@@ -1,2 +1,3 @@
 pub mod Terms
 pub mod Loaded
+pub mod Slots

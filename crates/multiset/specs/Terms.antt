@@ -1,7 +1,7 @@
 -- A multiset of ranks: terms, a rank with its count each, by rising rank; and one count that every other rank has.
 use mathlib.Core.Path.{_≡_}
 use Prim.Native.Nat.{_≤_, _<_}
-use Rattle.reading.specs.Basics.{ℕ, _+_, _-_, _*_, Bool, List, [], _∷_, _++_, map, length, take, ltb, eqb, if_then_else_}
+use Rattle.reading.specs.Basics.{ℕ, _+_, _-_, _*_, Bool, false, List, [], _∷_, _++_, map, length, getD, take, ltb, eqb, if_then_else_}
 use Rattle.firing.specs.Arcs.{Arc, arcsIn}
 use Rattle.net.specs.Net.{Expression, one, two, all, plus, minus, times, Net}
 use Rattle.net.specs.Values.{weight}
@@ -76,3 +76,10 @@ pub record MergedFirst (f : ℕ → ℕ → ℕ) (p q : ℕ) (ranks counts : Lis
   pub lie : Appended list ranks counts end ranks' counts' (r .end)
   pub left : list ++ joined f p q [] (arcsIn ranks counts (r .second) end) ≡ joined f p q (arcsIn ranks counts start middle) (arcsIn ranks counts middle end)
   pub room : length list + (end - r .second) ≤ end - start
+
+-- two runs lie joined to their sum: nothing else has a count, and the second comes after the first
+pub record Apart (less : Bool) (ranks : List ℕ) (start middle end p q : ℕ) : Type 0 where
+  pub sum : less ≡ false
+  pub none-first : p ≡ 0
+  pub none-second : q ≡ 0
+  pub after : start < middle → middle < end → getD ranks (middle - 1) 0 < getD ranks middle 0

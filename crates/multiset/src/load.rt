@@ -1,16 +1,16 @@
 // The arcs of an arc expression under a binding, appended to two lent lists, one of places and one of weights.
-use crate::merge::count_or;
-use crate::merge::rank_or_none;
-use crate::merge::step_if;
+use crate::merge::slot;
 use crate::terms::list_terms;
 use net::eval_rank;
 use reading::byte_at;
 use reading::word_at;
 ghost use mathlib.Core.Path.{_≡_};
+ghost use mathlib.Core.Bool.{true, false};
 ghost use Prim.Native.Nat.{ℕ, _≤_, _<_, _+_};
 ghost use lib.ListN.{length, getD};
+ghost use Rattle.reading.specs.Basics.{byteAt};
 ghost use Rattle.multiset.specs.Terms.{Appended};
-ghost use Rattle.multiset.specs.Loaded.{oneArc, TermsLoaded, ArcLoaded};
+ghost use Rattle.multiset.specs.Loaded.{oneArc, rankArcs, TermsLoaded, ArcLoaded};
 
 // Stores an arc after so many, if its weight is above 0: how many there are then. Past the end it stores nothing.
 pub fn append(
@@ -38,19 +38,51 @@ pub fn append(
     used + 1
 }
 
-// The next rank from one on that may have a weight: that one where the rest has a count, else that of the next term.
-fn next_rank(ranks: &[u16], i: usize, stop: usize, rest: u16, from: usize) -> usize
-    ensures every { λ r. ⌜ (0 < rest → r ≡ from) ⌝ }
-    ensures term { λ r. ⌜ (rest < 1 → i < stop → r ≡ getD (now (ranks .entry)) i 0) ⌝ }
-    ensures none { λ r. ⌜ (rest < 1 → stop ≤ i → r ≡ 65536) ⌝ }
+// Whether a list of a size has no room for so many after those that are used.
+fn lacks(size: usize, used: usize, many: usize) -> bool
+    ensures yes { λ r. ⌜ (r ≡ true → size < used + many) ⌝ }
+    ensures not { λ r. ⌜ (r ≡ false → used + many ≤ size) ⌝ }
 {
-    if 0 < rest {
-        return from;
+    if size < many {
+        return true;
     }
-    rank_or_none(ranks, i, stop)
+    size - many < used
+}
+
+// Appends the arcs of so many flat places one after the other, each with the weight that every rank without a term has; none where it is 0.
+fn fill(
+    places: &mut [u16],
+    amounts: &mut [u16],
+    used: usize,
+    place: usize,
+    many: usize,
+    rest: u16,
+) -> usize
+    requires { ⌜ place + many ≤ 65535 ⌝ }
+    ensures is { λ r. ⌜ (used + many ≤ length (now (places .entry)) → used + many ≤ length (now (amounts .entry))
+        → Appended (rankArcs place many (λ _. rest)) (now (places .entry)) (now (amounts .entry)) used (now (places .exit)) (now (amounts .exit)) r) ⌝ }
+    ensures behind { λ r. ⌜ ((i : ℕ) → r ≤ i → (getD (now (places .exit)) i 0 ≡ getD (now (places .entry)) i 0) × (getD (now (amounts .exit)) i 0 ≡ getD (now (amounts .entry)) i 0)) ⌝ }
+{
+    if rest < 1 {
+        return used;
+    }
+    if lacks(places.len(), used, many) {
+        return used;
+    }
+    if lacks(amounts.len(), used, many) {
+        return used;
+    }
+    let mut i = 0;
+    while i < many {
+        places[used + i] = (place + i) as u16;
+        amounts[used + i] = rest;
+        i += 1;
+    }
+    used + many
 }
 
 // Turns terms, which lie from base up to stop behind the room for so many ranks, into the arcs of a place whose flat places begin at start.
+// It ends at a term whose rank is not the next or a later one below count.
 fn load_terms(
     start: usize,
     count: usize,
@@ -65,24 +97,31 @@ fn load_terms(
     ensures { λ r. ⌜ TermsLoaded start count base stop rest (now (places .entry)) (now (amounts .entry)) used (now (places .exit)) (now (amounts .exit)) r ⌝ }
 {
     let mut end = used;
+    let mut rank = 0;
     let mut i = base;
-    let mut rank = next_rank(places, base, stop, rest, 0);
-    while rank < count {
-        let here = rank_or_none(places, i, stop) == rank;
-        let weight = count_or(amounts, i, here, rest);
-        end = append(places, amounts, end, (start + rank) as u16, weight);
-        i = step_if(i, here);
-        rank = next_rank(places, i, stop, rest, rank + 1);
+    while i < stop {
+        let next = slot(places, i) as usize;
+        let weight = slot(amounts, i);
+        if next < rank {
+            return end;
+        }
+        if count <= next {
+            return end;
+        }
+        end = fill(places, amounts, end, start + rank, next - rank, rest);
+        end = append(places, amounts, end, (start + next) as u16, weight);
+        rank = next + 1;
+        i += 1;
     }
-    end
+    fill(places, amounts, end, start + rank, count - rank, rest)
 }
 
-// Appends the arcs of any expression: its terms first, behind the room for its arcs.
+// Appends the arcs of any expression but 0x40: its terms first, behind the room for its arcs.
 fn load_listed(
     s: &[u8],
     sizes: &[u8],
     vars: &[u8],
-    env: &[u8],
+    env: &[u8; 32],
     paired: bool,
     start: usize,
     count: usize,
@@ -91,7 +130,7 @@ fn load_listed(
     amounts: &mut [u16],
     used: usize,
 ) -> usize
-    requires { ⌜ start + count ≤ 65535 ⌝ }
+    requires { ⌜ (start + count ≤ 65535) × (byteAt (now s) at ≡ 0x40 → ⊥) ⌝ }
     ensures { λ r. ⌜ ArcLoaded (now (s .entry)) (now (sizes .entry)) (now (vars .entry)) (now (env .entry)) paired start count at
         (now (places .entry)) (now (amounts .entry)) used (now (places .exit)) (now (amounts .exit)) r ⌝ }
 {
@@ -103,9 +142,9 @@ fn load_listed(
     }
     let base = used + count;
     let m = list_terms(
-        s,
-        sizes,
-        vars,
+        &s,
+        &sizes,
+        &vars,
         env,
         paired,
         count,
@@ -124,7 +163,7 @@ pub fn load_arc(
     s: &[u8],
     sizes: &[u8],
     vars: &[u8],
-    env: &[u8],
+    env: &[u8; 32],
     paired: bool,
     start: usize,
     count: usize,

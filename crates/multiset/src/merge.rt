@@ -7,7 +7,7 @@ ghost use lib.ListN.{length, getD};
 ghost use Rattle.reading.specs.Basics.{if_then_else_};
 ghost use Rattle.firing.specs.Arcs.{Arc, arcsIn};
 ghost use Rattle.net.specs.Evaluated.{limit};
-ghost use Rattle.multiset.specs.Terms.{term, joined, joinBy, timesAll, Appended, MergedFirst};
+ghost use Rattle.multiset.specs.Terms.{term, Terms, joined, joinBy, timesAll, Appended, MergedFirst, Apart};
 
 // An element, or 0 past the end.
 pub fn slot(l: &[u16], i: usize) -> u16
@@ -68,7 +68,7 @@ pub fn scale(counts: &mut [u16], start: usize, end: usize, factor: u16)
 }
 
 // The rank of a term below an end, or 65,536 where there is none.
-pub fn rank_or_none(ranks: &[u16], i: usize, end: usize) -> usize
+fn rank_or_none(ranks: &[u16], i: usize, end: usize) -> usize
     ensures here { λ r. ⌜ (i < end → r ≡ getD (now (ranks .entry)) i 0) ⌝ }
     ensures none { λ r. ⌜ (end ≤ i → r ≡ 65536) ⌝ }
     ensures small { λ r. ⌜ r ≤ 65536 ⌝ }
@@ -81,14 +81,14 @@ pub fn rank_or_none(ranks: &[u16], i: usize, end: usize) -> usize
 }
 
 // The count of a term, or the rest.
-pub fn count_or(counts: &[u16], i: usize, here: bool, rest: u16) -> u16
+fn count_or(counts: &[u16], i: usize, here: bool, rest: u16) -> u16
     ensures { λ r. ⌜ r ≡ (if here then getD (now (counts .entry)) i 0 else rest) ⌝ }
 {
     if here { slot(counts, i) } else { rest }
 }
 
 // The number after i where there is a step, else i.
-pub fn step_if(i: usize, here: bool) -> usize
+fn step_if(i: usize, here: bool) -> usize
     requires { ⌜ (here ≡ true → i < 18446744073709551615) ⌝ }
     ensures { λ r. ⌜ r ≡ (if here then i + 1 else i) ⌝ }
 {
@@ -191,6 +191,28 @@ fn move_down(ranks: &mut [u16], counts: &mut [u16], from: usize, end: usize, to:
     k
 }
 
+// Whether two runs lie joined already: to their sum, where nothing else has a count, and the second comes after the first.
+fn apart(less: bool, ranks: &[u16], start: usize, middle: usize, end: usize, p: u16, q: u16) -> bool
+    ensures { λ r. ⌜ (r ≡ true → Apart less (now (ranks .entry)) start middle end p q) ⌝ }
+{
+    if less {
+        return false;
+    }
+    if 0 < p {
+        return false;
+    }
+    if 0 < q {
+        return false;
+    }
+    if middle <= start {
+        return true;
+    }
+    if end <= middle {
+        return true;
+    }
+    slot(ranks, middle - 1) < slot(ranks, middle)
+}
+
 // Joins two runs of terms, one from start up to middle and one from there up to the end, to one from start on. p and q are what every other rank has.
 pub fn merge(
     less: bool,
@@ -203,11 +225,15 @@ pub fn merge(
     q: u16,
 ) -> usize
     requires { ⌜ (start ≤ middle) × (middle ≤ end) ⌝ }
-    ensures is { λ r. ⌜ (end + (end - start) ≤ length (now (ranks .entry)) → end + (end - start) ≤ length (now (counts .entry))
+    ensures is { λ r. ⌜ ((below : ℕ) → Terms below 0 (arcsIn (now (ranks .entry)) (now (counts .entry)) start middle) → Terms below 0 (arcsIn (now (ranks .entry)) (now (counts .entry)) middle end)
+        → end + (end - start) ≤ length (now (ranks .entry)) → end + (end - start) ≤ length (now (counts .entry))
         → Appended (joined (joinBy less) p q (arcsIn (now (ranks .entry)) (now (counts .entry)) start middle) (arcsIn (now (ranks .entry)) (now (counts .entry)) middle end))
         (now (ranks .entry)) (now (counts .entry)) start (now (ranks .exit)) (now (counts .exit)) r) ⌝ }
     ensures low { λ r. ⌜ start ≤ r ⌝ }
 {
+    if apart(less, ranks, start, middle, end, p, q) {
+        return end;
+    }
     let m = merge_first(less, ranks, counts, start, middle, end, p, q);
     let stop = merge_rest(less, ranks, counts, m.second, end, p, m.end);
     move_down(ranks, counts, end, stop, start)

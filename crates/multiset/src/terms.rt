@@ -1,4 +1,4 @@
-// The terms of an arc expression under a binding, by recursion over its bytes.
+// The terms of an arc expression under a binding, by recursion over its bytes. The file and the tables are handed on by address.
 // Nothing is asked of the bytes: where they hold a tree, what comes out is the tree's.
 use crate::merge::join;
 use crate::merge::merge;
@@ -9,7 +9,7 @@ use net::eval_rank;
 use reading::word_at;
 ghost use mathlib.Core.Path.{_≡_};
 ghost use mathlib.Core.List.{List, [], _∷_};
-ghost use Prim.Native.Nat.{ℕ, _≤_, _<_, _+_};
+ghost use Prim.Native.Nat.{ℕ, _≤_, _<_, _+_, _^_};
 ghost use lib.ListN.{length};
 ghost use Rattle.reading.specs.Basics.{byteAt};
 ghost use Rattle.reading.specs.Reading.{under};
@@ -58,12 +58,23 @@ fn nothing(used: usize, next: usize) -> Multiset
     }
 }
 
+// The same multiset, told field by field.
+fn anew(m: Multiset) -> Multiset
+    ensures { λ r. ⌜ r ≡ m ⌝ }
+{
+    Multiset {
+        end: m.end,
+        rest: m.rest,
+        next: m.next,
+    }
+}
+
 // Two expressions one after the other: their sum, or the first less the second.
 fn list_joined(
-    s: &[u8],
-    sizes: &[u8],
-    vars: &[u8],
-    env: &[u8],
+    s: &&[u8],
+    sizes: &&[u8],
+    vars: &&[u8],
+    env: &[u8; 32],
     paired: bool,
     count: usize,
     less: bool,
@@ -73,10 +84,10 @@ fn list_joined(
     counts: &mut [u16],
     used: usize,
 ) -> Multiset
-    requires { ⌜ count ≤ 65535 ⌝ }
-    ensures is { λ r. ⌜ ((known : List Place) (first second at : ℕ) → ListedTold (net (now (sizes .entry)) (now (vars .entry)) known [] []) (now (env .entry)) count
+    requires { ⌜ (count ≤ 65535) × (length (now (now s)) < 2 ^ 63) ⌝ }
+    ensures is { λ r. ⌜ ((known : List Place) (first second at : ℕ) → ListedTold (net (now (now (sizes .entry))) (now (now (vars .entry))) known [] []) (now (env .entry)) count
         (now (ranks .entry)) (now (counts .entry)) used (now (ranks .exit)) (now (counts .exit)) r
-        (capped at (twoOf (readExpression (now (s .entry)) (net (now (sizes .entry)) (now (vars .entry)) known [] []) (placeBy paired first second) left) (joins less) next))) ⌝ }
+        (capped at (twoOf (readExpression (now (now (s .entry))) (net (now (now (sizes .entry))) (now (now (vars .entry))) known [] []) (placeBy paired first second) left) (joins less) next))) ⌝ }
     ensures low { λ r. ⌜ used ≤ r .end ⌝ }
 {
     let e = list_terms(
@@ -114,10 +125,10 @@ fn list_joined(
 
 // A factor times an expression.
 fn list_times(
-    s: &[u8],
-    sizes: &[u8],
-    vars: &[u8],
-    env: &[u8],
+    s: &&[u8],
+    sizes: &&[u8],
+    vars: &&[u8],
+    env: &[u8; 32],
     paired: bool,
     count: usize,
     factor: u16,
@@ -127,10 +138,10 @@ fn list_times(
     counts: &mut [u16],
     used: usize,
 ) -> Multiset
-    requires { ⌜ count ≤ 65535 ⌝ }
-    ensures is { λ r. ⌜ ((known : List Place) (first second at : ℕ) → ListedTold (net (now (sizes .entry)) (now (vars .entry)) known [] []) (now (env .entry)) count
+    requires { ⌜ (count ≤ 65535) × (length (now (now s)) < 2 ^ 63) ⌝ }
+    ensures is { λ r. ⌜ ((known : List Place) (first second at : ℕ) → ListedTold (net (now (now (sizes .entry))) (now (now (vars .entry))) known [] []) (now (env .entry)) count
         (now (ranks .entry)) (now (counts .entry)) used (now (ranks .exit)) (now (counts .exit)) r
-        (capped at (under (times factor) (readExpression (now (s .entry)) (net (now (sizes .entry)) (now (vars .entry)) known [] []) (placeBy paired first second) left next)))) ⌝ }
+        (capped at (under (times factor) (readExpression (now (now (s .entry))) (net (now (now (sizes .entry))) (now (now (vars .entry))) known [] []) (placeBy paired first second) left next)))) ⌝ }
     ensures low { λ r. ⌜ used ≤ r .end ⌝ }
 {
     let e = list_terms(
@@ -156,10 +167,10 @@ fn list_times(
 
 // The terms of an expression that has others inside, 0x42 to 0x44.
 fn list_inside(
-    s: &[u8],
-    sizes: &[u8],
-    vars: &[u8],
-    env: &[u8],
+    s: &&[u8],
+    sizes: &&[u8],
+    vars: &&[u8],
+    env: &[u8; 32],
     paired: bool,
     count: usize,
     left: u8,
@@ -168,30 +179,31 @@ fn list_inside(
     counts: &mut [u16],
     used: usize,
 ) -> Multiset
-    requires { ⌜ count ≤ 65535 ⌝ }
-    requires inner { ⌜ (1 ≤ left) × (at < length (now s)) ⌝ }
-    requires other { ⌜ (byteAt (now s) at ≡ 0x40 → ⊥) × (byteAt (now s) at ≡ 0x41 → ⊥) ⌝ }
-    ensures is { λ r. ⌜ ((known : List Place) (first second : ℕ) → ListedTold (net (now (sizes .entry)) (now (vars .entry)) known [] []) (now (env .entry)) count
+    requires { ⌜ (count ≤ 65535) × (length (now (now s)) < 2 ^ 63) ⌝ }
+    requires inner { ⌜ (1 ≤ left) × (at < length (now (now s))) ⌝ }
+    requires other { ⌜ (byteAt (now (now s)) at ≡ 0x40 → ⊥) × (byteAt (now (now s)) at ≡ 0x41 → ⊥) ⌝ }
+    ensures is { λ r. ⌜ ((known : List Place) (first second : ℕ) → ListedTold (net (now (now (sizes .entry))) (now (now (vars .entry))) known [] []) (now (env .entry)) count
         (now (ranks .entry)) (now (counts .entry)) used (now (ranks .exit)) (now (counts .exit)) r
-        (readExpression (now (s .entry)) (net (now (sizes .entry)) (now (vars .entry)) known [] []) (placeBy paired first second) left at)) ⌝ }
+        (readExpression (now (now (s .entry))) (net (now (now (sizes .entry))) (now (now (vars .entry))) known [] []) (placeBy paired first second) left at)) ⌝ }
     ensures low { λ r. ⌜ used ≤ r .end ⌝ }
 {
-    let b = s[at];
+    let file = *s;
+    let b = file[at];
     if b == 0x44 {
-        return list_times(
+        return anew(list_times(
             s,
             sizes,
             vars,
             env,
             paired,
             count,
-            word_at(s, at + 1) as u16,
+            word_at(file, at + 1) as u16,
             left - 1,
             at + 3,
             ranks,
             counts,
             used,
-        );
+        ));
     }
     if b < 0x42 {
         return nothing(used, at);
@@ -199,7 +211,7 @@ fn list_inside(
     if 0x43 < b {
         return nothing(used, at);
     }
-    list_joined(
+    anew(list_joined(
         s,
         sizes,
         vars,
@@ -212,15 +224,15 @@ fn list_inside(
         ranks,
         counts,
         used,
-    )
+    ))
 }
 
 // The terms of the arc expression at a place, with so many levels left, for the ranks below count; they follow those that are used.
 pub fn list_terms(
-    s: &[u8],
-    sizes: &[u8],
-    vars: &[u8],
-    env: &[u8],
+    s: &&[u8],
+    sizes: &&[u8],
+    vars: &&[u8],
+    env: &[u8; 32],
     paired: bool,
     count: usize,
     left: u8,
@@ -229,20 +241,21 @@ pub fn list_terms(
     counts: &mut [u16],
     used: usize,
 ) -> Multiset
-    requires { ⌜ count ≤ 65535 ⌝ }
-    ensures is { λ r. ⌜ ((known : List Place) (first second : ℕ) → ListedTold (net (now (sizes .entry)) (now (vars .entry)) known [] []) (now (env .entry)) count
+    requires { ⌜ (count ≤ 65535) × (length (now (now s)) < 2 ^ 63) ⌝ }
+    ensures is { λ r. ⌜ ((known : List Place) (first second : ℕ) → ListedTold (net (now (now (sizes .entry))) (now (now (vars .entry))) known [] []) (now (env .entry)) count
         (now (ranks .entry)) (now (counts .entry)) used (now (ranks .exit)) (now (counts .exit)) r
-        (readExpression (now (s .entry)) (net (now (sizes .entry)) (now (vars .entry)) known [] []) (placeBy paired first second) left at)) ⌝ }
+        (readExpression (now (now (s .entry))) (net (now (now (sizes .entry))) (now (now (vars .entry))) known [] []) (placeBy paired first second) left at)) ⌝ }
     ensures low { λ r. ⌜ used ≤ r .end ⌝ }
 {
-    if s.len() <= at {
+    let file = *s;
+    if file.len() <= at {
         return nothing(used, at);
     }
-    let b = s[at];
+    let b = file[at];
     if b == 0x41 {
         return Multiset {
             end: used,
-            rest: word_at(s, at + 1) as u16,
+            rest: word_at(file, at + 1) as u16,
             next: at + 3,
         };
     }
@@ -250,15 +263,15 @@ pub fn list_terms(
         return nothing(used, at);
     }
     if b == 0x40 {
-        let k = eval_rank(s, sizes, vars, env, paired, left - 1, at + 3);
-        let number = word_at(s, at + 1) as u16;
+        let k = eval_rank(file, *sizes, *vars, env, paired, left - 1, at + 3);
+        let number = word_at(file, at + 1) as u16;
         return Multiset {
             end: store_below(ranks, counts, used, count, k.rank, number),
             rest: 0,
             next: k.next,
         };
     }
-    list_inside(
+    anew(list_inside(
         s,
         sizes,
         vars,
@@ -270,5 +283,5 @@ pub fn list_terms(
         ranks,
         counts,
         used,
-    )
+    ))
 }

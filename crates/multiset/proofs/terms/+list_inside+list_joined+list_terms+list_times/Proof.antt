@@ -1,12 +1,12 @@
 use borrow.Author.Needs.{needs}
 use native.Mathlib.Omega.{arith}
-use Prim.Native.Nat.{ℕ, _+_, _<_}
 use mathlib.Core.List.{[]}
 use denote.Ref.{now}
 use Rattle.net.specs.Net.{net}
 use Rattle.net.specs.Reader.{readExpression}
 use Rattle.net.specs.Evaluated.{placeBy}
 use Rattle.multiset.proofs.Listing.{times-listed, joined-listed, all-listed, amount-listed, times-told, either-told, listed-past, listed-shut, listed-stray}
+use Prim.Native.Nat.{ℕ, _+_, _<_}
 use borrow.Fn.Kinds.{In}
 use borrow.Fn.PlainCycle.{Measures, is, falls, and}
 use Rattle.multiset.proofs.terms.list_inside.Reads as list-inside
@@ -25,6 +25,7 @@ use Rattle.multiset.proofs.merge.join.Reads as join-reads
 use Rattle.multiset.proofs.merge.merge.Reads as merge-reads
 use Rattle.multiset.proofs.merge.scale.Reads as scale-reads
 use Rattle.multiset.proofs.merge.scaled.Reads as scaled-reads
+use Rattle.multiset.proofs.terms.anew.Reads as anew-reads
 use Rattle.multiset.proofs.terms.nothing.Reads as nothing-reads
 use Rattle.multiset.proofs.terms.store_below.Reads as store-below-reads
 use Rattle.net.proofs.eval_rank.Reads as eval-rank-reads
@@ -32,49 +33,49 @@ use Rattle.reading.proofs.word_at.Reads as word-at-reads
 use Rattle.multiset.proofs.terms.+list_inside+list_joined+list_terms+list_times.{statement}
 use Rattle.multiset.proofs.terms.+list_inside+list_joined+list_terms+list_times.Tie.{close}
 
-abbrev μ-list-inside : Measures 6 list-inside-kinds.ps ℕ
+abbrev μ-list-inside : Measures 9 list-inside-kinds.ps ℕ
 μ-list-inside κs a = a .1 .1 .1 .1 .1 .1 .0 + a .1 .1 .1 .1 .1 .1 .0 + a .1 .1 .1 .1 .1 .1 .0 + 1
 
-abbrev μ-list-joined : Measures 6 list-joined-kinds.ps ℕ
+abbrev μ-list-joined : Measures 9 list-joined-kinds.ps ℕ
 μ-list-joined κs a = a .1 .1 .1 .1 .1 .1 .1 .0 + a .1 .1 .1 .1 .1 .1 .1 .0 + a .1 .1 .1 .1 .1 .1 .1 .0 + 3
 
-abbrev μ-list-terms : Measures 6 list-terms-kinds.ps ℕ
+abbrev μ-list-terms : Measures 9 list-terms-kinds.ps ℕ
 μ-list-terms κs a = a .1 .1 .1 .1 .1 .1 .0 + a .1 .1 .1 .1 .1 .1 .0 + a .1 .1 .1 .1 .1 .1 .0 + 2
 
-abbrev μ-list-times : Measures 6 list-times-kinds.ps ℕ
+abbrev μ-list-times : Measures 9 list-times-kinds.ps ℕ
 μ-list-times κs a = a .1 .1 .1 .1 .1 .1 .1 .0 + a .1 .1 .1 .1 .1 .1 .1 .0 + a .1 .1 .1 .1 .1 .1 .1 .0 + 3
 
-abbrev list-inside-at : ℕ → In 6 list-inside-kinds.ps
+abbrev list-inside-at : ℕ → In 9 list-inside-kinds.ps
 list-inside-at t =
-    and 6 list-inside-kinds.ps (is 6 list-inside-kinds.ps μ-list-inside t) list-inside.Pre
+    and 9 list-inside-kinds.ps (is 9 list-inside-kinds.ps μ-list-inside t) list-inside.Pre
 
-abbrev list-inside-below : ℕ → In 6 list-inside-kinds.ps
+abbrev list-inside-below : ℕ → In 9 list-inside-kinds.ps
 list-inside-below t =
-    and 6 list-inside-kinds.ps (falls 6 list-inside-kinds.ps _<_ μ-list-inside t) list-inside.Pre
+    and 9 list-inside-kinds.ps (falls 9 list-inside-kinds.ps _<_ μ-list-inside t) list-inside.Pre
 
-abbrev list-joined-at : ℕ → In 6 list-joined-kinds.ps
+abbrev list-joined-at : ℕ → In 9 list-joined-kinds.ps
 list-joined-at t =
-    and 6 list-joined-kinds.ps (is 6 list-joined-kinds.ps μ-list-joined t) list-joined.Pre
+    and 9 list-joined-kinds.ps (is 9 list-joined-kinds.ps μ-list-joined t) list-joined.Pre
 
-abbrev list-joined-below : ℕ → In 6 list-joined-kinds.ps
+abbrev list-joined-below : ℕ → In 9 list-joined-kinds.ps
 list-joined-below t =
-    and 6 list-joined-kinds.ps (falls 6 list-joined-kinds.ps _<_ μ-list-joined t) list-joined.Pre
+    and 9 list-joined-kinds.ps (falls 9 list-joined-kinds.ps _<_ μ-list-joined t) list-joined.Pre
 
-abbrev list-terms-at : ℕ → In 6 list-terms-kinds.ps
+abbrev list-terms-at : ℕ → In 9 list-terms-kinds.ps
 list-terms-at t =
-    and 6 list-terms-kinds.ps (is 6 list-terms-kinds.ps μ-list-terms t) list-terms.Pre
+    and 9 list-terms-kinds.ps (is 9 list-terms-kinds.ps μ-list-terms t) list-terms.Pre
 
-abbrev list-terms-below : ℕ → In 6 list-terms-kinds.ps
+abbrev list-terms-below : ℕ → In 9 list-terms-kinds.ps
 list-terms-below t =
-    and 6 list-terms-kinds.ps (falls 6 list-terms-kinds.ps _<_ μ-list-terms t) list-terms.Pre
+    and 9 list-terms-kinds.ps (falls 9 list-terms-kinds.ps _<_ μ-list-terms t) list-terms.Pre
 
-abbrev list-times-at : ℕ → In 6 list-times-kinds.ps
+abbrev list-times-at : ℕ → In 9 list-times-kinds.ps
 list-times-at t =
-    and 6 list-times-kinds.ps (is 6 list-times-kinds.ps μ-list-times t) list-times.Pre
+    and 9 list-times-kinds.ps (is 9 list-times-kinds.ps μ-list-times t) list-times.Pre
 
-abbrev list-times-below : ℕ → In 6 list-times-kinds.ps
+abbrev list-times-below : ℕ → In 9 list-times-kinds.ps
 list-times-below t =
-    and 6 list-times-kinds.ps (falls 6 list-times-kinds.ps _<_ μ-list-times t) list-times.Pre
+    and 9 list-times-kinds.ps (falls 9 list-times-kinds.ps _<_ μ-list-times t) list-times.Pre
 
 pub +list-inside+list-joined+list-terms+list-times-spec : {M : Type 1} → statement M
 +list-inside+list-joined+list-terms+list-times-spec =
@@ -83,6 +84,8 @@ pub +list-inside+list-joined+list-terms+list-times-spec : {M : Type 1} → state
       word-at-reads.Learnt,
       list-times-below t,
       list-times.Post,
+      anew-reads.Asked,
+      anew-reads.Learnt,
       nothing-reads.Asked,
       nothing-reads.Learnt,
       list-joined-below t,
@@ -97,9 +100,10 @@ pub +list-inside+list-joined+list-terms+list-times-spec : {M : Type 1} → state
     (λ c. search needs)
     (λ c. search needs)
     (λ c κs. search needs)
+    (λ c κs. search needs)
     (λ c. search needs)
     (λ c. search needs)
-    (λ c. (λ known first second. times-told _ _ _ _ _ _ _ _ _ _ _ _ (search needs) _ (c .before .before .before .before .before .before .before .before .if1 .taken) (rw (c .before .before .before .before .before .before .before .word-at .ensures .0) at (c .before .before .before .before .list-times .ensures .0 known first second (c .before .before .before .before .before .before .before .before .before .before .before .before .before .before .before .before .args .at))), c .before .before .before .before .list-times .ensures .1))
+    (λ c. rw (c .anew .ensures) (λ known first second. times-told _ _ _ _ _ _ _ _ _ _ _ _ (c .before .before .before .before .before .before .before .before .before .before .before .before .before .before .pre .1 .1 .0 .0) _ (c .before .before .before .before .before .before .before .before .before .if1 .taken) (rw (c .before .before .before .before .before .before .before .before .word-at .ensures .0) at (c .before .before .before .before .before .list-times .ensures .0 known first second (c .before .before .before .before .before .before .before .before .before .before .before .before .before .before .args .at))), c .before .before .before .before .before .list-times .ensures .1))
     (λ c κs. search needs)
     (λ c. (λ known first second. listed-stray _ _ _ _ _ _ _ _ _ _ _ _ _ (search needs) (search needs) (λ e. omega arith) (λ e. omega arith) (c .before .before .if1 .left), omega (arith, c .nothing .ensures)))
     (λ c κs. search needs)
@@ -107,9 +111,10 @@ pub +list-inside+list-joined+list-terms+list-times-spec : {M : Type 1} → state
     (λ c. search needs)
     (λ c. search needs)
     (λ c κs. search needs)
+    (λ c κs. search needs)
     (λ c. search needs)
     (λ c. search needs)
-    (λ c. (λ known first second. either-told _ _ _ _ _ _ _ _ _ _ _ _ (search needs) _ (omega arith) (omega arith) (c .before .before .before .before .list-joined .ensures .0 known first second _), c .before .before .before .before .list-joined .ensures .1)))
+    (λ c. rw (c .anew2 .ensures) (λ known first second. either-told _ _ _ _ _ _ _ _ _ _ _ _ (search needs) _ (omega arith) (omega arith) (c .before .before .before .before .before .list-joined .ensures .0 known first second _), c .before .before .before .before .before .list-joined .ensures .1)))
     (λ t. list-joined-lts.spec (
       list-terms-below t,
       list-terms.Post,
@@ -126,7 +131,7 @@ pub +list-inside+list-joined+list-terms+list-times-spec : {M : Type 1} → state
     (λ c κs. search needs)
     (λ c. search needs)
     (λ c. search needs)
-    (λ c. let a = c .before .before .before .before .before .before .before .before .before .before .before .before .before .before .before .before .before .before .before .before .before .before .before .before .before .before .before .before .args in (λ known first second at. rw (c .join .ensures) (joined-listed (net (now (a .sizes)) (now (a .vars)) known [] []) _ _ _ _ _ (readExpression (now (a .s)) (net (now (a .sizes)) (now (a .vars)) known [] []) (placeBy (a .paired) first second) (a .left)) at (a .next) _ _ _ (c .before .before .before .before .before .before .before .before .before .before .before .before .before .before .before .before .before .before .before .list-terms .ensures .0 known first second) _ _ _ (c .before .before .before .before .before .before .before .before .before .before .before .before .list-terms2 .ensures .0 known first second) (a .less) _ _ _ (c .before .before .before .before .before .merge .ensures .0)), c .before .before .before .before .before .merge .ensures .1)))
+    (λ c. let a = c .before .before .before .before .before .before .before .before .before .before .before .before .before .before .before .before .before .before .before .before .before .before .before .before .args in (λ known first second at. rw (c .join .ensures) (joined-listed (net (now (now (a .sizes))) (now (now (a .vars))) known [] []) _ _ _ _ _ (readExpression (now (now (a .s))) (net (now (now (a .sizes))) (now (now (a .vars))) known [] []) (placeBy (a .paired) first second) (a .left)) at (a .next) _ _ _ (c .before .before .before .before .before .before .before .before .before .before .before .before .before .before .before .before .before .before .before .list-terms .ensures .0 known first second) _ _ _ (c .before .before .before .before .before .before .before .before .before .before .before .before .list-terms2 .ensures .0 known first second) (a .less) _ _ _ (c .before .before .before .before .before .merge .ensures .0)), c .before .before .before .before .before .merge .ensures .1)))
     (λ t. list-terms-lts.spec (
       nothing-reads.Asked,
       nothing-reads.Learnt,
@@ -138,6 +143,8 @@ pub +list-inside+list-joined+list-terms+list-times-spec : {M : Type 1} → state
       store-below-reads.Learnt,
       list-inside-below t,
       list-inside.Post,
+      anew-reads.Asked,
+      anew-reads.Learnt,
     )
     (list-terms-at t)
     list-terms.Post
@@ -159,11 +166,12 @@ pub +list-inside+list-joined+list-terms+list-times-spec : {M : Type 1} → state
     (λ c κs. search needs)
     (λ c. search needs)
     (λ c. search needs)
-    (λ c. (λ known first second. amount-listed _ _ _ _ _ _ _ _ _ _ _ _ (search needs) _ _ (rw (c .before .before .before .before .before .before .before .word-at2 .ensures .0) at (c .before .before .before .before .store-below .ensures .0)) (c .before .before .before .before .store-below .ensures .1 .0) (c .before .before .before .before .before .before .before .before .eval-rank .ensures known first second _ _) (c .before .before .before .before .before .before .before .before .before .if4 .taken), c .before .before .before .before .store-below .ensures .1 .1))
+    (λ c. (λ known first second. amount-listed _ _ _ _ _ _ _ _ _ _ _ _ (search needs) _ _ (rw (c .before .before .before .before .before .before .before .word-at2 .ensures .0) at (c .before .before .before .before .store-below .ensures .0)) (c .before .before .before .before .store-below .ensures .1 .0) (c .before .before .before .before .before .before .before .before .eval-rank .ensures known first second _ _) (c .before .before .before .before .before .before .before .before .before .before .before .if4 .taken), c .before .before .before .before .store-below .ensures .1 .1))
+    (λ c κs. search needs)
     (λ c κs. search needs)
     (λ c. search needs)
     (λ c. search needs)
-    (λ c. c .before .before .before .before .list-inside .ensures))
+    (λ c. rw (c .anew .ensures) (c .before .before .before .before .before .list-inside .ensures)))
     λ t. list-times-lts.spec (
       list-terms-below t,
       list-terms.Post,
@@ -179,4 +187,4 @@ pub +list-inside+list-joined+list-terms+list-times-spec : {M : Type 1} → state
     (λ c κs. search needs)
     (λ c. search needs)
     (λ c. search needs)
-    (λ c. let a = c .before .before .before .before .before .before .before .before .before .before .before .before .before .before .before .before .before .before .args in (λ known first second at. rw (c .scaled .ensures) (times-listed _ _ _ _ _ _ (readExpression (now (a .s)) (net (now (a .sizes)) (now (a .vars)) known [] []) (placeBy (a .paired) first second) (a .left)) at (a .next) _ _ _ (c .before .before .before .before .before .before .before .before .before .list-terms .ensures .0 known first second) _ _ (c .before .before .before .scale .ensures)), c .before .before .before .before .before .before .before .before .before .list-terms .ensures .1))
+    (λ c. let a = c .before .before .before .before .before .before .before .before .before .before .before .before .before .before .args in (λ known first second at. rw (c .scaled .ensures) (times-listed _ _ _ _ _ _ (readExpression (now (now (a .s))) (net (now (now (a .sizes))) (now (now (a .vars))) known [] []) (placeBy (a .paired) first second) (a .left)) at (a .next) _ _ _ (c .before .before .before .before .before .before .before .before .before .list-terms .ensures .0 known first second) _ _ (c .before .before .before .scale .ensures)), c .before .before .before .before .before .before .before .before .before .list-terms .ensures .1))
