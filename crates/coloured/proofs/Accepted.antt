@@ -1,15 +1,22 @@
 -- From the net reader's promise to what the calls know. Assumes nothing.
 use mathlib.Core.Path.{_≡_, sym, subst, _∙_}
 use Prim.Native.Nat.{_≤_, _<_}
-use Rattle.reading.specs.Basics.{ℕ, List, [], length, take}
+use Rattle.reading.specs.Basics.{ℕ, List, [], length, getD, take}
 use Rattle.reading.specs.Reading.{refused}
-use Rattle.net.specs.Net.{Net, net, flatPlaceCount}
+use Rattle.net.specs.Net.{Net, net, flatPlaceCount, inTransition}
+use Rattle.net.specs.Told.{bits}
 use Rattle.net_file.specs.Parts.{readNet}
 use Rattle.net_file.specs.Tables.{Started, TransitionsHold}
+use Rattle.net_file.specs.Limits.{Limits}
+use Rattle.net_file.specs.Formed.{Formed}
 use Rattle.net_file.specs.Held.{NetHolds, NetHeld, NetTold}
 use Rattle.net_file.specs.declared.file.NetRead.{NetRead}
 use Rattle.net_file.specs.declared.file.NetRead.the-variants.{Whole, Refused}
-use Rattle.coloured.specs.Packed.{Packed}
+use Rattle.net_file.proofs.Limits.{limits}
+use Rattle.net_file.proofs.Formed.{formed}
+use Rattle.coloured.specs.Effect.{transitionAt}
+use Rattle.coloured.specs.Packed.{shapeIn, Packed}
+use Rattle.coloured.specs.Own.{Owned}
 use Rattle.coloured.specs.Ready.{Ready}
 use Rattle.coloured.proofs.Tabled.{drawing}
 
@@ -33,19 +40,26 @@ module _ (s sizes vars firsts seconds starts uses guards arcs initial : List ℕ
       begun : Started (net (n .sets) [] [] [] []) (n .places) starts places total
       begun = record { few = h .started .few; small = h .started .small; are = h .started .are; all = h .started .all; begin = h .started .begin }
 
-      pub ready : {packed : List ℕ} → Packed arcs packed places transitions → Ready s n (take sets sizes) (take variables vars) seconds starts uses guards packed places transitions
-      ready {packed} packs =
+      -- from the packed table, and from each transition's own variables
+      pub ready : {packed own : List ℕ} → Packed (shapeIn seconds starts) arcs packed places transitions
+          → ((k : Net) → k .sets ≡ take sets sizes → k .variables ≡ take variables vars → Limits k → Formed k → length (k .transitions) ≡ transitions
+          → ((t : ℕ) → t < length (k .transitions) → getD uses t 0 ≡ bits (λ v. inTransition v (transitionAt k t)) 32) → Owned k own)
+          → Ready s n (take sets sizes) (take variables vars) own uses guards packed transitions
+      ready {packed} packs owns =
           record {
             read = held .read;
             drawing =
-                drawing firsts uses arcs (sym (h .sets-are)) (sym (h .variables-are)) (sym (h .places-are)) (subst (λ l. Started (net l [] [] [] []) (n .places) starts places total) (sym (h .sets-are)) begun)
+                drawing n firsts seconds (sym (h .sets-are)) (sym (h .places-are)) (subst (λ l. Started (net l [] [] [] []) (n .places) starts places total) (sym (h .sets-are)) begun) (limits s n (held .read)) s uses arcs (sym (h .variables-are))
                 (subst (λ l. TransitionsHold s (net l (take variables vars) (n .places) [] []) (n .transitions) uses guards arcs) (sym (h .sets-are))
                 (subst (λ l. TransitionsHold s (net (n .sets) l (n .places) [] []) (n .transitions) uses guards arcs) (sym (h .variables-are)) (h .holds)))
-                (subst (λ c. Packed arcs packed c (length (n .transitions))) (sym (h .started .are)) (subst (λ c. Packed arcs packed places c) (sym (h .transitions-are)) packs));
-            used = λ t lt. h .holds t lt .used;
-            places-are = h .started .are;
+                (subst (λ c. Packed (shapeIn seconds starts) arcs packed c (length (n .transitions))) (sym (h .started .are)) (subst (λ c. Packed (shapeIn seconds starts) arcs packed places c) (sym (h .transitions-are)) packs));
+            owned = owns n (sym (h .sets-are)) (sym (h .variables-are)) (limits s n (held .read)) (formed s n (held .read)) (h .transitions-are) used;
+            used = used;
             transitions-are = h .transitions-are;
           }
+        where
+          used : (t : ℕ) → t < length (n .transitions) → getD uses t 0 ≡ bits (λ v. inTransition v (transitionAt n t)) 32
+          used t lt = h .holds t lt .used
 
       pub counted : flatPlaceCount n ≡ total
       counted = h .started .all

@@ -33,8 +33,8 @@ module _ (s : List ℕ) {number place : ℕ} (is : readNet s ≡ refused number 
   no-fire m orders answers = running.call-refused _ _ _ _ m orders answers is
 
 -- ---- files that are read
-module _ {s : List ℕ} {n : Net} {sizes vars seconds starts uses guards arcs : List ℕ} {places transitions : ℕ}
-    (ready : Ready s n sizes vars seconds starts uses guards arcs places transitions) {total : ℕ} (sized : flatPlaceCount n ≡ total) (m : List ℕ) where
+module _ {s : List ℕ} {n : Net} {sizes vars own uses guards arcs : List ℕ} {transitions : ℕ}
+    (ready : Ready s n sizes vars own uses guards arcs transitions) {total : ℕ} (sized : flatPlaceCount n ≡ total) (m : List ℕ) where
   -- a marking of another length
   wrong : (length m ≡ total → ⊥) → length m ≡ flatPlaceCount n → ⊥
   wrong h e = h (e ∙ sized)

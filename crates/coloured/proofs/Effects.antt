@@ -4,7 +4,7 @@ use mathlib.Core.List.{List·Memᴰ·not-nil}
 use Prim.Native.Nat.{_≤_, _<_}
 use native.Mathlib.Omega.{arith}
 use lib.Seq.{take-take}
-use Rattle.reading.specs.Basics.{ℕ, _+_, _*_, Bool, true, false, not, _||_, List, [], _∷_, Option, none, some, length, take, getD, getElem?, if_then_else_, given, any, find}
+use Rattle.reading.specs.Basics.{ℕ, _+_, _/_, _*_, Bool, true, false, not, _||_, List, [], _∷_, Option, none, some, length, take, getD, getElem?, if_then_else_, given, any, find}
 use Rattle.reading.proofs.Lists.{In, here, there, in-cases}
 use Rattle.firing.specs.Firing.{Weights, fired, fire}
 use Rattle.firing.specs.Steps.{lacking}
@@ -20,8 +20,9 @@ use Rattle.net.proofs.Alike.{holds-alike, holds-bound, weight-bound}
 use Rattle.multiset.specs.Terms.{Appended}
 use Rattle.multiset.proofs.Appending.{arcs-kept}
 use Rattle.coloured.specs.Effect.{Binding, FlatPlace, transitionAt, standsFor, flatPlaces, arcWeight, weightsOf, effect}
-use Rattle.coloured.specs.Drawing.{room, kindArcs, Drawing, Binds, TakesLoaded, RowLoaded}
+use Rattle.coloured.specs.Drawing.{kindSlots, rowSlots, room, kindArcs, Drawing, Binds, TakesLoaded, RowLoaded}
 use Rattle.coloured.specs.Loading.{KindLoaded, GuardTold, binding}
+use Rattle.coloured.proofs.Needing.{kind-low, kind-arcs, row-room}
 use Rattle.coloured.proofs.Split.{split, start-low, kind-few}
 
 -- ---- what stands somewhere
@@ -85,19 +86,33 @@ weights-are n b {w} e = go (holds n (standsFor (variablesOf n (transitionAt n (b
     go true i = cc
     go false i = let z : _≡_ {A = ℕ} 0 1 = cc in absurd (omega arith)
 
-module _ {s : List ℕ} {n : Net} {sizes vars seconds starts guards arcs : List ℕ} (env : List ℕ) (d : Drawing s n sizes vars seconds starts guards arcs)
+-- an effect has one list of weights
+same-weights : (n : Net) (b : Binding) {w w' : Weights} → effect n b ≡ some w → effect n b ≡ some w' → w ≡ w'
+same-weights n b {w = w} {w' = w'} e f = let both : some w ≡ some w' = sym e ∙ f in cc
+
+module _ {s : List ℕ} {n : Net} {sizes vars guards arcs : List ℕ} (env : List ℕ) (d : Drawing s n sizes vars guards arcs)
     (t : ℕ) (ht : t < length (n .transitions)) (colours : List ℕ) (binds : Binds n (binding t colours) env) where
   -- the binding's colours
   abbrev other : ℕ → ℕ
   other = standsFor (variablesOf n (transitionAt n t)) colours
 
   -- the arcs of one kind
-  few : (kind : ℕ) {count : ℕ} → count ≡ length (n .places) → length (kindArcs n (transitionAt n t) (bound env) kind count) ≤ flatPlaceCount n
-  few kind {count} c = omega (arith, kind-few n (transitionAt n t) (bound env) kind count (omega arith), start-low n count)
+  abbrev arcs-of : ℕ → List Arc
+  arcs-of kind = kindArcs n (transitionAt n t) (bound env) kind (length (n .places))
 
-  rows-of : (kind : ℕ) {count : ℕ} → count ≡ length (n .places)
-      → kindArcs n (transitionAt n t) (bound env) kind count ≡ arcsOf (flatPlaceCount n) (λ p. given (getElem? (flatPlaces n) p) 0 (arcWeight n (transitionAt n t) other kind))
-  rows-of kind c = ap (kindArcs n (transitionAt n t) (bound env) kind) c ∙ kind-row n (transitionAt n t) (bound env) other binds kind
+  -- no more than there are flat places, and no more than their slots
+  few : (kind : ℕ) → length (arcs-of kind) ≤ flatPlaceCount n
+  few kind = omega (arith, kind-few n (transitionAt n t) (bound env) kind (length (n .places)) (omega arith), start-low n (length (n .places)))
+
+  low : (kind : ℕ) → length (arcs-of kind) ≤ kindSlots n (transitionAt n t) kind
+  low kind = kind-arcs n (transitionAt n t) kind (bound env) (length (n .places))
+
+  -- the room of the net is enough for the row
+  wide : rowSlots n (transitionAt n t) + length s / 2 ≤ room s n
+  wide = row-room s n t ht
+
+  rows-of : (kind : ℕ) → arcs-of kind ≡ arcsOf (flatPlaceCount n) (λ p. given (getElem? (flatPlaces n) p) 0 (arcWeight n (transitionAt n t) other kind))
+  rows-of kind = kind-row n (transitionAt n t) (bound env) other binds kind
 
   module _ {at : ℕ} (r : Bool) (slot : at ≡ getD guards t 0) (told : GuardTold s sizes vars env at r) where
     -- what the code says of the guard
@@ -113,45 +128,42 @@ module _ {s : List ℕ} {n : Net} {sizes vars seconds starts guards arcs : List 
     effect-nothing e = rw (sym guard-is ∙ not-true r e)
 
     -- it is true, and the takes were appended
-    pub effect-takes : {places amounts p1 a1 : List ℕ} {count end : ℕ} → not r ≡ false → count ≡ length (n .places) → room s n ≤ length places → room s n ≤ length amounts
-        → KindLoaded s sizes vars env seconds starts arcs (t * 96) count places amounts 0 p1 a1 end → TakesLoaded n (binding t colours) p1 a1 end
+    pub effect-takes : {places amounts p1 a1 : List ℕ} {end : ℕ} → not r ≡ false → room s n ≤ length places → room s n ≤ length amounts
+        → KindLoaded s sizes vars env arcs (t * 96) places amounts 0 p1 a1 end → TakesLoaded n (binding t colours) p1 a1 end
     unfolding effect
-    effect-takes e c x y k1 =
-        let first = k1 n guards t 0 d ht (omega arith) (omega arith) (omega arith) (omega arith) (omega arith) in
+    effect-takes e x y k1 =
+        let first = k1 n guards t 0 d ht (omega arith) (omega arith) (omega (arith, wide)) (omega (arith, wide)) in
         record {
           weighs = weightsOf n (transitionAt n t) other;
           is = rw (sym guard-is ∙ not-false r e);
-          takes = first .are ∙ rows-of 0x16 c;
-          few = omega (arith, few 0x16 c, first .end);
+          takes = first .are ∙ rows-of 0x16;
+          few = omega (arith, low 0x16, first .end);
         }
 
   -- the puts and hinders were appended to the takes, one after the other
-  pub effect-rest : {p1 a1 p2 a2 p3 a3 : List ℕ} {count takes puts hinders : ℕ} → count ≡ length (n .places) → room s n ≤ length p1 → room s n ≤ length a1
-      → TakesLoaded n (binding t colours) p1 a1 takes
-      → KindLoaded s sizes vars env seconds starts arcs (t * 96 + 32) count p1 a1 takes p2 a2 puts
-      → KindLoaded s sizes vars env seconds starts arcs (t * 96 + 64) count p2 a2 puts p3 a3 hinders
+  after-takes : {p1 a1 p2 a2 p3 a3 : List ℕ} {takes puts hinders : ℕ} → room s n ≤ length p1 → room s n ≤ length a1
+      → ((w : Weights) → effect n (binding t colours) ≡ some w → arcsIn p1 a1 0 takes ≡ arcsOf (flatPlaceCount n) (w .take)) → takes ≤ kindSlots n (transitionAt n t) 0x16
+      → KindLoaded s sizes vars env arcs (t * 96 + 32) p1 a1 takes p2 a2 puts
+      → KindLoaded s sizes vars env arcs (t * 96 + 64) p2 a2 puts p3 a3 hinders
       → RowLoaded n (binding t colours) p3 a3 takes puts hinders
-  effect-rest {p1} {a1} {p2} {a2} {p3} {a3} {count} {takes} {puts} {hinders} c x y k k2 k3 =
+  after-takes {p1} {a1} {p2} {a2} {p3} {a3} {takes} {puts} {hinders} x y front short k2 k3 =
       record {
-        weighs = k .weighs;
-        is = k .is;
-        row = rows (arcs-kept p2 a2 p3 a3 0 takes (shorter p2 p3 (third .front)) (shorter a2 a3 (third .fronts)) ∙ arcs-kept p1 a1 p2 a2 0 takes (second .front) (second .fronts) ∙ k .takes)
-            (arcs-kept p2 a2 p3 a3 takes puts (third .front) (third .fronts) ∙ second .are ∙ rows-of 0x17 c ∙ ap (λ w. arcsOf (flatPlaceCount n) (w .put)) same)
-            (third .are ∙ rows-of 0x18 c ∙ ap (λ w. arcsOf (flatPlaceCount n) (w .hinder)) same);
+        row = λ w is.
+            let same = weights-are n (binding t colours) is in
+            rows (arcs-kept p2 a2 p3 a3 0 takes (shorter p2 p3 (third .front)) (shorter a2 a3 (third .fronts)) ∙ arcs-kept p1 a1 p2 a2 0 takes (second .front) (second .fronts) ∙ front w is)
+            (arcs-kept p2 a2 p3 a3 takes puts (third .front) (third .fronts) ∙ second .are ∙ rows-of 0x17 ∙ ap (λ w. arcsOf (flatPlaceCount n) (w .put)) same)
+            (third .are ∙ rows-of 0x18 ∙ ap (λ w. arcsOf (flatPlaceCount n) (w .hinder)) same);
         puts-after = omega (arith, second .end);
         hinders-after = omega (arith, third .end);
-        fits = omega (arith, d .few, k .few, few 0x17 c, few 0x18 c, second .end, third .end);
+        fits = omega (arith, kind-low n (transitionAt n t) 0x16, few 0x17, few 0x18, second .end, third .end);
+        inside = omega (arith, low 0x17, low 0x18, second .end, third .end);
       }
     where
-      same : weightsOf n (transitionAt n t) other ≡ k .weighs
-      same = weights-are n (binding t colours) (k .is)
+      second : Appended (arcs-of 0x17) p1 a1 takes p2 a2 puts
+      second = k2 n guards t 1 d ht (omega arith) (omega arith) (omega (arith, wide)) (omega (arith, wide))
 
-      second : Appended (kindArcs n (transitionAt n t) (bound env) 0x17 count) p1 a1 takes p2 a2 puts
-      second = k2 n guards t 1 d ht (omega arith) (omega arith) (omega arith) (omega (arith, k .few)) (omega (arith, k .few))
-
-      third : Appended (kindArcs n (transitionAt n t) (bound env) 0x18 count) p2 a2 puts p3 a3 hinders
-      third = k3 n guards t 2 d ht (omega arith) (omega arith) (omega arith)
-          (omega (arith, k .few, few 0x17 c, second .end, second .size)) (omega (arith, k .few, few 0x17 c, second .end, second .sizes))
+      third : Appended (arcs-of 0x18) p2 a2 puts p3 a3 hinders
+      third = k3 n guards t 2 d ht (omega arith) (omega arith) (omega (arith, wide, low 0x17, second .end, second .size)) (omega (arith, wide, low 0x17, second .end, second .sizes))
 
       shorter : (l l' : List ℕ) → take puts l' ≡ take puts l → take takes l' ≡ take takes l
       shorter l l' q = let u : takes ≤ puts = omega (arith, second .end) in sym (take-take takes puts l' u) ∙ ap (take takes) q ∙ take-take takes puts l u
@@ -159,21 +171,42 @@ module _ {s : List ℕ} {n : Net} {sizes vars seconds starts guards arcs : List 
       rows : {a b c a' b' c' : List Arc} → a ≡ a' → b ≡ b' → c ≡ c' → row a b c ≡ row a' b' c'
       rows f g h = cc
 
+  -- takes that were loaded
+  pub effect-rest : {p1 a1 p2 a2 p3 a3 : List ℕ} {takes puts hinders : ℕ} → room s n ≤ length p1 → room s n ≤ length a1
+      → TakesLoaded n (binding t colours) p1 a1 takes
+      → KindLoaded s sizes vars env arcs (t * 96 + 32) p1 a1 takes p2 a2 puts
+      → KindLoaded s sizes vars env arcs (t * 96 + 64) p2 a2 puts p3 a3 hinders
+      → RowLoaded n (binding t colours) p3 a3 takes puts hinders
+  effect-rest x y k k2 k3 =
+      after-takes x y (λ w is. k .takes ∙ ap (λ w. arcsOf (flatPlaceCount n) (w .take)) (same-weights n (binding t colours) (k .is) is)) (k .few) k2 k3
+
+  -- all three kinds, whatever the guard says
+  pub effect-row : {places amounts p1 a1 p2 a2 p3 a3 : List ℕ} {takes puts hinders : ℕ} → room s n ≤ length places → room s n ≤ length amounts
+      → KindLoaded s sizes vars env arcs (t * 96) places amounts 0 p1 a1 takes
+      → KindLoaded s sizes vars env arcs (t * 96 + 32) p1 a1 takes p2 a2 puts
+      → KindLoaded s sizes vars env arcs (t * 96 + 64) p2 a2 puts p3 a3 hinders
+      → RowLoaded n (binding t colours) p3 a3 takes puts hinders
+  effect-row x y k1 k2 k3 =
+      let first = k1 n guards t 0 d ht (omega arith) (omega arith) (omega (arith, wide)) (omega (arith, wide)) in
+      after-takes (omega (arith, first .size)) (omega (arith, first .sizes))
+      (λ w is. first .are ∙ rows-of 0x16 ∙ ap (λ w. arcsOf (flatPlaceCount n) (w .take)) (weights-are n (binding t colours) is)) (omega (arith, low 0x16, first .end)) k2 k3
+
 -- ---- for callers: firing the row that was loaded is firing the effect
-module _ {n : Net} {b : Binding} {places amounts : List ℕ} {takes puts hinders : ℕ} (l : RowLoaded n b places amounts takes puts hinders) (m : List ℕ) (sized : length m ≡ flatPlaceCount n) where
+module _ {n : Net} {b : Binding} {places amounts : List ℕ} {takes puts hinders : ℕ} (l : RowLoaded n b places amounts takes puts hinders) {w : Weights} (is : effect n b ≡ some w)
+    (m : List ℕ) (sized : length m ≡ flatPlaceCount n) where
   -- what firing asks of a row
   pub loaded-proper : Proper (length m) (rowIn places amounts takes puts hinders)
-  loaded-proper = rw (l .row, sized) (row-proper (flatPlaceCount n) (l .weighs))
+  loaded-proper = rw (l .row w is, sized) (row-proper (flatPlaceCount n) w)
 
   -- the row's weights fire as the effect's
-  pub loaded-fires : fire (weights (rowIn places amounts takes puts hinders)) m ≡ fire (l .weighs) m
-  loaded-fires = ap (λ r. fire (weights r) m) (l .row) ∙ fire-same (weights (rowOf (flatPlaceCount n) (l .weighs))) (l .weighs) m (rw sized (row-agrees (flatPlaceCount n) (l .weighs)))
+  pub loaded-fires : fire (weights (rowIn places amounts takes puts hinders)) m ≡ fire w m
+  loaded-fires = ap (λ r. fire (weights r) m) (l .row w is) ∙ fire-same (weights (rowOf (flatPlaceCount n) w)) w m (rw sized (row-agrees (flatPlaceCount n) w))
 
   -- the answer alone, and the firing
-  pub loaded-answer : (r : ℕ) → (Proper (length m) (rowIn places amounts takes puts hinders) → r ≡ fire (weights (rowIn places amounts takes puts hinders)) m .answer) → r ≡ fire (l .weighs) m .answer
+  pub loaded-answer : (r : ℕ) → (Proper (length m) (rowIn places amounts takes puts hinders) → r ≡ fire (weights (rowIn places amounts takes puts hinders)) m .answer) → r ≡ fire w m .answer
   loaded-answer r h = h loaded-proper ∙ ap (λ f. f .answer) loaded-fires
 
-  pub loaded-fired : (r : ℕ) (m' : List ℕ) → (Proper (length m) (rowIn places amounts takes puts hinders) → fired r m' ≡ fire (weights (rowIn places amounts takes puts hinders)) m) → fired r m' ≡ fire (l .weighs) m
+  pub loaded-fired : (r : ℕ) (m' : List ℕ) → (Proper (length m) (rowIn places amounts takes puts hinders) → fired r m' ≡ fire (weights (rowIn places amounts takes puts hinders)) m) → fired r m' ≡ fire w m
   loaded-fired r m' h = h loaded-proper ∙ loaded-fires
 
 -- the takes alone
@@ -187,7 +220,4 @@ module _ {n : Net} {b : Binding} {places amounts : List ℕ} {end : ℕ} (k : Ta
   -- none is, nor in the whole row
   pub none-lacks : {p' a' : List ℕ} {takes puts hinders : ℕ} → RowLoaded n b p' a' takes puts hinders → any (lacking m) (arcsIn places amounts 0 end) ≡ false
       → any (lacking m) (arcsIn p' a' 0 takes) ≡ false
-  none-lacks l e =
-      let both : some (l .weighs) ≡ some (k .weighs) = sym (l .is) ∙ k .is in
-      let same : l .weighs ≡ k .weighs = cc in
-      ap (any (lacking m)) (ap (λ r. r .takes) (l .row) ∙ ap (λ w. arcsOf (flatPlaceCount n) (w .take)) same ∙ sym (k .takes)) ∙ e
+  none-lacks l e = ap (any (lacking m)) (ap (λ r. r .takes) (l .row (k .weighs) (k .is)) ∙ sym (k .takes)) ∙ e

@@ -1,6 +1,6 @@
 pub mod Bindings
 pub mod Digits
-pub mod Environments
+pub mod Clash
 pub mod Numbering
 pub mod Named
 pub mod Ordering
@@ -22,3 +22,9 @@ pub mod Accepted
 pub mod Lengths
 pub mod SteadyRead
 pub mod SteadyRows
+pub mod Needing
+pub mod Slotting
+pub mod Owning
+pub mod Walking
+pub mod Giving
+pub mod Listing

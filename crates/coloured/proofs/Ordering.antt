@@ -1,18 +1,15 @@
--- What an order names, from what the code tells of it; and the colours in the code's slots. Assumes nothing.
-use mathlib.Core.Path.{_≡_, refl, sym, ap, ap₂, _∙_}
-use mathlib.Core.List.{List·Memᴰ·not-nil}
+-- What an order names, from what the code tells of it. Assumes nothing.
+use mathlib.Core.Path.{_≡_, refl, sym, ap, _∙_}
 use Prim.Native.Nat.{_≤_, _<_}
 use native.Mathlib.Omega.{arith}
-use borrow.Author.Tests.{lt-ltb, le-ltb, eq-eqb, ne-eqb}
+use borrow.Author.Tests.{lt-ltb, le-ltb, ne-eqb}
 use lib.Seq.{drop-drop, getD-take, getD-drop}
-use Rattle.reading.specs.Basics.{ℕ, _+_, _-_, _*_, Bool, true, false, not, _&&_, _||_, List, [], _∷_, none, some, length, take, drop, eqb, ltb, if_then_else_, byteAt, product, any, getD}
-use Rattle.reading.proofs.Lists.{In, in-cases}
-use Rattle.net.specs.Net.{Arc, Transition, variablesOf, Colour, variable, constant, successor, predecessor, Guard, always, opposite, both, either, equal, less, Expression, one, two, all, plus, minus, times, Net, sizeOf, setOf, inColour, inGuard, inExpression, sizesOf, inTransition}
+use Rattle.reading.specs.Basics.{ℕ, _+_, Bool, true, false, _&&_, List, none, some, length, take, drop, eqb, if_then_else_, byteAt, product, getD}
+use Rattle.net.specs.Net.{Transition, variablesOf, Net, sizesOf, inTransition}
 use Rattle.net_file.specs.Limits.{Limits}
-use Rattle.coloured.specs.Effect.{transitionAt, standsFor}
+use Rattle.coloured.specs.Effect.{transitionAt}
 use Rattle.coloured.specs.Orders.{fits, named}
-use Rattle.coloured.specs.Numbers.{digits, number, those, sizesOver, Coloured, Bound, numberOf}
-use Rattle.coloured.specs.declared.binding.Numbered.{Numbered}
+use Rattle.coloured.specs.Numbers.{digits, number, those, sizesOver, Coloured, numberOf}
 use Rattle.coloured.specs.declared.binding.Numbered.the-variants.{At, Nothing}
 use Rattle.coloured.proofs.Bindings.{bound}
 use Rattle.coloured.proofs.Digits.{number-below, digits-number, number-front}
@@ -22,10 +19,6 @@ use Rattle.coloured.proofs.Numbering.{drop-take}
 -- ---- of a net that keeps to its limits, and of its transitions
 pub limits-coloured : (n : Net) → Limits n → Coloured n
 limits-coloured n l v lt = l .sizes (getD (n .variables) v 0) (l .variable-sets v lt) .0
-
-pub transition-numbered : (n : Net) (t : Transition) (colours : List ℕ) {r : Numbered} → r ≡ numberOf (sizesOver n (those n (λ v. inTransition v t))) colours → r ≡ numberOf (sizesOf n t) colours
-unfolding variablesOf
-transition-numbered n t colours e = e
 
 -- the sizes of a transition's variables
 pub transition-sizes : (n : Net) (t : Transition) → sizesOver n (those n (λ v. inTransition v t)) ≡ sizesOf n t
@@ -70,16 +63,24 @@ module _ (n : Net) (order : List ℕ) where
   named-past le = rw (le-ltb (byteAt order 1) (length (n .transitions)) le, and-false (eqb (byteAt order 0) 0x60))
 
   module _ (opens : byteAt order 0 ≡ 0x60) (lt : byteAt order 1 < length (n .transitions)) where
-    pub named-nothing : Nothing ≡ numberOf (sizesOf n (transitionAt n (byteAt order 1))) (drop 2 order) → named n order ≡ none
+    pub named-unfit : fits (sizesOf n (transitionAt n (byteAt order 1))) (drop 2 order) ≡ false → named n order ≡ none
     unfolding named
-    named-nothing e = rw (opens, lt-ltb (byteAt order 1) (length (n .transitions)) lt, numbered-nothing (sizesOf n (transitionAt n (byteAt order 1))) (drop 2 order) e)
+    named-unfit e = rw (opens, lt-ltb (byteAt order 1) (length (n .transitions)) lt, e)
+
+    pub named-nothing : Nothing ≡ numberOf (sizesOf n (transitionAt n (byteAt order 1))) (drop 2 order) → named n order ≡ none
+    named-nothing e = named-unfit (numbered-nothing (sizesOf n (transitionAt n (byteAt order 1))) (drop 2 order) e)
+
+    -- they name one
+    pub named-fit : fits (sizesOf n (transitionAt n (byteAt order 1))) (drop 2 order) ≡ true
+        → named n order ≡ some (bound (byteAt order 1) (take (length (sizesOf n (transitionAt n (byteAt order 1)))) (drop 2 order)))
+    unfolding named
+    named-fit e = rw (opens, lt-ltb (byteAt order 1) (length (n .transitions)) lt, e)
 
     pub named-at : {index : ℕ} → At index ≡ numberOf (sizesOf n (transitionAt n (byteAt order 1))) (drop 2 order)
         → named n order ≡ some (bound (byteAt order 1) (digits (sizesOf n (transitionAt n (byteAt order 1))) index))
-    unfolding named
     named-at e =
         let (fit, small, is) = numbered-at (sizesOf n (transitionAt n (byteAt order 1))) (drop 2 order) e in
-        rw (opens, lt-ltb (byteAt order 1) (length (n .transitions)) lt, fit) (ap (λ colours. some (bound (byteAt order 1) colours)) (sym is))
+        named-fit fit ∙ ap (λ colours. some (bound (byteAt order 1) colours)) (sym is)
 
 -- the colours of an order that stands among others, six bytes each
 pub order-colours : (orders : List ℕ) (at : ℕ) → drop 2 (take 6 (drop at orders)) ≡ take 4 (drop (at + 2) orders)
@@ -87,10 +88,3 @@ order-colours orders at = drop-take 2 6 (drop at orders) ∙ ap (take 4) (drop-d
 
 pub order-byte : (orders : List ℕ) (at k : ℕ) → k < 6 → byteAt (take 6 (drop at orders)) k ≡ byteAt orders (at + k)
 order-byte orders at k lt = getD-take 6 (drop at orders) k 0 lt ∙ getD-drop at orders k 0
-
--- ---- the slots of the code hold the binding's colours
--- of every variable that stands in the transition
-pub agrees : (n : Net) (t : Transition) (i : ℕ) (env : List ℕ) → ((v : ℕ) → inTransition v t ≡ true → v < length (n .variables))
-    → Bound n (λ v. inTransition v t) i env → (v : ℕ) → inTransition v t ≡ true → getD env v 0 ≡ standsFor (variablesOf n t) (digits (sizesOf n t) i) v
-unfolding variablesOf
-agrees n t i env inside given v e = given v (inside v e) e

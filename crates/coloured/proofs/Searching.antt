@@ -3,15 +3,13 @@ use mathlib.Core.Path.{_≡_, refl, sym, ap, subst, _∙_}
 use Prim.Native.Nat.{_≤_, _<_}
 use native.Mathlib.Omega.{arith}
 use native.Mathlib.Nat.{add-zero}
-use Rattle.reading.specs.Basics.{ℕ, _+_, Bool, List, map, some, length, getD, getElem?, eqb, keep, below, product}
+use Rattle.reading.specs.Basics.{ℕ, _+_, Bool, List, map, some, length, getElem?, eqb, below, product}
 use Rattle.reading.proofs.Lists.{In, at-in, at-map}
 use lib.ListN.{length-map}
 use Rattle.firing.specs.Firing.{First, found, nothing, first}
 use Rattle.firing.specs.Loops.{stoppedAt}
 use Rattle.firing.proofs.Running.{Searching, search-begin, search-none, Tried, Stretch, stretch, stopped-in, stopped-out}
-use Rattle.net.specs.Net.{Net, sizeOf, sizesOf, inTransition}
-use Rattle.net.specs.Told.{bits}
-use Rattle.net_file.proofs.Spaces.{bindings-counted}
+use Rattle.net.specs.Net.{Net, sizesOf}
 use Rattle.coloured.specs.Effect.{transitionAt, bindings}
 use Rattle.coloured.specs.Orders.{orderOf, fireOrder}
 use Rattle.coloured.specs.Numbers.{before}
@@ -29,17 +27,10 @@ pub record Seeking (n : Net) (m : List ℕ) (tried t : ℕ) : Type 0 where
 pub seek-begin : (n : Net) (m : List ℕ) → Seeking n m 0 0
 seek-begin n m = record { none = search-begin _ _; at = refl }
 
-module _ {s : List ℕ} {n : Net} {sizes vars seconds starts uses guards arcs : List ℕ} {places transitions : ℕ}
-    (ready : Ready s n sizes vars seconds starts uses guards arcs places transitions) (m : List ℕ) where
-  module _ (t tried many u : ℕ) (lt : t < transitions) (here : Seeking n m tried t) (e : u ≡ getD uses t 0)
-      (count : (k : Net) (p : ℕ → Bool) → k .sets ≡ sizes → k .variables ≡ vars → length (k .variables) ≤ 32 → u ≡ bits p 32
-      → length (keep p (below (length (k .variables)))) ≤ 4 → many ≡ product (map (λ v. sizeOf k (getD (k .variables) v 0)) (keep p (below (length (k .variables)))))) where
+module _ {s : List ℕ} {n : Net} {sizes vars own uses guards arcs : List ℕ} {transitions : ℕ} (ready : Ready s n sizes vars own uses guards arcs transitions) (m : List ℕ) where
+  module _ (t tried many : ℕ) (lt : t < transitions) (here : Seeking n m tried t) (counted : many ≡ product (sizesOf n (transitionAt n t))) where
     inside : t < length (n .transitions)
     inside = omega (arith, ready .transitions-are)
-
-    -- how many bindings the transition has
-    pub counted : many ≡ product (sizesOf n (transitionAt n t))
-    counted = bindings-counted n (transitionAt n t) (limited ready .variables) (e ∙ ready .used t inside) (ready .drawing .sets) (ready .drawing .variables) count (limited ready .few-variables t inside)
 
     -- each of them is an order among all, answered as the binding is
     abbrev test : List ℕ → Bool

@@ -4,11 +4,15 @@ use mathlib.Core.List.{append-assoc, append-nil}
 use Prim.Native.Nat.{_≤_, _<_}
 use native.Mathlib.Omega.{arith}
 use native.Mathlib.Numerals.{add-one}
+use native.Mathlib.Nat.{mul-le-mul}
+use borrow.Author.Tests.{ltb-true}
 use lib.ListN.{length-append, length-map}
-use Rattle.reading.specs.Basics.{ℕ, zero, suc, _+_, Bool, true, false, List, [], _∷_, _++_, map, flatMap, none, length, getD, getElem?, take, ltb, if_then_else_, given, keep, numbersFrom, below, sum}
+use Rattle.reading.specs.Basics.{ℕ, zero, suc, _+_, Bool, true, false, List, [], _∷_, _++_, map, flatMap, none, length, getD, getElem?, take, ltb, if_then_else_, given, keep, numbersFrom, below, sum, product, every}
 use Rattle.reading.proofs.Lists.{map-same, map-from, length-from}
+use Rattle.reading.proofs.Gives.{both-first, both-second}
 use Rattle.firing.specs.Arcs.{Arc, arcsOf}
-use Rattle.net.specs.Net.{Transition, Net, single, coloursOf, placeAt, flatPlaceCount, arcOn}
+use Rattle.net.specs.Net.{Transition, Net, single, sizeOf, setsOf, coloursOf, placeAt, flatPlaceCount, arcOn}
+use Rattle.net_file.specs.Limits.{Limits}
 use Rattle.multiset.specs.Loaded.{ranksFrom, rankArcs}
 use Rattle.multiset.proofs.Ranks.{ranks-none, ranks-few}
 use Rattle.coloured.specs.Effect.{FlatPlace, flatPlaces, arcWeight}
@@ -68,6 +72,17 @@ module _ (w : FlatPlace → ℕ) where
       many = length-map {B = FlatPlace} (below (count p)) (λ r. record { place = p; rank = r }) ∙ length-from 0 (count p)
 
 -- ---- where places begin
+-- each place has a colour
+sized : (n : Net) → Limits n → (sets : List ℕ) → every (λ set. ltb set (length (n .sets))) sets ≡ true → 1 ≤ product (map (sizeOf n) sets)
+unfolding every
+sized n limits [] e = omega arith
+sized n limits (a ∷ sets) e =
+    let first : 1 ≤ sizeOf n a = limits .sizes a (ltb-true a (length (n .sets)) (both-first _ _ e)) .0 in
+    mul-le-mul first (sized n limits sets (both-second (ltb a (length (n .sets))) _ e))
+
+pub colours-some : (n : Net) → Limits n → (p : ℕ) → p < length (n .places) → 1 ≤ coloursOf n (placeAt n p)
+colours-some n limits p h = sized n limits (setsOf (placeAt n p)) (limits .place-sets p h)
+
 -- a place's flat places begin where the place's before it end
 start-in : (n : Net) (l : List _) (p : ℕ) → p < length l → sum (map (coloursOf n) (take (suc p) l)) ≡ sum (map (coloursOf n) (take p l)) + coloursOf n (getD l p (single 0))
 start-in n [] p h = absurd (omega arith)

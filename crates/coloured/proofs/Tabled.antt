@@ -3,12 +3,14 @@ use mathlib.Core.Path.{_≡_, refl, sym, ap, subst, _∙_}
 use Prim.Native.Nat.{_≤_, _<_}
 use native.Mathlib.Omega.{arith}
 use lib.Seq.{getD-take}
-use Rattle.reading.specs.Basics.{ℕ, zero, suc, Bool, true, false, not, List, [], _∷_, map, length, getD, take, eqb, if_then_else_, sum}
+use Rattle.reading.specs.Basics.{ℕ, zero, suc, _+_, _-_, _%_, Bool, true, false, not, List, [], _∷_, map, length, getD, take, eqb, if_then_else_, sum}
 use Rattle.net.specs.Net.{single, pair, Net, net, coloursOf, placeAt}
 use Rattle.net.specs.Evaluated.{isPair}
+use Rattle.net_file.specs.Limits.{Limits}
 use Rattle.net_file.specs.Tables.{placesOf, Started, TransitionsHold}
-use Rattle.coloured.specs.Packed.{Packed}
-use Rattle.coloured.specs.Drawing.{Drawing}
+use Rattle.coloured.specs.Packed.{shapeOf, shapeIn, Packed}
+use Rattle.coloured.specs.Drawing.{startOf, Drawing}
+use Rattle.coloured.proofs.Split.{start-next, start-low}
 
 -- a place is a pair where its second set is not 255
 pair-told : (firsts seconds : List ℕ) (p : ℕ) → p < length (placesOf firsts seconds) → isPair (getD (placesOf firsts seconds) p (single 0)) ≡ not (eqb (getD seconds p 0) 255)
@@ -22,26 +24,43 @@ pair-told (a ∷ firsts) (b ∷ seconds) zero h = go (eqb b 255)
     go false = refl
 pair-told (a ∷ firsts) (b ∷ seconds) (suc p) h = pair-told firsts seconds p (omega arith)
 
-pub drawing : {s : List ℕ} {n : Net} {sizes vars seconds starts guards packed : List ℕ} {count total : ℕ} (firsts uses arcs : List ℕ)
-    → n .sets ≡ sizes → n .variables ≡ vars → n .places ≡ placesOf (take count firsts) (take count seconds)
-    → Started (net sizes [] [] [] []) (n .places) starts count total
-    → TransitionsHold s (net sizes vars (n .places) [] []) (n .transitions) uses guards arcs
-    → Packed arcs packed (length (n .places)) (length (n .transitions))
-    → Drawing s n sizes vars seconds starts guards packed
-drawing {n = n} {seconds = seconds} {starts = starts} {count = count} firsts uses arcs e f places begun held packs =
-    record {
-      sets = e;
-      variables = f;
-      few = subst (λ l. sum (map (coloursOf (net l [] [] [] [])) (n .places)) ≤ 4096) (sym e) (omega (arith, begun .all, begun .small));
-      begin = λ p h. subst (λ l. getD starts p 0 ≡ sum (map (coloursOf (net l [] [] [] [])) (take p (n .places)))) (sym e) (begun .begin p (omega (arith, begun .are)));
-      paired = pairs;
-      guard = λ t h. held t h .guarded;
-      slots = arcs;
-      arc = λ t k p h i j. held t h .arced k p i j;
-      packed = packs;
-    }
-  where
-    pairs : (p : ℕ) → p < length (n .places) → isPair (placeAt n p) ≡ not (eqb (getD seconds p 0) 255)
-    pairs p h =
-        ap (λ l. isPair (getD l p (single 0))) places ∙ pair-told (take count firsts) (take count seconds) p (subst (λ l. p < length l) places h)
-        ∙ ap (λ x. not (eqb x 255)) (getD-take count seconds p 0 (omega (arith, begun .are)))
+module _ (n : Net) {sizes : List ℕ} (firsts seconds : List ℕ) {starts : List ℕ} {count total : ℕ} (e : n .sets ≡ sizes)
+    (places : n .places ≡ placesOf (take count firsts) (take count seconds)) (begun : Started (net sizes [] [] [] []) (n .places) starts count total)
+    (limits : Limits n) where
+  -- where places begin, and which places are pairs
+  begins : (p : ℕ) → p ≤ length (n .places) → getD starts p 0 ≡ startOf n p
+  begins p h = subst (λ l. getD starts p 0 ≡ sum (map (coloursOf (net l [] [] [] [])) (take p (n .places)))) (sym e) (begun .begin p (omega (arith, begun .are)))
+
+  pairs : (p : ℕ) → p < length (n .places) → not (eqb (getD seconds p 0) 255) ≡ isPair (placeAt n p)
+  pairs p h =
+      sym (ap (λ l. isPair (getD l p (single 0))) places ∙ pair-told (take count firsts) (take count seconds) p (subst (λ l. p < length l) places h)
+      ∙ ap (λ x. not (eqb x 255)) (getD-take count seconds p 0 (omega (arith, begun .are))))
+
+  -- what an entry tells of a place is so
+  shapes : (p : ℕ) → p < length (n .places) → shapeIn seconds starts p ≡ shapeOf (startOf n p) (coloursOf n (placeAt n p)) (isPair (placeAt n p))
+  shapes p h = same-shape first count' (pairs p h)
+    where
+      first : getD starts p 0 % 8192 ≡ startOf n p
+      first = omega (arith, begins p (omega arith), start-low n p, limits .flat-places)
+
+      count' : (getD starts (p + 1) 0 - getD starts p 0) % 8192 ≡ coloursOf n (placeAt n p)
+      count' = omega (arith, begins p (omega arith), begins (p + 1) (omega arith), start-next n p h, start-low n (p + 1), limits .flat-places)
+
+      same-shape : {a a' b b' : ℕ} {x x' : Bool} → a ≡ a' → b ≡ b' → x ≡ x' → shapeOf a b x ≡ shapeOf a' b' x'
+      same-shape {a} {a'} {b} {b'} {x} {x'} u v w = ap (λ k. shapeOf k b x) u ∙ ap (λ k. shapeOf a' k x) v ∙ ap (shapeOf a' b') w
+
+  pub drawing : (s : List ℕ) {vars : List ℕ} (uses : List ℕ) {guards packed : List ℕ} (arcs : List ℕ) → n .variables ≡ vars
+      → TransitionsHold s (net sizes vars (n .places) [] []) (n .transitions) uses guards arcs
+      → Packed (shapeIn seconds starts) arcs packed (length (n .places)) (length (n .transitions))
+      → Drawing s n sizes vars guards packed
+  drawing s uses arcs f held packs = record {
+    sets = e;
+    variables = f;
+    limits = limits;
+    guard = λ t h. held t h .guarded;
+    slots = arcs;
+    arc = λ t k p h i j. held t h .arced k p i j;
+    shape = shapeIn seconds starts;
+    shaped = shapes;
+    packed = packs;
+  }

@@ -1,19 +1,19 @@
 -- The order number i of a list, fired: by what it names. Assumes nothing.
-use mathlib.Core.Path.{_≡_, refl, sym, ap, subst, _∙_}
+use mathlib.Core.Path.{_≡_, sym, ap, subst, _∙_}
 use Prim.Native.Nat.{_≤_, _<_}
 use native.Mathlib.Omega.{arith}
 use native.Mathlib.Nat.{add-zero}
-use Rattle.reading.specs.Basics.{ℕ, _+_, _*_, Bool, List, none, some, length, getD, take, drop, byteAt}
-use Rattle.firing.specs.Firing.{Fired, fired}
-use Rattle.net.specs.Net.{Net, sizesOf, inTransition}
-use Rattle.net.specs.Told.{bits}
+use Rattle.reading.specs.Basics.{ℕ, _+_, _*_, Bool, true, false, not, List, none, some, length, take, drop, byteAt}
+use Rattle.firing.specs.Firing.{fired}
+use Rattle.net.specs.Net.{Net, sizesOf}
+use Rattle.net_file.specs.Limits.{Limits}
 use Rattle.coloured.specs.Effect.{Binding, transitionAt}
-use Rattle.coloured.specs.Orders.{named, fireOrder}
-use Rattle.coloured.specs.Numbers.{those, sizesOver, numberOf}
-use Rattle.coloured.specs.Ready.{Ready, numbered, fireBinding}
-use Rattle.coloured.specs.declared.binding.Numbered.{Numbered}
-use Rattle.coloured.specs.declared.binding.Numbered.the-variants.{At, Nothing}
-use Rattle.coloured.proofs.Ordering.{transition-numbered, named-other, named-past, named-nothing, named-at, order-colours, order-byte}
+use Rattle.coloured.specs.Orders.{fits, named, fireOrder}
+use Rattle.coloured.specs.Loading.{binding}
+use Rattle.coloured.specs.Own.{Owned}
+use Rattle.coloured.specs.Ready.{Ready, fireBinding}
+use Rattle.coloured.proofs.Ordering.{named-other, named-past, named-unfit, named-fit, order-colours, order-byte}
+use Rattle.coloured.proofs.Effects.{not-true, not-false}
 use Rattle.coloured.proofs.Readied.{limited}
 
 -- by what an order names
@@ -39,33 +39,31 @@ module _ (n : Net) (orders m : List ℕ) (i : ℕ) where
   pub turn-past : length (n .transitions) ≤ byteAt orders (i * 6 + 1) → fired 1 m ≡ fireOrder n order m
   turn-past le = no-name n order m (named-past n order (subst (λ t. length (n .transitions) ≤ t) (sym (order-byte orders (i * 6) 1 (omega arith))) le))
 
-module _ {s : List ℕ} {n : Net} {sizes vars seconds starts uses guards arcs : List ℕ} {places transitions : ℕ}
-    (ready : Ready s n sizes vars seconds starts uses guards arcs places transitions) (orders m : List ℕ) (i t u : ℕ) (opens : byteAt orders (i * 6) ≡ 0x60)
-    (second : t ≡ byteAt orders (i * 6 + 1)) (lt : t < transitions) (is : u ≡ getD uses t 0) {r : Numbered}
-    (told : (k : Net) (p : ℕ → Bool) → k .sets ≡ sizes → k .variables ≡ vars → length (k .variables) ≤ 32 → u ≡ bits p 32
-    → r ≡ numberOf (sizesOver k (those k p)) (take 4 (drop (i * 6 + 2) orders))) where
-  inside : t < length (n .transitions)
+module _ {s : List ℕ} {n : Net} {sizes vars own uses guards arcs : List ℕ} {transitions : ℕ} (ready : Ready s n sizes vars own uses guards arcs transitions)
+    (orders m : List ℕ) (i t : ℕ) (opens : byteAt orders (i * 6) ≡ 0x60) (second : t ≡ byteAt orders (i * 6 + 1)) (lt : t < transitions) {r : Bool}
+    (told : (k : Net) → Owned k own → Limits k → t < length (k .transitions) → r ≡ fits (sizesOf k (transitionAt k t)) (take 4 (drop (i * 6 + 2) orders))) where
+  pub inside : t < length (n .transitions)
   inside = omega (arith, ready .transitions-are)
 
-  -- the transition that the order names
+  -- the transition that the order names, and its colours
   its : byteAt (order n orders m i) 1 ≡ t
   its = order-byte orders (i * 6) 1 (omega arith) ∙ sym second
 
-  number-is : r ≡ numberOf (sizesOf n (transitionAt n (byteAt (order n orders m i) 1))) (drop 2 (order n orders m i))
-  number-is =
-      transition-numbered n (transitionAt n t) (take 4 (drop (i * 6 + 2) orders))
-      (told n (λ v. inTransition v (transitionAt n t)) (ready .drawing .sets) (ready .drawing .variables) (limited ready .variables) (is ∙ ready .used t inside))
-      ∙ ap (λ k. numberOf (sizesOf n (transitionAt n k)) (take 4 (drop (i * 6 + 2) orders))) (sym its)
-      ∙ ap (numberOf (sizesOf n (transitionAt n (byteAt (order n orders m i) 1)))) (sym (order-colours orders (i * 6)))
+  fit-is : fits (sizesOf n (transitionAt n (byteAt (order n orders m i) 1))) (drop 2 (order n orders m i)) ≡ r
+  fit-is = rw (its, order-colours orders (i * 6)) (sym (told n (ready .owned) (limited ready) inside))
 
   below-it : byteAt (order n orders m i) 1 < length (n .transitions)
   below-it = subst (λ k. k < length (n .transitions)) (sym its) inside
 
-  -- its colours name no binding, or one by number
-  pub turn-none : r ≡ Nothing → fired 1 m ≡ fireOrder n (order n orders m i) m
-  turn-none e = no-name n (order n orders m i) m (named-nothing n (order n orders m i) (opening n orders m i ∙ opens) below-it (sym e ∙ number-is))
+  -- they name no binding, or one
+  pub turn-none : not r ≡ true → fired 1 m ≡ fireOrder n (order n orders m i) m
+  turn-none e = no-name n (order n orders m i) m (named-unfit n (order n orders m i) (opening n orders m i ∙ opens) below-it (fit-is ∙ not-true r e))
 
-  pub turn-at : {index : ℕ} → r ≡ At index → fireBinding n (numbered n t index) m ≡ fireOrder n (order n orders m i) m
-  turn-at {index} e =
-      ap (λ k. fireBinding n (numbered n k index) m) (sym its)
-      ∙ names n (order n orders m i) m (named-at n (order n orders m i) (opening n orders m i ∙ opens) below-it (sym e ∙ number-is))
+  abbrev colours : List ℕ
+  colours = take (length (sizesOf n (transitionAt n t))) (take 4 (drop (i * 6 + 2) orders))
+
+  pub turn-at : not r ≡ false → fireBinding n (binding t colours) m ≡ fireOrder n (order n orders m i) m
+  turn-at e =
+      ap (λ l. fireBinding n (binding t (take (length (sizesOf n (transitionAt n t))) l)) m) (sym (order-colours orders (i * 6)))
+      ∙ ap (λ k. fireBinding n (binding k (take (length (sizesOf n (transitionAt n k))) (drop 2 (order n orders m i)))) m) (sym its)
+      ∙ names n (order n orders m i) m (named-fit n (order n orders m i) (opening n orders m i ∙ opens) below-it (fit-is ∙ not-false r e))

@@ -36,11 +36,6 @@ sizesOver n variables = map (λ v. sizeOf n (getD (n .variables) v 0)) variables
 abbrev pub Coloured : Net → Type 0
 Coloured n = (v : ℕ) → v < length (n .variables) → 1 ≤ sizeOf n (getD (n .variables) v 0)
 
--- the slot of each variable that stands holds its colour in binding number i
-abbrev pub Bound : Net → (ℕ → Bool) → ℕ → List ℕ → Type 0
-Bound n stands i env =
-    (v : ℕ) → v < length (n .variables) → stands v ≡ true → getD env v 0 ≡ standsFor (those n stands) (digits (sizesOver n (those n stands)) i) v
-
 -- the number of colours that fit, or nothing
 abbrev pub numberOf : List ℕ → List ℕ → Numbered
 numberOf sizes colours = if fits sizes colours then At (number sizes colours) else Nothing

@@ -4,43 +4,30 @@ use Prim.Native.Nat.{_≤_, _<_}
 use Rattle.reading.specs.Basics.{ℕ, _+_, List, [], _∷_, map, length, getD, eqb, given, product}
 use Rattle.reading.specs.Reading.{accepted}
 use Rattle.firing.specs.Firing.{Fired, fired, fire, First, found, nothing, first}
-use Rattle.net.specs.Net.{Net, sizesOf, flatPlaceCount, inTransition}
+use Rattle.net.specs.Net.{Net, sizesOf, inTransition}
 use Rattle.net_file.specs.Parts.{readNet}
 use Rattle.net.specs.Told.{bits}
 use Rattle.coloured.specs.Effect.{Binding, transitionAt, bindings, effect}
 use Rattle.coloured.specs.Orders.{orderOf, fireOrder}
 use Rattle.coloured.specs.Numbers.{digits}
-use Rattle.coloured.specs.Drawing.{room, Drawing, Binds}
-use Rattle.coloured.specs.Loading.{binding, EffectTold, TakesTold}
-use Rattle.coloured.specs.declared.effect.Loaded.{Loaded}
-use Rattle.coloured.specs.declared.effect.Takes.{Takes}
+use Rattle.coloured.specs.Drawing.{Drawing}
+use Rattle.coloured.specs.Loading.{binding}
+use Rattle.coloured.specs.Own.{Owned}
 use Rattle.coloured.specs.declared.order.Order.{Order}
 use Rattle.coloured.specs.declared.engine.Searched.{Searched}
 use Rattle.coloured.specs.declared.engine.Searched.the-variants as searched
 
--- the tables of an accepted net, with each transition's variables as a set of bits
-pub record Ready (s : List ℕ) (n : Net) (sizes vars seconds starts uses guards arcs : List ℕ) (places transitions : ℕ) : Type 0 where
+-- the tables of an accepted net, with each transition's variables as a set of bits and one by one
+pub record Ready (s : List ℕ) (n : Net) (sizes vars own uses guards arcs : List ℕ) (transitions : ℕ) : Type 0 where
   pub read : readNet s ≡ accepted n
-  pub drawing : Drawing s n sizes vars seconds starts guards arcs
+  pub drawing : Drawing s n sizes vars guards arcs
+  pub owned : Owned n own
   pub used : (t : ℕ) → t < length (n .transitions) → getD uses t 0 ≡ bits (λ v. inTransition v (transitionAt n t)) 32
-  pub places-are : length (n .places) ≡ places
   pub transitions-are : length (n .transitions) ≡ transitions
 
 -- binding number i of a transition
 abbrev pub numbered : Net → ℕ → ℕ → Binding
 numbered n t i = binding t (digits (sizesOf n (transitionAt n t)) i)
-
--- its colours were set, and its takes loaded into the lent lists
-abbrev pub BindsTakes : List ℕ → List ℕ → List ℕ → List ℕ → List ℕ → List ℕ → List ℕ → List ℕ → ℕ → ℕ → ℕ → List ℕ → List ℕ → List ℕ → List ℕ → List ℕ → Takes → Type 0
-BindsTakes s sizes vars seconds starts uses guards arcs count t i places amounts env' places' amounts' r =
-    (n : Net) (transitions : ℕ) → Ready s n sizes vars seconds starts uses guards arcs count transitions → t < transitions
-    → room s n ≤ length places → room s n ≤ length amounts → Binds n (numbered n t i) env' × TakesTold n (numbered n t i) places' amounts' r
-
--- its effect was loaded into the lent lists
-abbrev pub BindingLoaded : List ℕ → List ℕ → List ℕ → List ℕ → List ℕ → List ℕ → List ℕ → List ℕ → ℕ → ℕ → ℕ → List ℕ → List ℕ → List ℕ → List ℕ → Loaded → Type 0
-BindingLoaded s sizes vars seconds starts uses guards arcs count t i places amounts places' amounts' r =
-    (n : Net) (transitions : ℕ) → Ready s n sizes vars seconds starts uses guards arcs count transitions → t < transitions
-    → room s n ≤ length places → room s n ≤ length amounts → EffectTold n (numbered n t i) places' amounts' r
 
 -- a binding fired on the drawing: 2 where it has no effect
 abbrev pub fireBinding : Net → Binding → List ℕ → Fired

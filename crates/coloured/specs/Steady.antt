@@ -2,15 +2,16 @@
 use mathlib.Core.Path.{_≡_}
 use Prim.Native.Nat.{_≤_, _<_}
 use Rattle.reading.specs.Basics.{ℕ, _+_, _*_, List, length, Option, none, some, ltb, if_then_else_, product}
-use Rattle.reading.specs.Reading.{fine}
+use Rattle.reading.specs.Reading.{fine, accepted}
 use Rattle.firing.specs.Firing.{Weights}
 use Rattle.firing.specs.Arcs.{Row, rowOf}
 use Rattle.net.specs.Net.{Expression, one, two, all, plus, minus, times, Place, Net, sizesOf, flatPlaceCount}
 use Rattle.net.specs.Reader.{readExpression}
+use Rattle.net_file.specs.Parts.{readNet}
 use Rattle.net_file.specs.Formed.{Fitting, Formed}
 use Rattle.coloured.specs.Effect.{transitionAt, effect}
 use Rattle.coloured.specs.Drawing.{kindArcs, Drawing}
-use Rattle.coloured.specs.Ready.{Ready, numbered}
+use Rattle.coloured.specs.Ready.{numbered}
 use Rattle.coloured.specs.declared.steady.Steady.{Steady}
 use Rattle.coloured.specs.declared.steady.Steady.the-variants as steady
 
@@ -34,19 +35,19 @@ SteadyWithin most (steady.Arcs count) = count ≤ most
 SteadyWithin most steady.Varies = Unit {0}
 
 -- of a transition's arcs of a kind; its row of entries begins at base
-abbrev pub SteadyKind : List ℕ → List ℕ → List ℕ → ℕ → ℕ → Steady → Type 0
-SteadyKind s starts arcs base count (steady.Arcs total) =
-    (n : Net) (sizes vars seconds guards : List ℕ) (t k : ℕ) → Drawing s n sizes vars seconds starts guards arcs → Formed n → t < length (n .transitions) → k < 3 → base ≡ t * 96 + k * 32
-    → count ≡ length (n .places) → (value : ℕ → ℕ) → Fitting n value → length (kindArcs n (transitionAt n t) value (0x16 + k) count) ≡ total
-SteadyKind s starts arcs base count steady.Varies = Unit {0}
+abbrev pub SteadyKind : List ℕ → List ℕ → ℕ → Steady → Type 0
+SteadyKind s arcs base (steady.Arcs total) =
+    (n : Net) (sizes vars guards : List ℕ) (t k : ℕ) → Drawing s n sizes vars guards arcs → Formed n → t < length (n .transitions) → k < 3 → base ≡ t * 96 + k * 32
+    → (value : ℕ → ℕ) → Fitting n value → length (kindArcs n (transitionAt n t) value (0x16 + k) (length (n .places))) ≡ total
+SteadyKind s arcs base steady.Varies = Unit {0}
 
 -- of a row
 abbrev pub arcsOfRow : Row → ℕ
 arcsOfRow row = length (row .takes) + length (row .puts) + length (row .hinders)
 
 -- of the rows of a transition
-abbrev pub SteadyRow : List ℕ → List ℕ → List ℕ → ℕ → ℕ → Steady → Type 0
-SteadyRow s starts arcs count t (steady.Arcs total) =
-    (n : Net) (sizes vars seconds uses guards : List ℕ) (transitions : ℕ) → Ready s n sizes vars seconds starts uses guards arcs count transitions → t < transitions
+abbrev pub SteadyRow : List ℕ → List ℕ → ℕ → Steady → Type 0
+SteadyRow s arcs t (steady.Arcs total) =
+    (n : Net) (sizes vars guards : List ℕ) → readNet s ≡ accepted n → Drawing s n sizes vars guards arcs → t < length (n .transitions)
     → (i : ℕ) (w : Weights) → i < product (sizesOf n (transitionAt n t)) → effect n (numbered n t i) ≡ some w → arcsOfRow (rowOf (flatPlaceCount n) w) ≡ total
-SteadyRow s starts arcs count t steady.Varies = Unit {0}
+SteadyRow s arcs t steady.Varies = Unit {0}

@@ -1,14 +1,14 @@
-// Bindings by number: the colours of a number, and the number of an order's colours.
+// The number of the binding that an order's colours name.
 use reading::byte_at;
 ghost use mathlib.Core.Path.{_≡_};
-ghost use mathlib.Core.Bool.{Bool, true, false};
-ghost use Prim.Native.Nat.{ℕ, _≤_, _<_, _+_, _-_, _/_, _%_};
-ghost use lib.ListN.{length, take, drop, set};
+ghost use mathlib.Core.Bool.{Bool};
+ghost use Prim.Native.Nat.{ℕ, _≤_, _<_, _+_, _-_};
+ghost use lib.ListN.{length, take, drop};
 ghost use lib.Dec.{eqb};
 ghost use Rattle.reading.specs.Basics.{every};
 ghost use Rattle.net.specs.Net.{Net};
 ghost use Rattle.net.specs.Told.{bits, member, sizeIn};
-ghost use Rattle.coloured.specs.Numbers.{those, sizesOver, Coloured, Bound, numberOf};
+ghost use Rattle.coloured.specs.Numbers.{those, sizesOver, numberOf};
 
 // The number of a binding, or nothing where the colours name none.
 pub enum Numbered {
@@ -31,47 +31,6 @@ pub fn size_of(sizes: &[u8], vars: &[u8], v: usize) -> usize
     ensures { λ r. ⌜ (r ≡ sizeIn (now (sizes .entry)) (now (vars .entry)) v) × (r < 256) ⌝ }
 {
     byte_at(sizes, byte_at(vars, v))
-}
-
-// Stores a colour; past the end it stores nothing.
-fn store(env: &mut [u8], v: usize, colour: u8)
-    ensures { λ _. ⌜ now (env .exit) ≡ set (now (env .entry)) v colour ⌝ }
-{
-    if v < env.len() {
-        env[v] = colour;
-    }
-}
-
-// Gives a variable its colour if it is in the set, and tells what is left of the number.
-fn set_one(uses: u32, sizes: &[u8], vars: &[u8], v: usize, left: usize, env: &mut [u8]) -> usize
-    ensures out { λ r. ⌜ (member uses v ≡ false → (r ≡ left) × (now (env .exit) ≡ now (env .entry))) ⌝ }
-    ensures inside { λ r. ⌜ (member uses v ≡ true → 1 ≤ sizeIn (now (sizes .entry)) (now (vars .entry)) v
-        → (r ≡ left / sizeIn (now (sizes .entry)) (now (vars .entry)) v)
-        × (now (env .exit) ≡ set (now (env .entry)) v (left % sizeIn (now (sizes .entry)) (now (vars .entry)) v))) ⌝ }
-{
-    if !has(uses, v) {
-        return left;
-    }
-    let size = size_of(sizes, vars, v);
-    if size < 1 {
-        return left;
-    }
-    store(env, v, (left % size) as u8);
-    left / size
-}
-
-// Gives each variable in the set its colour in binding number `index`; env has a slot for each variable number.
-pub fn set_binding(uses: u32, sizes: &[u8], vars: &[u8], index: usize, env: &mut [u8])
-    ensures { λ _. ⌜ ((n : Net) (stands : ℕ → Bool) → n .sets ≡ now (sizes .entry) → n .variables ≡ now (vars .entry)
-        → length (n .variables) ≤ 32 → uses ≡ bits stands 32 → Coloured n → length (n .variables) ≤ length (now (env .entry))
-        → Bound n stands index (now (env .exit))) ⌝ }
-{
-    let mut left = index;
-    let mut v = vars.len();
-    while 0 < v {
-        v -= 1;
-        left = set_one(uses, sizes, vars, v, left, env);
-    }
 }
 
 // Whether the bytes from a place up to an end are all 0.

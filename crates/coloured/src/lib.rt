@@ -3,28 +3,34 @@ mod binding;
 mod effect;
 mod engine;
 mod order;
+mod own;
 mod pack;
+mod slots;
 mod steady;
 
 pub use binding::Numbered;
 pub use binding::binding_number;
-pub use binding::set_binding;
-pub use effect::Loaded;
+pub use effect::guard_holds;
+pub use effect::load_row;
 use engine::Searched;
 use engine::fire_list;
-pub use engine::load_binding;
 use engine::search_all;
 use engine::uses_at;
 use net_file::NetRead;
 use net_file::read_net;
 pub use order::Order;
 pub use order::order_at;
+pub use own::list_variables;
+pub use own::next_binding;
+pub use own::space_of;
 pub use pack::pack_arcs;
+pub use slots::most_slots;
 pub use steady::Steady;
 pub use steady::steady_row;
 ghost use mathlib.Core.Path.{_≡_};
-ghost use Prim.Native.Nat.{_≤_, _+_, _*_, _/_};
-ghost use lib.ListN.{length, take};
+ghost use mathlib.Core.List.{List};
+ghost use Prim.Native.Nat.{ℕ, _≤_, _+_, _*_, _/_};
+ghost use lib.ListN.{length};
 ghost use lib.Dec.{leb};
 ghost use Rattle.net.specs.Net.{Net, flatPlaceCount};
 ghost use Rattle.coloured.specs.Drawing.{room};
@@ -38,14 +44,14 @@ pub enum FireReply {
     Refused { number: u8, place: usize },
 }
 
-// Whether a row's lists of 1,024 slots have the room for a net of so many flat places, with a file of so many bytes.
-pub fn is_small(total: usize, len: usize) -> bool
-    ensures { λ r. ⌜ r ≡ leb (3 * total + len / 2) 1024 ⌝ }
+// Whether lists of 1,024 slots have the room for rows that need so many, with a file of so many bytes.
+pub fn is_small(slots: usize, len: usize) -> bool
+    ensures { λ r. ⌜ r ≡ leb (slots + len / 2) 1024 ⌝ }
 {
-    if 341 < total {
+    if 1024 < slots {
         return false;
     }
-    3 * total + len / 2 <= 1024
+    slots + len / 2 <= 1024
 }
 
 // Fires a list of orders on a net that has been read, with lists lent for a row's arcs.
@@ -53,14 +59,9 @@ fn fire_with(
     s: &[u8],
     sizes: &[u8],
     vars: &[u8],
-    seconds: &[u8],
-    starts: &[usize],
-    uses: &[u32],
-    guards: &[u16],
-    arcs: &[u32],
-    sets: usize,
-    variables: usize,
-    count: usize,
+    own: &[u16; 128],
+    guards: &[u16; 32],
+    arcs: &[u64; 3072],
     transitions: usize,
     total: usize,
     marking: &mut [u16],
@@ -69,8 +70,8 @@ fn fire_with(
     places: &mut [u16],
     amounts: &mut [u16],
 ) -> FireReply
-    requires { ⌜ (sets ≤ length (now sizes)) × (variables ≤ length (now vars)) × (count ≤ 32) × (transitions ≤ 32) ⌝ }
-    ensures { λ r. ⌜ ((n : Net) → Ready (now (s .entry)) n (take sets (now (sizes .entry))) (take variables (now (vars .entry))) (now (seconds .entry)) (now (starts .entry)) (now (uses .entry)) (now (guards .entry)) (now (arcs .entry)) count transitions
+    requires { ⌜ transitions ≤ 32 ⌝ }
+    ensures { λ r. ⌜ ((n : Net) (uses : List ℕ) → Ready (now (s .entry)) n (now (sizes .entry)) (now (vars .entry)) (now (own .entry)) uses (now (guards .entry)) (now (arcs .entry)) transitions
         → flatPlaceCount n ≡ total → room (now (s .entry)) n ≤ length (now (places .entry)) → room (now (s .entry)) n ≤ length (now (amounts .entry))
         → fireCalled r (now (marking .exit)) (now (answers .exit)) ≡ fireOrders (now (s .entry)) (now (marking .entry)) (now (orders .entry)) (now (answers .entry))) ⌝ }
 {
@@ -94,14 +95,11 @@ fn fire_with(
     }
     fire_list(
         s,
-        &sizes[..sets],
-        &vars[..variables],
-        seconds,
-        starts,
-        uses,
+        sizes,
+        vars,
+        own,
         guards,
         arcs,
-        count,
         transitions,
         marking,
         orders,
@@ -119,22 +117,17 @@ fn fire_small(
     s: &[u8],
     sizes: &[u8],
     vars: &[u8],
-    seconds: &[u8],
-    starts: &[usize],
-    uses: &[u32],
-    guards: &[u16],
-    arcs: &[u32],
-    sets: usize,
-    variables: usize,
-    count: usize,
+    own: &[u16; 128],
+    guards: &[u16; 32],
+    arcs: &[u64; 3072],
     transitions: usize,
     total: usize,
     marking: &mut [u16],
     orders: &[u8],
     answers: &mut [u8],
 ) -> FireReply
-    requires { ⌜ (sets ≤ length (now sizes)) × (variables ≤ length (now vars)) × (count ≤ 32) × (transitions ≤ 32) ⌝ }
-    ensures { λ r. ⌜ ((n : Net) → Ready (now (s .entry)) n (take sets (now (sizes .entry))) (take variables (now (vars .entry))) (now (seconds .entry)) (now (starts .entry)) (now (uses .entry)) (now (guards .entry)) (now (arcs .entry)) count transitions
+    requires { ⌜ transitions ≤ 32 ⌝ }
+    ensures { λ r. ⌜ ((n : Net) (uses : List ℕ) → Ready (now (s .entry)) n (now (sizes .entry)) (now (vars .entry)) (now (own .entry)) uses (now (guards .entry)) (now (arcs .entry)) transitions
         → flatPlaceCount n ≡ total → room (now (s .entry)) n ≤ 1024
         → fireCalled r (now (marking .exit)) (now (answers .exit)) ≡ fireOrders (now (s .entry)) (now (marking .entry)) (now (orders .entry)) (now (answers .entry))) ⌝ }
 {
@@ -144,14 +137,9 @@ fn fire_small(
         s,
         sizes,
         vars,
-        seconds,
-        starts,
-        uses,
+        own,
         guards,
         arcs,
-        sets,
-        variables,
-        count,
         transitions,
         total,
         marking,
@@ -167,22 +155,17 @@ fn fire_large(
     s: &[u8],
     sizes: &[u8],
     vars: &[u8],
-    seconds: &[u8],
-    starts: &[usize],
-    uses: &[u32],
-    guards: &[u16],
-    arcs: &[u32],
-    sets: usize,
-    variables: usize,
-    count: usize,
+    own: &[u16; 128],
+    guards: &[u16; 32],
+    arcs: &[u64; 3072],
     transitions: usize,
     total: usize,
     marking: &mut [u16],
     orders: &[u8],
     answers: &mut [u8],
 ) -> FireReply
-    requires { ⌜ (sets ≤ length (now sizes)) × (variables ≤ length (now vars)) × (count ≤ 32) × (transitions ≤ 32) ⌝ }
-    ensures { λ r. ⌜ ((n : Net) → Ready (now (s .entry)) n (take sets (now (sizes .entry))) (take variables (now (vars .entry))) (now (seconds .entry)) (now (starts .entry)) (now (uses .entry)) (now (guards .entry)) (now (arcs .entry)) count transitions
+    requires { ⌜ transitions ≤ 32 ⌝ }
+    ensures { λ r. ⌜ ((n : Net) (uses : List ℕ) → Ready (now (s .entry)) n (now (sizes .entry)) (now (vars .entry)) (now (own .entry)) uses (now (guards .entry)) (now (arcs .entry)) transitions
         → flatPlaceCount n ≡ total
         → fireCalled r (now (marking .exit)) (now (answers .exit)) ≡ fireOrders (now (s .entry)) (now (marking .entry)) (now (orders .entry)) (now (answers .entry))) ⌝ }
 {
@@ -192,14 +175,9 @@ fn fire_large(
         s,
         sizes,
         vars,
-        seconds,
-        starts,
-        uses,
+        own,
         guards,
         arcs,
-        sets,
-        variables,
-        count,
         transitions,
         total,
         marking,
@@ -215,38 +193,28 @@ fn fire_on(
     s: &[u8],
     sizes: &[u8],
     vars: &[u8],
-    seconds: &[u8],
-    starts: &[usize],
-    uses: &[u32],
-    guards: &[u16],
-    arcs: &[u32],
-    sets: usize,
-    variables: usize,
-    count: usize,
+    own: &[u16; 128],
+    guards: &[u16; 32],
+    arcs: &[u64; 3072],
     transitions: usize,
     total: usize,
     marking: &mut [u16],
     orders: &[u8],
     answers: &mut [u8],
 ) -> FireReply
-    requires { ⌜ (sets ≤ length (now sizes)) × (variables ≤ length (now vars)) × (count ≤ 32) × (transitions ≤ 32) ⌝ }
-    ensures { λ r. ⌜ ((n : Net) → Ready (now (s .entry)) n (take sets (now (sizes .entry))) (take variables (now (vars .entry))) (now (seconds .entry)) (now (starts .entry)) (now (uses .entry)) (now (guards .entry)) (now (arcs .entry)) count transitions
+    requires { ⌜ transitions ≤ 32 ⌝ }
+    ensures { λ r. ⌜ ((n : Net) (uses : List ℕ) → Ready (now (s .entry)) n (now (sizes .entry)) (now (vars .entry)) (now (own .entry)) uses (now (guards .entry)) (now (arcs .entry)) transitions
         → flatPlaceCount n ≡ total
         → fireCalled r (now (marking .exit)) (now (answers .exit)) ≡ fireOrders (now (s .entry)) (now (marking .entry)) (now (orders .entry)) (now (answers .entry))) ⌝ }
 {
-    if is_small(total, s.len()) {
+    if is_small(most_slots(s, arcs, transitions), s.len()) {
         return fire_small(
             s,
             sizes,
             vars,
-            seconds,
-            starts,
-            uses,
+            own,
             guards,
             arcs,
-            sets,
-            variables,
-            count,
             transitions,
             total,
             marking,
@@ -258,14 +226,9 @@ fn fire_on(
         s,
         sizes,
         vars,
-        seconds,
-        starts,
-        uses,
+        own,
         guards,
         arcs,
-        sets,
-        variables,
-        count,
         transitions,
         total,
         marking,
@@ -311,20 +274,19 @@ pub fn fire_orders(net: &[u8], marking: &mut [u16], orders: &[u8], answers: &mut
             transitions,
             space: _,
         } => {
-            let mut packed = [0u32; 3072];
-            pack_arcs(&arcs, places, transitions, &mut packed);
+            let mut packed = [0u64; 3072];
+            pack_arcs(&arcs, places, transitions, &seconds, &starts, &mut packed);
+            let used = &sizes[..sets];
+            let variable_sets = &vars[..variables];
+            let mut own = [0u16; 128];
+            list_variables(&uses, used, variable_sets, transitions, &mut own);
             fire_on(
                 net,
-                &sizes,
-                &vars,
-                &seconds,
-                &starts,
-                &uses,
+                used,
+                variable_sets,
+                &own,
                 &guards,
                 &packed,
-                sets,
-                variables,
-                places,
                 transitions,
                 total,
                 marking,
@@ -347,22 +309,18 @@ fn first_with(
     s: &[u8],
     sizes: &[u8],
     vars: &[u8],
-    seconds: &[u8],
-    starts: &[usize],
+    own: &[u16; 128],
     uses: &[u32],
-    guards: &[u16],
-    arcs: &[u32],
-    sets: usize,
-    variables: usize,
-    count: usize,
+    guards: &[u16; 32],
+    arcs: &[u64; 3072],
     transitions: usize,
     total: usize,
     marking: &[u16],
     places: &mut [u16],
     amounts: &mut [u16],
 ) -> FirstReply
-    requires { ⌜ (sets ≤ length (now sizes)) × (variables ≤ length (now vars)) × (count ≤ 32) × (transitions ≤ 32) ⌝ }
-    ensures { λ r. ⌜ ((n : Net) → Ready (now (s .entry)) n (take sets (now (sizes .entry))) (take variables (now (vars .entry))) (now (seconds .entry)) (now (starts .entry)) (now (uses .entry)) (now (guards .entry)) (now (arcs .entry)) count transitions
+    requires { ⌜ transitions ≤ 32 ⌝ }
+    ensures { λ r. ⌜ ((n : Net) → Ready (now (s .entry)) n (now (sizes .entry)) (now (vars .entry)) (now (own .entry)) (now (uses .entry)) (now (guards .entry)) (now (arcs .entry)) transitions
         → flatPlaceCount n ≡ total → room (now (s .entry)) n ≤ length (now (places .entry)) → room (now (s .entry)) n ≤ length (now (amounts .entry))
         → firstReply r ≡ firstOrder (now (s .entry)) (now (marking .entry))) ⌝ }
 {
@@ -372,18 +330,13 @@ fn first_with(
             place: 0,
         };
     }
-    let used = &sizes[..sets];
-    let variable_sets = &vars[..variables];
     match search_all(
         s,
-        used,
-        variable_sets,
-        seconds,
-        starts,
-        uses,
+        sizes,
+        vars,
+        own,
         guards,
         arcs,
-        count,
         transitions,
         marking,
         places,
@@ -391,13 +344,7 @@ fn first_with(
     ) {
         Searched::Nothing { tried } => FirstReply::Nothing { tried },
         Searched::At { t, index, tried } => FirstReply::Found {
-            order: order_at(
-                uses_at(uses, t),
-                used,
-                variable_sets,
-                (t % 256) as u8,
-                index,
-            ),
+            order: order_at(uses_at(uses, t), sizes, vars, (t % 256) as u8, index),
             tried,
         },
     }
@@ -408,20 +355,16 @@ fn first_small(
     s: &[u8],
     sizes: &[u8],
     vars: &[u8],
-    seconds: &[u8],
-    starts: &[usize],
+    own: &[u16; 128],
     uses: &[u32],
-    guards: &[u16],
-    arcs: &[u32],
-    sets: usize,
-    variables: usize,
-    count: usize,
+    guards: &[u16; 32],
+    arcs: &[u64; 3072],
     transitions: usize,
     total: usize,
     marking: &[u16],
 ) -> FirstReply
-    requires { ⌜ (sets ≤ length (now sizes)) × (variables ≤ length (now vars)) × (count ≤ 32) × (transitions ≤ 32) ⌝ }
-    ensures { λ r. ⌜ ((n : Net) → Ready (now (s .entry)) n (take sets (now (sizes .entry))) (take variables (now (vars .entry))) (now (seconds .entry)) (now (starts .entry)) (now (uses .entry)) (now (guards .entry)) (now (arcs .entry)) count transitions
+    requires { ⌜ transitions ≤ 32 ⌝ }
+    ensures { λ r. ⌜ ((n : Net) → Ready (now (s .entry)) n (now (sizes .entry)) (now (vars .entry)) (now (own .entry)) (now (uses .entry)) (now (guards .entry)) (now (arcs .entry)) transitions
         → flatPlaceCount n ≡ total → room (now (s .entry)) n ≤ 1024
         → firstReply r ≡ firstOrder (now (s .entry)) (now (marking .entry))) ⌝ }
 {
@@ -431,14 +374,10 @@ fn first_small(
         s,
         sizes,
         vars,
-        seconds,
-        starts,
+        own,
         uses,
         guards,
         arcs,
-        sets,
-        variables,
-        count,
         transitions,
         total,
         marking,
@@ -452,20 +391,16 @@ fn first_large(
     s: &[u8],
     sizes: &[u8],
     vars: &[u8],
-    seconds: &[u8],
-    starts: &[usize],
+    own: &[u16; 128],
     uses: &[u32],
-    guards: &[u16],
-    arcs: &[u32],
-    sets: usize,
-    variables: usize,
-    count: usize,
+    guards: &[u16; 32],
+    arcs: &[u64; 3072],
     transitions: usize,
     total: usize,
     marking: &[u16],
 ) -> FirstReply
-    requires { ⌜ (sets ≤ length (now sizes)) × (variables ≤ length (now vars)) × (count ≤ 32) × (transitions ≤ 32) ⌝ }
-    ensures { λ r. ⌜ ((n : Net) → Ready (now (s .entry)) n (take sets (now (sizes .entry))) (take variables (now (vars .entry))) (now (seconds .entry)) (now (starts .entry)) (now (uses .entry)) (now (guards .entry)) (now (arcs .entry)) count transitions
+    requires { ⌜ transitions ≤ 32 ⌝ }
+    ensures { λ r. ⌜ ((n : Net) → Ready (now (s .entry)) n (now (sizes .entry)) (now (vars .entry)) (now (own .entry)) (now (uses .entry)) (now (guards .entry)) (now (arcs .entry)) transitions
         → flatPlaceCount n ≡ total
         → firstReply r ≡ firstOrder (now (s .entry)) (now (marking .entry))) ⌝ }
 {
@@ -475,14 +410,10 @@ fn first_large(
         s,
         sizes,
         vars,
-        seconds,
-        starts,
+        own,
         uses,
         guards,
         arcs,
-        sets,
-        variables,
-        count,
         transitions,
         total,
         marking,
@@ -496,36 +427,28 @@ fn first_on(
     s: &[u8],
     sizes: &[u8],
     vars: &[u8],
-    seconds: &[u8],
-    starts: &[usize],
+    own: &[u16; 128],
     uses: &[u32],
-    guards: &[u16],
-    arcs: &[u32],
-    sets: usize,
-    variables: usize,
-    count: usize,
+    guards: &[u16; 32],
+    arcs: &[u64; 3072],
     transitions: usize,
     total: usize,
     marking: &[u16],
 ) -> FirstReply
-    requires { ⌜ (sets ≤ length (now sizes)) × (variables ≤ length (now vars)) × (count ≤ 32) × (transitions ≤ 32) ⌝ }
-    ensures { λ r. ⌜ ((n : Net) → Ready (now (s .entry)) n (take sets (now (sizes .entry))) (take variables (now (vars .entry))) (now (seconds .entry)) (now (starts .entry)) (now (uses .entry)) (now (guards .entry)) (now (arcs .entry)) count transitions
+    requires { ⌜ transitions ≤ 32 ⌝ }
+    ensures { λ r. ⌜ ((n : Net) → Ready (now (s .entry)) n (now (sizes .entry)) (now (vars .entry)) (now (own .entry)) (now (uses .entry)) (now (guards .entry)) (now (arcs .entry)) transitions
         → flatPlaceCount n ≡ total
         → firstReply r ≡ firstOrder (now (s .entry)) (now (marking .entry))) ⌝ }
 {
-    if is_small(total, s.len()) {
+    if is_small(most_slots(s, arcs, transitions), s.len()) {
         return first_small(
             s,
             sizes,
             vars,
-            seconds,
-            starts,
+            own,
             uses,
             guards,
             arcs,
-            sets,
-            variables,
-            count,
             transitions,
             total,
             marking,
@@ -535,14 +458,10 @@ fn first_on(
         s,
         sizes,
         vars,
-        seconds,
-        starts,
+        own,
         uses,
         guards,
         arcs,
-        sets,
-        variables,
-        count,
         transitions,
         total,
         marking,
@@ -585,20 +504,20 @@ pub fn first_order(net: &[u8], marking: &[u16]) -> FirstReply
             transitions,
             space: _,
         } => {
-            let mut packed = [0u32; 3072];
-            pack_arcs(&arcs, places, transitions, &mut packed);
+            let mut packed = [0u64; 3072];
+            pack_arcs(&arcs, places, transitions, &seconds, &starts, &mut packed);
+            let used = &sizes[..sets];
+            let variable_sets = &vars[..variables];
+            let mut own = [0u16; 128];
+            list_variables(&uses, used, variable_sets, transitions, &mut own);
             first_on(
                 net,
-                &sizes,
-                &vars,
-                &seconds,
-                &starts,
+                used,
+                variable_sets,
+                &own,
                 &uses,
                 &guards,
                 &packed,
-                sets,
-                variables,
-                places,
                 transitions,
                 total,
                 marking,

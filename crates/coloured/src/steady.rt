@@ -1,11 +1,8 @@
 // How many arcs a transition's rows have, where every binding has as many.
-use crate::effect::entry_at;
-use crate::effect::start_at;
 use reading::byte_at;
 use reading::word_at;
 ghost use mathlib.Core.Path.{_≡_};
-ghost use Prim.Native.Nat.{_≤_, _<_, _+_, _-_};
-ghost use lib.ListN.{getD};
+ghost use Prim.Native.Nat.{_≤_, _<_};
 ghost use Rattle.reading.specs.Basics.{ltb, if_then_else_};
 ghost use Rattle.coloured.specs.Steady.{SteadyArc, SteadyWithin, SteadyKind, SteadyRow};
 
@@ -43,37 +40,20 @@ fn steady_arc(s: &[u8], ranks: usize, at: usize) -> Steady
     Steady::Varies
 }
 
-// How many ranks a place has; none where its flat places would not fit.
-fn ranks_of(starts: &[usize], p: usize) -> usize
-    requires { ⌜ p < 32 ⌝ }
-    ensures is { λ r. ⌜ (getD (now (starts .entry)) (p + 1) 0 ≤ 65535 → r ≡ getD (now (starts .entry)) (p + 1) 0 - getD (now (starts .entry)) p 0) ⌝ }
-    ensures small { λ r. ⌜ r ≤ 65535 ⌝ }
-{
-    let start = start_at(starts, p);
-    let end = start_at(starts, p + 1);
-    if end < start {
-        return 0;
-    }
-    if 65535 < end {
-        return 0;
-    }
-    end - start
-}
-
 // How many arcs a transition's arcs of a kind give, entry after entry of its row in the packed table, up to the first 0.
-fn steady_kind(s: &[u8], starts: &[usize], arcs: &[u32], base: usize, count: usize) -> Steady
-    requires { ⌜ (base ≤ 3072) × (count ≤ 32) ⌝ }
-    ensures is { λ r. ⌜ SteadyKind (now (s .entry)) (now (starts .entry)) (now (arcs .entry)) base count r ⌝ }
+fn steady_kind(s: &[u8], arcs: &[u64; 3072], base: usize) -> Steady
+    requires { ⌜ base ≤ 3040 ⌝ }
+    ensures is { λ r. ⌜ SteadyKind (now (s .entry)) (now (arcs .entry)) base r ⌝ }
     ensures small { λ r. ⌜ SteadyWithin 2097120 r ⌝ }
 {
     let mut total: usize = 0;
     let mut i: usize = 0;
-    while i < count {
-        let entry = entry_at(arcs, base + i);
+    while i < 32 {
+        let entry = arcs[base + i] as usize;
         if entry < 1 {
             return Steady::Arcs { count: total };
         }
-        let more = steady_arc(s, ranks_of(starts, entry % 32), entry / 32);
+        let more = steady_arc(s, entry / 2 % 8192, entry / 134217728);
         let Steady::Arcs { count: n } = more else {
             return Steady::Varies;
         };
@@ -84,19 +64,19 @@ fn steady_kind(s: &[u8], starts: &[usize], arcs: &[u32], base: usize, count: usi
 }
 
 // How many arcs each row of a transition has.
-pub fn steady_row(s: &[u8], starts: &[usize], arcs: &[u32], count: usize, t: usize) -> Steady
-    requires { ⌜ (count ≤ 32) × (t < 32) ⌝ }
-    ensures is { λ r. ⌜ SteadyRow (now (s .entry)) (now (starts .entry)) (now (arcs .entry)) count t r ⌝ }
+pub fn steady_row(s: &[u8], arcs: &[u64; 3072], t: usize) -> Steady
+    requires { ⌜ t < 32 ⌝ }
+    ensures is { λ r. ⌜ SteadyRow (now (s .entry)) (now (arcs .entry)) t r ⌝ }
     ensures small { λ r. ⌜ SteadyWithin 6291360 r ⌝ }
 {
     let base = t * 96;
-    let Steady::Arcs { count: takes } = steady_kind(s, starts, arcs, base, count) else {
+    let Steady::Arcs { count: takes } = steady_kind(s, arcs, base) else {
         return Steady::Varies;
     };
-    let Steady::Arcs { count: puts } = steady_kind(s, starts, arcs, base + 32, count) else {
+    let Steady::Arcs { count: puts } = steady_kind(s, arcs, base + 32) else {
         return Steady::Varies;
     };
-    let Steady::Arcs { count: hinders } = steady_kind(s, starts, arcs, base + 64, count) else {
+    let Steady::Arcs { count: hinders } = steady_kind(s, arcs, base + 64) else {
         return Steady::Varies;
     };
     Steady::Arcs {

@@ -13,4 +13,4 @@ fire-large-spec =
     (λ c κs. search needs)
     (λ c. search needs)
     (λ c. search needs)
-    (λ c. λ n ready sized. c .before .before .before .before .before .before .fire-with .ensures n ready sized (omega (arith, roomy ready)) (omega (arith, roomy ready))))
+    (λ c. λ n uses ready sized. c .before .before .before .before .before .before .fire-with .ensures n uses ready sized (omega (arith, roomy ready)) (omega (arith, roomy ready))))

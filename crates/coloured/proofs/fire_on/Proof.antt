@@ -1,7 +1,7 @@
-use borrow.Author.Needs.{needs}
 use denote.Ref.{now}
 use mathlib.Core.Path.{sym, _∙_}
 use Rattle.coloured.proofs.Readied.{small-room}
+use borrow.Author.Needs.{needs}
 use Rattle.coloured.proofs.fire_on.Statement.{statement}
 use Rattle.coloured.proofs.fire_on.Tie as tie
 
@@ -11,9 +11,10 @@ fire-on-spec =
     (tie.spec
     (λ c κs. search needs)
     (λ c κs. search needs)
+    (λ c κs. search needs)
     (λ c. search needs)
     (λ c. search needs)
-    (λ c. λ n ready sized. c .before .before .before .before .fire-small .ensures n ready sized (small-room (now (c .before .before .before .before .before .before .before .before .before .before .before .before .before .before .before .before .before .before .before .before .args .s)) n sized (sym (c .before .before .before .before .before .before .before .before .is-small .ensures) ∙ c .before .before .before .before .before .before .before .if1 .taken)))
+    (λ c. λ n uses ready sized. c .before .before .before .before .fire-small .ensures n uses ready sized (small-room (now (c .before .before .before .before .before .before .before .before .before .before .before .before .before .before .before .before .args .s)) n (c .before .before .before .before .before .before .before .before .before .most-slots .ensures .0 n _ _ _ (ready .drawing) (ready .transitions-are)) (sym (c .before .before .before .before .before .before .before .before .is-small .ensures) ∙ c .before .before .before .before .before .before .before .if1 .taken)))
     (λ c κs. search needs)
     (λ c. search needs)
     (λ c. search needs)

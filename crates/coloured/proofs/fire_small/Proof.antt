@@ -12,4 +12,4 @@ fire-small-spec =
     (λ c κs. search needs)
     (λ c. search needs)
     (λ c. search needs)
-    (λ c. λ n ready sized room. c .before .before .before .before .before .before .fire-with .ensures n ready sized (omega arith) (omega arith)))
+    (λ c. λ n uses ready sized room. c .before .before .before .before .before .before .fire-with .ensures n uses ready sized (omega arith) (omega arith)))

@@ -2,7 +2,6 @@ use borrow.Author.Needs.{needs}
 use native.Mathlib.Omega.{arith}
 use denote.Ref.{now}
 use mathlib.Core.Path.{sym, _∙_}
-use lib.Seq.{length-take-le}
 use Rattle.coloured.proofs.Calling.{fire-12, fire-13, fire-14, fire-done}
 use Rattle.coloured.proofs.fire_with.Statement.{statement}
 use Rattle.coloured.proofs.fire_with.Tie as tie
@@ -11,14 +10,12 @@ pub fire-with-spec : {M : Type 1} → statement M
 fire-with-spec =
     tie.close
     (tie.spec
-    (λ c. λ n ready sized x y. fire-12 ready sized (now (c .before .before .before .before .before .before .before .before .before .before .before .before .before .before .args .marking)) _ _ (c .if1 .taken))
-    (λ c. λ n ready sized x y. fire-13 ready sized (now (c .before .before .before .before .before .before .before .before .before .before .before .before .before .before .before .args .marking)) (c .before .if1 .left) _ _ (c .if2 .taken))
-    (λ c. λ n ready sized x y. fire-14 ready sized (now (c .before .before .before .before .before .before .before .before .before .before .before .before .before .before .before .before .args .marking)) (c .before .before .if1 .left) _ _ (c .before .if2 .left) (c .if3 .taken))
-    (λ c. sym (length-take-le (c .before .before .before .before .before .before .before .before .before .before .before .before .before .before .before .before .before .args .sets) (now (c .before .before .before .before .before .before .before .before .before .before .before .before .before .before .before .before .before .args .sizes)) (c .before .before .before .before .before .before .before .before .before .before .before .before .before .before .before .before .before .pre .0)))
-    (λ c. sym (length-take-le (c .before .before .before .before .before .before .before .before .before .before .before .before .before .before .before .before .before .before .args .variables) (now (c .before .before .before .before .before .before .before .before .before .before .before .before .before .before .before .before .before .before .args .vars)) (c .before .before .before .before .before .before .before .before .before .before .before .before .before .before .before .before .before .before .pre .1)))
+    (λ c. λ n uses ready sized x y. fire-12 ready sized (now (c .before .before .before .before .before .before .before .before .before .args .marking)) _ _ (c .if1 .taken))
+    (λ c. λ n uses ready sized x y. fire-13 ready sized (now (c .before .before .before .before .before .before .before .before .before .before .args .marking)) (c .before .if1 .left) _ _ (c .if2 .taken))
+    (λ c. λ n uses ready sized x y. fire-14 ready sized (now (c .before .before .before .before .before .before .before .before .before .before .before .args .marking)) (c .before .before .if1 .left) _ _ (c .before .if2 .left) (c .if3 .taken))
     (λ c κs. search needs)
     (λ c. search needs)
     (λ c. search needs)
     (λ c. search needs)
     (λ c. search needs)
-    (λ c. λ n ready sized x y. fire-done ready sized (now (c .before .before .before .before .before .before .before .before .before .before .before .before .before .before .before .before .before .before .before .before .before .before .before .before .before .before .before .before .before .before .before .args .marking)) (c .before .before .before .before .before .before .before .before .before .before .before .before .before .before .before .before .before .if1 .left) _ _ (c .before .before .before .before .before .before .before .before .before .before .before .before .before .before .before .before .if2 .left) (c .before .before .before .before .before .before .before .before .before .before .before .before .before .before .before .if3 .left) (c .before .before .before .before .before .before .before .before .fire-list .ensures n ready x y (c .before .before .before .before .before .before .before .before .before .before .before .before .before .before .before .before .before .if1 .left ∙ sym sized))))
+    (λ c. λ n uses ready sized x y. fire-done ready sized (now (c .before .before .before .before .before .before .before .before .before .before .before .before .before .before .before .before .before .before .before .before .before .before .before .before .args .marking)) (c .before .before .before .before .before .before .before .before .before .before .before .before .before .before .before .if1 .left) _ _ (c .before .before .before .before .before .before .before .before .before .before .before .before .before .before .if2 .left) (c .before .before .before .before .before .before .before .before .before .before .before .before .before .if3 .left) (c .before .before .before .before .before .before .before .before .fire-list .ensures n uses ready x y (c .before .before .before .before .before .before .before .before .before .before .before .before .before .before .before .if1 .left ∙ sym sized))))

@@ -1,3 +1,4 @@
+use denote.Ref.{now}
 use borrow.Author.Needs.{needs}
 use Rattle.coloured.proofs.Effects.{effect-rest}
 use Rattle.coloured.proofs.effect.load_rest.Statement.{statement}
@@ -14,4 +15,4 @@ load-rest-spec =
     (λ c κs. search needs)
     (λ c. search needs)
     (λ c. search needs)
-    (λ c. λ n guards colours d ht e binds x y k. effect-rest (c .before .before .before .before .before .before .before .before .before .before .before .before .before .before .before .before .before .before .before .before .before .before .before .args .env .now) d _ ht colours binds e x y k (c .before .before .before .before .before .before .before .before .before .before .before .load-kind .ensures) (c .before .before .before .before .load-kind2 .ensures)))
+    (λ c. λ n guards colours d ht binds x y k. effect-rest (now (c .before .before .before .before .before .before .before .before .before .before .before .before .before .before .before .before .before .before .before .args .env)) d _ ht colours binds x y k (c .before .before .before .before .before .before .before .before .before .before .before .load-kind .ensures) (c .before .before .before .before .load-kind2 .ensures)))

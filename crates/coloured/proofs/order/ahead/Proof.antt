@@ -2,7 +2,7 @@ use native.Mathlib.Omega.{arith}
 use native.Mathlib.Nat.{mod-lt}
 use Prim.Native.Nat.{_<_}
 use mathlib.Core.Path.{refl, sym}
-use Rattle.coloured.proofs.Environments.{clash}
+use Rattle.coloured.proofs.Clash.{clash}
 use borrow.Author.Needs.{needs}
 use Rattle.coloured.proofs.order.ahead.Statement.{statement}
 use Rattle.coloured.proofs.order.ahead.Tie as tie

@@ -2,15 +2,16 @@ use native.Mathlib.Omega.{arith}
 use mathlib.Core.Path.{_≡_, refl, _∙_}
 use Prim.Native.Nat.{_-_}
 use lib.ListN.{length}
+use Rattle.coloured.specs.Packed.{shapeIn}
 use Rattle.coloured.proofs.Packing.{Packing, pack-begins, pack-goes, pack-ends}
 use Rattle.coloured.proofs.pack.pack_arcs.Statement.{statement}
 use Rattle.coloured.proofs.pack.pack_arcs.Tie as tie
 
 abbrev Inv-loop : tie.InvT-loop
-Inv-loop arcs places transitions packed₀ rows row₀ packed row = (length packed ≡ length packed₀) × Packing arcs places packed row
+Inv-loop arcs places transitions seconds starts packed₀ rows row₀ packed row = (length packed ≡ length packed₀) × Packing (shapeIn seconds starts) arcs places packed row
 
 abbrev μ-loop : tie.MeasureT-loop
-μ-loop arcs places transitions packed₀ rows row₀ packed row = rows - row
+μ-loop arcs places transitions seconds starts packed₀ rows row₀ packed row = rows - row
 
 pub pack-arcs-spec : {M : Type 1} → statement M
 pack-arcs-spec =
@@ -18,12 +19,12 @@ pack-arcs-spec =
     (tie.spec
     Inv-loop
     μ-loop
-    (λ c. omega (arith, c .before .before .pre .1))
+    (λ c. omega (arith, c .before .pre .1))
     (λ c. (refl, pack-begins _))
-    (λ c. omega (arith, c .before .before .before .before .pre .1, c .loop-test .taken))
-    (λ c κs. (c .before .before .before .before .before .pre .0, omega (arith, c .before .before .before .before .before .pre .1, c .before .loop-test .taken), c .before .before .loop .inv .0 ∙ c .before .before .before .before .before .pre .2))
-    (λ c. omega arith)
-    (λ c. omega arith)
-    (λ c. (c .before .before .pack-row .kept .1 .1 .1 .0 ∙ c .before .before .before .before .before .loop .inv .0, pack-goes (c .before .before .before .before .before .loop .inv .1) (c .before .before .pack-row .ensures .0) (c .before .before .pack-row .ensures .1)))
+    (λ c. omega (arith, c .before .before .before .pre .1, c .loop-test .taken))
+    (λ c κs. (c .before .before .before .before .pre .0, omega (arith, c .before .before .before .before .pre .1, c .before .loop-test .taken), c .before .before .loop .inv .0 ∙ c .before .before .before .before .pre .2))
+    (λ c. omega (arith, c .before .before .before .before .before .before .before .pre .1, c .before .before .before .before .loop-test .taken))
+    (λ c. omega (arith, c .before .before .before .before .loop-test .taken))
+    (λ c. (c .before .before .pack-row .kept .1 .1 .1 .1 .1 .0 ∙ c .before .before .before .before .before .loop .inv .0, pack-goes (c .before .before .before .before .before .loop .inv .1) (c .before .before .pack-row .ensures .0) (c .before .before .pack-row .ensures .1)))
     (λ c. c .before .loop .inv .0)
     (λ c. pack-ends (c .before .loop .inv .1) (c .loop-test .left)))

@@ -10,9 +10,10 @@ pack-place-spec =
     (tie.spec
     (λ c. (put-none _ _ _ _ (c .if1 .taken), omega arith))
     (λ c. search needs)
-    (λ c. search needs)
-    (λ c. search needs)
     (λ c κs. search needs)
+    (λ c. omega (arith, c .shape-of .ensures .1))
     (λ c. search needs)
     (λ c. search needs)
-    (λ c. (rw (c .before .before .store .ensures) (put-one _ _ _ _ (omega (arith, c .before .before .before .before .if1 .left)) (c .before .before .before .before .before .before .pre .1)), omega arith)))
+    (λ c. search needs)
+    (λ c. search needs)
+    (λ c. (rw (c .shape-of .ensures .0) (put-one _ _ _ _ (omega (arith, c .before .if1 .left)) (c .before .before .before .pre .1)), omega arith)))
