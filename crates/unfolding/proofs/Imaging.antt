@@ -24,7 +24,7 @@ use Rattle.unfolding.proofs.Walking.{unnamed-number, named-number}
 use Rattle.unfolding.proofs.Appending.{Going, go-on, go-end, append-all}
 
 -- ---- one order
-module _ {s guards sizes vars uses : List ℕ} {n : Net} {transitions : ℕ} (tables : Tables s n sizes vars uses guards transitions) (orders : List ℕ) (i : ℕ)
+module _ {s guards sizes vars own uses : List ℕ} {n : Net} {transitions : ℕ} (tables : Tables s n sizes vars own uses guards transitions) (orders : List ℕ) (i : ℕ)
     (room : i * 6 + 6 ≤ length orders) where
   abbrev order : List ℕ
   order = take 6 (drop (i * 6) orders)

@@ -1,32 +1,36 @@
 -- The rows' bytes are what each transition's bindings give, one after the other; and the loops that measure and write them. Assumes nothing.
-use mathlib.Core.Path.{_≡_, refl, sym, ap, _∙_, subst}
+use mathlib.Core.Path.{_≡_, refl, sym, ap, _∙_}
 use Prim.Native.Nat.{_≤_, _<_}
 use native.Mathlib.Omega.{arith}
 use native.Mathlib.Nat.{add-zero}
 use lib.ListN.{length-append}
-use Rattle.reading.specs.Basics.{ℕ, zero, suc, _+_, _*_, _-_, Bool, List, [], _∷_, _++_, map, flatMap, filterMap, Option, none, some, Option·map, length, getD, getElem?, given, keep, numbersFrom, below, product}
-use Rattle.reading.specs.Reading.{Outcome, accepted}
-use Rattle.reading.proofs.Lists.{map-map}
+use Rattle.reading.specs.Basics.{ℕ, suc, _+_, _*_, _-_, true, false, List, [], _∷_, _++_, map, flatMap, filterMap, Option, none, some, length, getD, getElem?, given, numbersFrom, below, product}
 use Rattle.firing.specs.Firing.{Weights}
 use Rattle.firing.specs.Arcs.{Row, rowIn, rowOf}
+use Rattle.firing.specs.declared.Ends.{Ends}
 use Rattle.flat.specs.Flat.{rowBytes}
-use Rattle.net.specs.Net.{Net, sizeOf, variablesOf, sizesOf, flatPlaceCount, inTransition}
-use Rattle.net.specs.Told.{bits}
+use Rattle.net.specs.Net.{Net, sizesOf, flatPlaceCount}
+use Rattle.net_file.specs.Limits.{Limits}
+use Rattle.net_file.specs.Formed.{Formed}
+use Rattle.net_file.proofs.Limits.{limits}
+use Rattle.net_file.proofs.Formed.{formed}
 use Rattle.coloured.specs.Effect.{Binding, transitionAt, choices, bindings, effect}
 use Rattle.coloured.specs.Numbers.{digits}
-use Rattle.coloured.specs.Drawing.{RowLoaded}
-use Rattle.coloured.specs.Loading.{EffectTold}
+use Rattle.coloured.specs.Drawing.{Binds, RowLoaded}
+use Rattle.coloured.specs.Loading.{LoadsRow}
+use Rattle.coloured.specs.Own.{Owned}
 use Rattle.coloured.specs.Ready.{Ready, numbered}
-use Rattle.coloured.specs.declared.effect.Loaded.{Loaded}
-use Rattle.coloured.specs.declared.effect.Loaded.the-variants as loaded
 use Rattle.coloured.proofs.Bindings.{bound, bindingsOf, choices-length}
 use Rattle.coloured.proofs.Digits.{choices-at}
 use Rattle.coloured.proofs.Split.{flat-flat}
-use Rattle.coloured.proofs.Readied.{limited}
 use Rattle.unfolding.specs.Unfolding.{Rowed, rows, unfolded}
-use Rattle.unfolding.specs.Pieces.{bindingBytes, transitionBytes}
+use Rattle.unfolding.specs.Walked.{takesEffect, entriesAt, entries, Tables}
+use Rattle.unfolding.specs.Marks.{hasRow}
+use Rattle.unfolding.specs.Pieces.{bindingBytes, transitionBytes, Ruled, Known, Here, Roomy}
 use Rattle.unfolding.proofs.Appending.{length-row-in, Going, go-begin}
-use Rattle.unfolding.proofs.Rows.{rowed, rowedIf}
+use Rattle.unfolding.proofs.Rows.{rowedIf}
+use Rattle.unfolding.proofs.Tabled.{entries-next}
+use Rattle.unfolding.proofs.Marking.{marks-few, marks-told}
 
 -- ---- lists
 -- pieces of a list made element by element
@@ -88,23 +92,41 @@ module _ (n : Net) where
       ∙ flat-same (λ t. flatMap gives (bindingsOf n t)) (transitionBytes n) transition-gives (below (length (n .transitions)))
 
 -- ---- one binding
-module _ (n : Net) (t i : ℕ) (places amounts : List ℕ) (r : Loaded) (told : EffectTold n (numbered n t i) places amounts r) where
-  -- it has no effect
-  pub gives-nothing : r ≡ loaded.Nothing → bindingBytes n t i ≡ []
+-- with an effect, or without
+by-effect : (n : Net) (t i : ℕ) {C : Type 0} → takesEffect n t i ≡ true → ((w : Weights) → effect n (numbered n t i) ≡ some w → C) → C
+by-effect n t i {C} e f = go (effect n (numbered n t i)) refl e
+  where
+    go : (o : Option Weights) → effect n (numbered n t i) ≡ o → (given o false λ w. true) ≡ true → C
+    go none q g = let z : _≡_ {A = ℕ} 0 1 = cc in absurd (omega arith)
+    go (some w) q g = f w q
+
+module _ {s sizes vars env arcs marks : List ℕ} {guard t k : ℕ} (here : Here s sizes vars env arcs marks guard t k) where
+  -- it has no row
+  pub gives-nothing : false ≡ hasRow guard marks k → bindingBytes (here .net) t (here .index) ≡ []
   unfolding bindingBytes
-  gives-nothing e = let q : effect n (numbered n t i) ≡ none = subst (EffectTold n (numbered n t i) places amounts) e told in rw q
+  gives-nothing e = go (effect (here .net) (numbered (here .net) t (here .index))) (sym (e ∙ here .told))
+    where
+      go : (o : Option Weights) → (given o false λ w. true) ≡ false → (given o [] λ w. rowBytes (rowOf (flatPlaceCount (here .net)) w)) ≡ []
+      go none q = refl
+      go (some w) q = let z : _≡_ {A = ℕ} 0 1 = cc in absurd (omega arith)
 
-  -- its row lies in the lists
-  module _ {takes puts hinders : ℕ} (e : r ≡ loaded.Row takes puts hinders) where
-    pub row-here : RowLoaded n (numbered n t i) places amounts takes puts hinders
-    row-here = subst (EffectTold n (numbered n t i) places amounts) e told
+  -- its row was loaded
+  module _ (places amounts places' amounts' : List ℕ) {r : Ends} (told : LoadsRow s sizes vars env arcs t places amounts places' amounts' r) (p : Roomy s places) (a : Roomy s amounts) where
+    pub row-here : RowLoaded (here .net) (numbered (here .net) t (here .index)) places' amounts' (r .takes) (r .puts) (r .hinders)
+    row-here =
+        told (here .net) (here .guards) (digits (sizesOf (here .net) (transitionAt (here .net) t)) (here .index)) (here .drawing) (here .stands) (here .binds)
+        (p (here .net) (here .read)) (a (here .net) (here .read))
 
-    pub gives-row : bindingBytes n t i ≡ rowBytes (rowIn places amounts takes puts hinders)
-    unfolding bindingBytes
-    gives-row = rw (row-here .is) (ap rowBytes (sym (row-here .row)))
+    pub row-fits : r .hinders ≤ 12288
+    row-fits = omega (arith, row-here .fits, limits s (here .net) (here .read) .flat-places)
 
-    pub gives-length : length (bindingBytes n t i) ≡ 1 + 5 * hinders
-    gives-length = ap length gives-row ∙ length-row-in places amounts takes puts hinders (row-here .puts-after) (row-here .hinders-after)
+    module _ (e : true ≡ hasRow guard marks k) where
+      pub gives-row : bindingBytes (here .net) t (here .index) ≡ rowBytes (rowIn places' amounts' (r .takes) (r .puts) (r .hinders))
+      unfolding bindingBytes
+      gives-row = by-effect (here .net) t (here .index) (sym (e ∙ here .told)) (λ w q. rw q (ap rowBytes (sym (row-here .row w q))))
+
+      pub gives-length : length (bindingBytes (here .net) t (here .index)) ≡ 1 + 5 * r .hinders
+      gives-length = ap length gives-row ∙ length-row-in places' amounts' (r .takes) (r .puts) (r .hinders) (row-here .puts-after) (row-here .hinders-after)
 
 -- ---- the loops
 -- the numbers that are left
@@ -142,29 +164,77 @@ module _ (f : ℕ → List ℕ) (many start : ℕ) where
 pub write-begins : (f : ℕ → List ℕ) (many : ℕ) (out : List ℕ) (at : ℕ) → Going f (below many) (numbersFrom 0 (many - 0)) out out at at
 write-begins f many out at = let e : many - 0 ≡ many = omega arith in rw e (go-begin f (below many) out at)
 
--- ---- from one transition to all
-same-accepted : {r : Outcome Net} {n m : Net} → r ≡ accepted n → r ≡ accepted m → n ≡ m
-same-accepted e f = cc
+-- ---- from bindings to a transition, and from transitions to all
+-- a binding in the walk over a transition
+abbrev pub here-of : {s sizes vars own arcs marks : List ℕ} {env : List ℕ} {guard t many base i : ℕ} (known : Known s sizes vars own arcs marks guard t many base)
+    → i < many → Binds (known .net) (numbered (known .net) t i) env → Here s sizes vars env arcs marks guard t (base + i)
+here-of {i = i} known lt binds = record {
+  net = known .net;
+  guards = known .guards;
+  index = i;
+  read = known .read;
+  drawing = known .drawing;
+  stands = known .stands;
+  binds = binds;
+  few = omega (arith, known .few);
+  told = known .told i lt;
+}
 
-module _ {s : List ℕ} {n : Net} {sizes vars seconds starts uses guards arcs : List ℕ} {count transitions : ℕ}
-    (ready : Ready s n sizes vars seconds starts uses guards arcs count transitions) where
-  -- as many bindings as the code counts are all that a transition has
-  module _ (t : ℕ) (lt : t < transitions) {u many : ℕ} (e : u ≡ getD uses t 0)
-      (told : (m : Net) (p : ℕ → Bool) → m .sets ≡ sizes → m .variables ≡ vars → length (m .variables) ≤ 32 → u ≡ bits p 32
-      → length (keep p (below (length (m .variables)))) ≤ 4 → many ≡ product (map (λ v. sizeOf m (getD (m .variables) v 0)) (keep p (below (length (m .variables)))))) where
-    pub all-many : many ≡ product (sizesOf n (transitionAt n t))
-    unfolding variablesOf
-    all-many =
-        let inside : t < length (n .transitions) = omega (arith, ready .transitions-are) in
-        told n (λ v. inTransition v (transitionAt n t)) (ready .drawing .sets) (ready .drawing .variables) (limited ready .variables) (e ∙ ready .used t inside) (limited ready .few-variables t inside)
+-- the colours of the next
+pub binds-next : (env after : List ℕ) (i : ℕ) {s sizes vars own arcs marks : List ℕ} {guard t many base : ℕ} (known : Known s sizes vars own arcs marks guard t many base)
+    → ((n : Net) (i : ℕ) → Owned n own → Limits n → Formed n → t < length (n .transitions) → i + 1 < product (sizesOf n (transitionAt n t))
+    → Binds n (numbered n t i) env → Binds n (numbered n t (i + 1)) after)
+    → Binds (known .net) (numbered (known .net) t i) env → i + 1 < many → Binds (known .net) (numbered (known .net) t (i + 1)) after
+binds-next env after i {s = s} known next binds lt =
+    next (known .net) i (known .owned) (limits s (known .net) (known .read)) (formed s (known .net) (known .read)) (known .stands) (omega (arith, known .size)) binds
 
-    pub all-given : flatMap (bindingBytes n t) (below many) ≡ transitionBytes n t
-    unfolding transitionBytes
-    all-given = ap (λ k. flatMap (bindingBytes n t) (below k)) all-many
+-- the tables of all
+pub tables-ready : {s sizes vars own uses guards arcs : List ℕ} {n : Net} {transitions : ℕ} → Ready s n sizes vars own uses guards arcs transitions → Tables s n sizes vars own uses guards transitions
+tables-ready {s = s} {n = n} ready = record {
+  limits = limits s n (ready .read);
+  are = ready .transitions-are;
+  used = λ t lt. ready .used t (omega (arith, ready .transitions-are));
+  each = λ t lt.
+      let less : t < length (n .transitions) = omega (arith, ready .transitions-are) in
+      record {
+        limits = limits s n (ready .read);
+        formed = formed s n (ready .read);
+        sets = ready .drawing .sets;
+        variables = ready .drawing .variables;
+        owned = ready .owned;
+        stands = less;
+        standing = ready .drawing .guard t less;
+      };
+}
 
-  -- the tables are those of one net
-  pub same-count : {m : Net} {j : ℕ} → Ready s m sizes vars seconds starts uses guards arcs count j → Ready s m sizes vars seconds starts uses guards arcs count transitions
-  same-count {m} {j} other =
-      let e : n ≡ m = same-accepted (ready .read) (other .read) in
-      let q : j ≡ transitions = sym (other .transitions-are) ∙ ap (λ x. length (x .transitions)) (sym e) ∙ ready .transitions-are in
-      subst (λ k. Ready s m sizes vars seconds starts uses guards arcs count k) q other
+-- a transition in the walk over all
+module _ {s sizes vars own guards arcs marks : List ℕ} {transitions : ℕ} (ruled : Ruled s sizes vars own guards arcs marks transitions) {t many : ℕ} (lt : t < transitions)
+    (told : (n : Net) → Owned n own → Limits n → t < length (n .transitions) → many ≡ product (sizesOf n (transitionAt n t))) where
+  pub all-many : many ≡ product (sizesOf (ruled .net) (transitionAt (ruled .net) t))
+  all-many =
+      let less : t < length (ruled .net .transitions) = omega (arith, ruled .ready .transitions-are) in
+      told (ruled .net) (ruled .ready .owned) (limits s (ruled .net) (ruled .ready .read)) less
+
+  pub all-given : flatMap (bindingBytes (ruled .net) t) (below many) ≡ transitionBytes (ruled .net) t
+  unfolding transitionBytes
+  all-given = ap (λ k. flatMap (bindingBytes (ruled .net) t) (below k)) all-many
+
+  abbrev pub known-of : {guard base : ℕ} → guard ≡ getD guards t 0 → base ≡ entries (ruled .net) guards t → Known s sizes vars own arcs marks guard t many base
+  known-of g from = record {
+    net = ruled .net;
+    guards = guards;
+    read = ruled .ready .read;
+    drawing = ruled .ready .drawing;
+    owned = ruled .ready .owned;
+    stands = omega (arith, ruled .ready .transitions-are);
+    size = all-many;
+    few = marks-few (tables-ready (ruled .ready)) lt all-many from;
+    told = marks-told (tables-ready (ruled .ready)) lt all-many from (ruled .marked) g;
+  }
+
+-- where the next one's marks stand
+pub entries-then : (n : Net) (guards : List ℕ) (t : ℕ) {guard many base more : ℕ} → guard ≡ getD guards t 0 → many ≡ product (sizesOf n (transitionAt n t)) → base ≡ entries n guards t
+    → more ≡ entriesAt guard many → base + more ≡ entries n guards (t + 1)
+entries-then n guards t {guard} {many} {base} {more} g is from e =
+    let q : more ≡ entriesAt (getD guards t 0) (product (sizesOf n (transitionAt n t))) = e ∙ ap (λ x. entriesAt x many) g ∙ ap (entriesAt (getD guards t 0)) is in
+    omega (arith, entries-next n guards t)

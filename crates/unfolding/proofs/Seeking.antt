@@ -4,7 +4,6 @@ use Prim.Native.Nat.{_≤_, _<_, _-_}
 use native.Mathlib.Omega.{arith}
 use Rattle.reading.specs.Basics.{ℕ, _+_, List, none, some, length, product}
 use Rattle.net.specs.Net.{Net, sizesOf}
-use Rattle.net_file.specs.Limits.{Limits}
 use Rattle.coloured.specs.Effect.{transitionAt, bindings}
 use Rattle.coloured.specs.Numbers.{before}
 use Rattle.coloured.proofs.Digits.{bindings-at, before-all}
@@ -22,21 +21,20 @@ module _ (n : Net) (t i : ℕ) (lt : t < length (n .transitions)) (inside : i < 
   sought-here {row} is more le less = order-here n (before n t + i) (bindings-at n t i lt inside) row (omega arith) (omega arith)
 
 -- a transition without a guard
-module _ {s sizes vars : List ℕ} {n : Net} {uses guard : ℕ} (t : ℕ) (limits : Limits n) (lt : t < length (n .transitions))
-    (listed : Listed s n sizes vars (transitionAt n t) uses guard) (without : guard < 1) where
+module _ {s sizes vars own : List ℕ} {n : Net} {t guard : ℕ} (listed : Listed s n sizes vars own t guard) (without : guard < 1) where
   -- the row is that of the binding as many after its first as the row after its first row
   pub sought-follows : (row : ℕ) {count size : ℕ} → count ≡ passed n (before n t) → size ≡ product (sizesOf n (transitionAt n t)) → count ≤ row → row - count < size
       → orderOfRow n row ≡ some (orderAt n t (row - count))
   sought-follows row {count} is size-is le less =
       let i : ℕ = row - count in
       let inside : i < product (sizesOf n (transitionAt n t)) = omega arith in
-      let at = row-each t limits lt listed without i (omega arith) in
-      let more = count-passes n t i limits lt inside (guard-none listed i without) at in
-      order-here n (before n t + i) (bindings-at n t i lt inside) row (omega arith) (omega arith)
+      let at = row-each listed without i (omega arith) in
+      let more = count-passes n t i (listed .limits) (listed .stands) inside (guard-none listed i without) at in
+      order-here n (before n t + i) (bindings-at n t i (listed .stands) inside) row (omega arith) (omega arith)
 
   -- the rows with all of its bindings
   pub sought-past : {count size : ℕ} → count ≡ passed n (before n t) → size ≡ product (sizesOf n (transitionAt n t)) → count + size ≡ passed n (before n t + size)
-  sought-past {count} {size} is size-is = rw is (row-each t limits lt listed without size (omega arith))
+  sought-past {count} {size} is size-is = rw is (row-each listed without size (omega arith))
 
 -- what a transition's search told
 pub the-index : (n : Net) (t size row : ℕ) {index : ℕ} {r : Sought} → r ≡ At index → SoughtTold n t size row r → orderOfRow n row ≡ some (orderAt n t index)

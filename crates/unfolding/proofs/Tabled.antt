@@ -8,78 +8,85 @@ use native.Mathlib.Numerals.{add-one}
 use borrow.Author.Tests.{ltb-true, ltb-false, lt-ltb, le-ltb}
 use lib.ListN.{set}
 use lib.Seq.{getD-set-same, getD-set-other}
-use Rattle.reading.specs.Basics.{ℕ, zero, suc, _+_, Bool, true, false, ltb, if_then_else_, _||_, List, [], map, some, length, getD, getElem?, keep, below, any, product}
+use Rattle.reading.specs.Basics.{ℕ, zero, suc, _+_, Bool, true, false, ltb, if_then_else_, _||_, List, [], some, length, getD, getElem?, any, product}
 use Rattle.reading.proofs.Lists.{below-at}
-use Rattle.net.specs.Net.{Transition, Net, net, inGuard, inExpression, sizeOf, variablesOf, sizesOf, inTransition}
+use Rattle.net.specs.Net.{Transition, Net, net, inGuard, inExpression, variablesOf, sizesOf}
 use Rattle.net.specs.Reader.{readGuard}
-use Rattle.net.specs.Told.{bits}
 use Rattle.net.specs.Values.{holds}
 use Rattle.net.specs.Evaluated.{Held}
 use Rattle.net_file.specs.Limits.{Limits}
 use Rattle.net.specs.declared.evaluate.Tested.{Tested}
 use Rattle.net.proofs.Alike.{holds-alike, holds-bound}
-use Rattle.coloured.specs.Effect.{Binding, transitionAt, standsFor, bindings}
+use Rattle.coloured.specs.Effect.{Binding, transitionAt, standsFor, bindings, effect}
 use Rattle.coloured.specs.Orders.{orderOf}
-use Rattle.coloured.specs.Numbers.{digits, before, Bound}
-use Rattle.coloured.proofs.Bindings.{bound, bindings-length}
+use Rattle.coloured.specs.Drawing.{Binds}
+use Rattle.coloured.specs.Numbers.{digits, before}
+use Rattle.coloured.specs.Ready.{numbered}
+use Rattle.coloured.proofs.Bindings.{bindings-length}
 use Rattle.coloured.proofs.Digits.{bindings-at, before-next, before-all}
 use Rattle.unfolding.specs.Unfolding.{rowNumber}
-use Rattle.unfolding.specs.Walked.{passed, entriesAt, entries, Numbers, Follows, Starts, Listed, Tables}
-use Rattle.unfolding.proofs.Walking.{passed-none, passed-most, guard-passes, guard-fails, number-passes, number-fails}
+use Rattle.unfolding.specs.Walked.{passed, takesEffect, entriesAt, entries, Numbers, Follows, Starts, Listed, Tables}
+use Rattle.unfolding.proofs.Walking.{passed-none, passed-most, effect-passes, effect-fails, number-passes, number-fails}
 
 -- ---- one guard
 in-first : (a b : Bool) → a ≡ true → a || b ≡ true
 in-first a b e = rw e
 
-module _ {s sizes vars : List ℕ} {n : Net} {t : Transition} {uses guard : ℕ} (listed : Listed s n sizes vars t uses guard) (i : ℕ) where
+module _ {s sizes vars own : List ℕ} {n : Net} {t guard : ℕ} (listed : Listed s n sizes vars own t guard) (i : ℕ) where
+  abbrev this : Transition
+  this = transitionAt n t
+
   -- the colours of binding number i
   abbrev env : ℕ → ℕ
-  env = standsFor (variablesOf n t) (digits (sizesOf n t) i)
+  env = standsFor (variablesOf n this) (digits (sizesOf n this) i)
 
-  -- there is none
-  pub guard-none : guard < 1 → true ≡ holds n env (t .guard)
+  -- it has an effect where its guard holds
+  effect-told : (b : Bool) → b ≡ holds n env (this .guard) → b ≡ takesEffect n t i
+  unfolding effect
+  effect-told true e = rw (← e)
+  effect-told false e = rw (← e)
+
+  -- there is no guard
+  pub guard-none : guard < 1 → true ≡ takesEffect n t i
   unfolding holds
-  guard-none h = let e : guard ≡ 0 = omega arith in rw (listed .standing .without e)
+  guard-none h = let e : guard ≡ 0 = omega arith in effect-told true (rw (listed .standing .without e))
 
   -- it is evaluated where it stands
-  pub guard-told : (slots : List ℕ) (r : Tested) → 1 ≤ guard → Bound n (λ v. inTransition v t) i slots
-      → Held (net sizes vars (n .places) [] []) slots r (readGuard s (net sizes vars (n .places) [] []) 16 guard) → r .holds ≡ holds n env (t .guard)
-  unfolding variablesOf
+  pub guard-told : (slots : List ℕ) (r : Tested) → 1 ≤ guard → Binds n (numbered n t i) slots
+      → Held (net sizes vars (n .places) [] []) slots r (readGuard s (net sizes vars (n .places) [] []) 16 guard) → r .holds ≡ takesEffect n t i
   guard-told slots r h given held =
       let is = subst (Held (net sizes vars (n .places) [] []) slots r) (listed .standing .stands (omega arith) .reads) held in
-      ap (λ x. x .holds) is
-      ∙ sym (holds-alike n (net sizes vars (n .places) [] []) (listed .sets) (listed .variables) (λ v. getD slots v 0) (t .guard))
-      ∙ holds-bound n (λ v. getD slots v 0) env (t .guard)
-      (λ v q. given v (listed .inside v q) (in-first (inGuard v (t .guard)) (any (λ a. inExpression v (a .expression)) (t .arcs)) q))
+      effect-told (r .holds)
+      (ap (λ x. x .holds) is
+      ∙ sym (holds-alike n (net sizes vars (n .places) [] []) (listed .sets) (listed .variables) (λ v. getD slots v 0) (this .guard))
+      ∙ holds-bound n (λ v. getD slots v 0) env (this .guard) (λ v q. given v (in-first (inGuard v (this .guard)) (any (λ a. inExpression v (a .expression)) (this .arcs)) q)))
 
 -- ---- one binding
 module _ (n : Net) (t i : ℕ) (limits : Limits n) (lt : t < length (n .transitions)) (inside : i < product (sizesOf n (transitionAt n t))) where
   -- it stands at a place of the list
-  abbrev this : Binding
-  this = bound t (digits (sizesOf n (transitionAt n t)) i)
+  abbrev it : Binding
+  it = numbered n t i
 
-  here : getElem? (bindings n) (before n t + i) ≡ some this
+  here : getElem? (bindings n) (before n t + i) ≡ some it
   here = bindings-at n t i lt inside
 
   -- the rows with it
-  pub count-passes : {count : ℕ} → true ≡ holds n (standsFor (variablesOf n (transitionAt n t)) (digits (sizesOf n (transitionAt n t)) i)) (transitionAt n t .guard)
-      → count ≡ passed n (before n t + i) → count + 1 ≡ passed n (before n t + i + 1)
-  count-passes e is = ap (λ c. c + 1) is ∙ sym (guard-passes n (before n t + i) here (sym e))
+  pub count-passes : {count : ℕ} → true ≡ takesEffect n t i → count ≡ passed n (before n t + i) → count + 1 ≡ passed n (before n t + i + 1)
+  count-passes e is = ap (λ c. c + 1) is ∙ sym (effect-passes n (before n t + i) here (sym e))
 
-  pub count-fails : {count : ℕ} → false ≡ holds n (standsFor (variablesOf n (transitionAt n t)) (digits (sizesOf n (transitionAt n t)) i)) (transitionAt n t .guard)
-      → count ≡ passed n (before n t + i) → count ≡ passed n (before n t + i + 1)
-  count-fails e is = is ∙ sym (guard-fails n (before n t + i) here (sym e))
+  pub count-fails : {count : ℕ} → false ≡ takesEffect n t i → count ≡ passed n (before n t + i) → count ≡ passed n (before n t + i + 1)
+  count-fails e is = is ∙ sym (effect-fails n (before n t + i) here (sym e))
 
   -- it stands below 65,536
-  number-small : before n t + i < 65536
+  pub number-small : before n t + i < 65536
   number-small = omega (arith, below-at (bindings n) (before n t + i) here, bindings-length n, limits .space)
 
   -- its number
   number-is : {count next x : ℕ} → count ≡ passed n (before n t + i) → next ≡ passed n (before n t + i + 1) → (count < next → count < 65536 → x ≡ count)
-      → (next ≤ count → x ≡ 4294967295) → x ≡ rowNumber n (orderOf this)
+      → (next ≤ count → x ≡ 4294967295) → x ≡ rowNumber n (orderOf it)
   number-is {count} {next} {x} is more row none = go (ltb count next) refl
     where
-      go : (b : Bool) → ltb count next ≡ b → x ≡ rowNumber n (orderOf this)
+      go : (b : Bool) → ltb count next ≡ b → x ≡ rowNumber n (orderOf it)
       go true e =
           let h : count < next = ltb-true count next e in
           row h (omega (arith, passed-most n (before n t + i), number-small)) ∙ is ∙ number-passes n (before n t + i) here limits (omega arith)
@@ -126,13 +133,12 @@ pub same-below : (numbers : List ℕ) {after : List ℕ} (base i j x : ℕ) → 
 same-below numbers base i j x e lt = rw e (getD-set-other numbers (base + i) j x 0 (λ q. omega arith))
 
 -- ---- a transition without a guard
-module _ {s sizes vars : List ℕ} {n : Net} {uses guard : ℕ} (t : ℕ) (limits : Limits n) (lt : t < length (n .transitions))
-    (listed : Listed s n sizes vars (transitionAt n t) uses guard) (without : guard < 1) where
+module _ {s sizes vars own : List ℕ} {n : Net} {t guard : ℕ} (listed : Listed s n sizes vars own t guard) (without : guard < 1) where
   -- each of its bindings has a row
   pub row-each : (i : ℕ) → i ≤ product (sizesOf n (transitionAt n t)) → passed n (before n t) + i ≡ passed n (before n t + i)
   row-each zero le = let e : before n t ≡ before n t + 0 = omega arith in add-zero (passed n (before n t)) ∙ ap (passed n) e
   row-each (suc i) le =
-      let h = count-passes n t i limits lt (omega arith) (guard-none listed i without) (row-each i (omega arith)) in
+      let h = count-passes n t i (listed .limits) (listed .stands) (omega arith) (guard-none listed i without) (row-each i (omega arith)) in
       let e : passed n (before n t) + (i + 1) ≡ passed n (before n t) + i + 1 = omega arith in
       rw (← add-one i) (e ∙ passed-next n t i h)
 
@@ -140,9 +146,9 @@ module _ {s sizes vars : List ℕ} {n : Net} {uses guard : ℕ} (t : ℕ) (limit
   pub follows : Follows n t (passed n (before n t)) (product (sizesOf n (transitionAt n t)))
   follows = record {
     number = λ i inside.
-        let more = count-passes n t i limits lt inside (guard-none listed i without) refl in
-        row-each i (omega arith) ∙ number-passes n (before n t + i) (here n t i limits lt inside) limits (omega arith);
-    few = λ i inside. omega (arith, row-each i (omega arith), passed-most n (before n t + i), number-small n t i limits lt inside);
+        let more = count-passes n t i (listed .limits) (listed .stands) inside (guard-none listed i without) refl in
+        row-each i (omega arith) ∙ number-passes n (before n t + i) (here n t i (listed .limits) (listed .stands) inside) (listed .limits) (omega arith);
+    few = λ i inside. omega (arith, row-each i (omega arith), passed-most n (before n t + i), number-small n t i (listed .limits) (listed .stands) inside);
   }
 
 -- ---- entries
@@ -181,7 +187,7 @@ module _ (n : Net) (guards : List ℕ) where
       (omega (arith, entries-most t (omega arith), entries-next t, at-most (getD guards t 0) (product (sizesOf n (transitionAt n t))), before-next n t (omega arith)))
 
 -- so 65,536 are enough
-pub entries-few : {s sizes vars uses guards : List ℕ} {n : Net} {k : ℕ} → Tables s n sizes vars uses guards k → entries n guards k ≤ 65536
+pub entries-few : {s sizes vars own uses guards : List ℕ} {n : Net} {k : ℕ} → Tables s n sizes vars own uses guards k → entries n guards k ≤ 65536
 entries-few {guards = guards} {n = n} {k = k} tables =
     let all : before n k ≡ length (bindings n) = ap (before n) (sym (tables .are)) ∙ before-all n in
     omega (arith, entries-most n guards k (omega (arith, tables .are)), bindings-length n, tables .limits .space)
@@ -229,13 +235,13 @@ module _ (n : Net) (guards : List ℕ) where
         by-last (λ u x. 1 ≤ getD guards u 0 → x + product (sizesOf n (transitionAt n u)) ≤ end) last (λ u less guarded. omega (arith, was .below u less guarded))
 
   -- one without a guard more
-  pub number-follows : {s sizes vars starts numbers : List ℕ} {uses t base count size : ℕ} → Numbered n guards starts numbers t base count → Limits n
-      → t < length (n .transitions) → t < length starts → Listed s n sizes vars (transitionAt n t) uses (getD guards t 0) → getD guards t 0 < 1
+  pub number-follows : {s sizes vars own starts numbers : List ℕ} {t base count size : ℕ} → Numbered n guards starts numbers t base count
+      → t < length starts → Listed s n sizes vars own t (getD guards t 0) → getD guards t 0 < 1
       → size ≡ product (sizesOf n (transitionAt n t)) → Numbered n guards (set starts t count) numbers (t + 1) base (count + size)
-  number-follows {numbers = numbers} {t = t} {base = base} {count = count} {size = size} was limits lt room listed without is = record {
-    rows = passed-then n lt is (rw (was .rows, is) (row-each t limits lt listed without (product (sizesOf n (transitionAt n t))) (omega arith)));
+  number-follows {numbers = numbers} {t = t} {base = base} {count = count} {size = size} was room listed without is = record {
+    rows = passed-then n (listed .stands) is (rw (was .rows, is) (row-each listed without (product (sizesOf n (transitionAt n t))) (omega arith)));
     used = omega (arith, was .used, entries-next n guards t, entries-without (getD guards t 0) (product (sizesOf n (transitionAt n t))) without);
-    told = starts-more count was room numbers (λ j less. refl) (λ h. rw (was .rows) (follows t limits lt listed without)) (λ h. absurd (omega arith));
+    told = starts-more count was room numbers (λ j less. refl) (λ h. rw (was .rows) (follows listed without)) (λ h. absurd (omega arith));
     below = below-more count was room base (omega arith) (λ h. absurd (omega arith));
   }
 
@@ -260,12 +266,3 @@ module _ (n : Net) (guards : List ℕ) where
   -- all of them
   pub number-ends : {starts numbers : List ℕ} {t base count transitions : ℕ} → Numbered n guards starts numbers t base count → t ≡ transitions → Starts n guards starts numbers transitions
   number-ends was e = rw (← e) (was .told)
-
--- how many bindings a transition has
-pub size-told : {s sizes vars : List ℕ} {n : Net} {uses guard : ℕ} (t : ℕ) → Limits n → t < length (n .transitions) → Listed s n sizes vars (transitionAt n t) uses guard → {size : ℕ}
-    → ((m : Net) (p : ℕ → Bool) → m .sets ≡ sizes → m .variables ≡ vars → length (m .variables) ≤ 32 → uses ≡ bits p 32
-    → length (keep p (below (length (m .variables)))) ≤ 4 → size ≡ product (map (λ v. sizeOf m (getD (m .variables) v 0)) (keep p (below (length (m .variables))))))
-    → size ≡ product (sizesOf n (transitionAt n t))
-unfolding variablesOf
-size-told {n = n} t limits lt l told =
-    told n (λ v. inTransition v (transitionAt n t)) (l .sets) (l .variables) (limits .variables) (l .used) (limits .few-variables t lt)

@@ -1,22 +1,29 @@
 -- What the call that unfolds gives, from what was read, measured and written. Assumes nothing.
-use mathlib.Core.Path.{_≡_, refl, sym, ap, _∙_, subst}
+use mathlib.Core.Path.{_≡_, refl, sym, ap, _∙_}
 use Prim.Native.Nat.{_≤_, _<_}
 use native.Mathlib.Omega.{arith}
 use borrow.Author.Tests.{le-leb, lt-leb, leb-true, leb-false}
-use lib.ListN.{length-append, length-take}
+use lib.ListN.{length-append}
 use lib.Seq.{length-take-le}
-use Rattle.reading.specs.Basics.{ℕ, _+_, _*_, _/_, Bool, true, false, List, [], _∷_, _++_, flatMap, length, take, leb, below, over}
+use Rattle.reading.specs.Basics.{ℕ, _+_, _*_, _/_, Bool, true, false, List, [], _∷_, _++_, flatMap, length, getD, take, leb, below, over}
 use Rattle.reading.specs.Reading.{Outcome, accepted, refused, failing}
 use Rattle.flat.specs.Flat.{rowBytes, writeFlat}
 use Rattle.flat.proofs.Written.{placeBytes, length-places}
-use Rattle.net.specs.Net.{Net}
+use Rattle.net.specs.Net.{Net, inTransition}
+use Rattle.net.specs.Told.{bits}
 use Rattle.net_file.specs.Parts.{readNet}
 use Rattle.net_file.specs.Held.{NetHeld}
-use Rattle.coloured.specs.Packed.{Packed}
-use Rattle.coloured.specs.Drawing.{room}
+use Rattle.net_file.specs.Limits.{Limits}
+use Rattle.net_file.specs.Formed.{Formed}
+use Rattle.coloured.specs.Effect.{transitionAt}
+use Rattle.coloured.specs.Packed.{shapeIn, Packed}
+use Rattle.coloured.specs.Own.{Owned}
+use Rattle.coloured.specs.Slots.{NetSlotted}
 use Rattle.coloured.proofs.Accepted.{ready}
+use Rattle.coloured.proofs.Readied.{small-room}
 use Rattle.unfolding.specs.Unfolding.{unfolded, flatFile, WriteCall, unfoldCall, line, program}
-use Rattle.unfolding.specs.Pieces.{transitionBytes, Tabled}
+use Rattle.unfolding.specs.Pieces.{transitionBytes, Ruled, Small, Tabled}
+use Rattle.unfolding.specs.Marks.{Marked}
 use Rattle.unfolding.specs.Out.{Appended}
 use Rattle.unfolding.proofs.Appending.{append-then, append-all, front}
 use Rattle.unfolding.proofs.Decimals.{line-length}
@@ -42,8 +49,7 @@ module _ (s out : List ℕ) where
     unfold-whole h = rw (read, le-leb (length (flatFile n)) (length out) h)
 
 -- ---- the file by its pieces
-module _ {s sizes vars seconds starts uses guards arcs initial : List ℕ} {count total transitions : ℕ}
-    (t : Tabled s sizes vars seconds starts uses guards arcs initial count total transitions) where
+module _ {s sizes vars own guards arcs initial : List ℕ} {total transitions : ℕ} (t : Tabled s sizes vars own guards arcs initial total transitions) where
   abbrev rowsOf : List ℕ
   rowsOf = flatMap (transitionBytes (t .net)) (below transitions)
 
@@ -54,12 +60,12 @@ module _ {s sizes vars seconds starts uses guards arcs initial : List ℕ} {coun
   unfolding writeFlat
   file-is = rw (t .counts, rows-are)
 
-  -- the room for its rows, where it is small
-  pub small-room : 3 * total + length s / 2 ≤ 1024 → (n : Net) → readNet s ≡ accepted n → room s n ≤ 1024
-  small-room h n read =
+  -- lists of 1,024 slots have the room for its rows, where these need few
+  pub is-small : {slots : ℕ} → NetSlotted s arcs transitions slots → leb (slots + length s / 2) 1024 ≡ true → Small s
+  is-small enough few n read =
       let both : accepted n ≡ accepted (t .net) = sym read ∙ t .ready .read in
       let same : n ≡ t .net = cc in
-      rw same (omega (arith, t .sized))
+      rw same (small-room s (t .net) (enough (t .net) sizes vars guards (t .ready .drawing) (t .ready .transitions-are)) few)
 
   -- its length, from that of the rows
   pub file-length : total ≤ length initial → {rows : ℕ} → rows ≡ length rowsOf → 3 + 3 * total + rows ≡ length (flatFile (t .net))
@@ -81,23 +87,26 @@ module _ {s sizes vars seconds starts uses guards arcs initial : List ℕ} {coun
       → record { result = accepted size; out = exit } ≡ unfoldCall s out
   call-whole out e le w = rw (e, ← w) (unfold-whole s out (t .ready .read) (omega arith))
 
+  -- with the marks
+  abbrev pub ruled-of : {marks : List ℕ} → Marked (t .net) guards marks transitions → Ruled s sizes vars own guards arcs marks transitions
+  ruled-of marked = record { net = t .net; uses = t .uses; ready = t .ready; marked = marked }
+
 -- ---- the tables that the reader leaves
-module _ (s sizes vars firsts seconds starts uses guards arcs initial : List ℕ) {sets variables places total transitions space : ℕ} where
-  pub tabled : {packed : List ℕ} → NetHeld s sizes vars firsts seconds starts uses guards arcs initial sets variables places total transitions space → Packed arcs packed places transitions → total ≤ length initial
-      → Tabled s (take sets sizes) (take variables vars) seconds starts uses guards packed initial places total transitions
-  tabled held packs room = record {
+module _ (s sizes vars firsts seconds starts uses guards arcs initial : List ℕ) {sets variables places total transitions space : ℕ}
+    (held : NetHeld s sizes vars firsts seconds starts uses guards arcs initial sets variables places total transitions space) where
+  -- with the fronts of two of them, the packed table, and each transition's own variables
+  pub tabled : {fore front packed own : List ℕ} → fore ≡ take sets sizes → front ≡ take variables vars → Packed (shapeIn seconds starts) arcs packed places transitions
+      → ((k : Net) → k .sets ≡ fore → k .variables ≡ front → Limits k → Formed k → length (k .transitions) ≡ transitions
+      → ((t : ℕ) → t < length (k .transitions) → getD uses t 0 ≡ bits (λ v. inTransition v (transitionAt k t)) 32) → Owned k own)
+      → total ≤ length initial → Tabled s fore front own guards packed initial total transitions
+  tabled e f packs owns room = rw (e, f) record {
     net = held .value;
-    ready = ready s sizes vars firsts seconds starts uses guards arcs initial held packs;
+    uses = uses;
+    ready = ready s sizes vars firsts seconds starts uses guards arcs initial held packs (λ k a b. owns k (a ∙ sym e) (b ∙ sym f));
     sized = held .holds .started .all;
-    counts = initial-counted (held .value) starts initial (ready s sizes vars firsts seconds starts uses guards arcs initial held packs .drawing .begin)
+    counts = initial-counted (held .value) starts initial (λ p h. held .holds .started .begin p (omega (arith, held .holds .started .are)))
         (held .holds .counts) (omega (arith, held .holds .started .all)) (held .holds .started .all);
   }
-
-  -- over the fronts of two of them
-  pub tabled-fronts : {fore front packed : List ℕ} → fore ≡ take sets sizes → front ≡ take variables vars
-      → NetHeld s sizes vars firsts seconds starts uses guards arcs initial sets variables places total transitions space → Packed arcs packed places transitions → total ≤ length initial
-      → Tabled s fore front seconds starts uses guards packed initial places total transitions
-  tabled-fronts e f held packs room = rw (e, f) (tabled held packs room)
 
 -- ---- the program
 -- what the call gives over 65,536 bytes, and the program with it

@@ -5,14 +5,13 @@ use Prim.Native.Nat.{_≤_, _<_}
 use native.Mathlib.Omega.{arith}
 use lib.ListN.{length-append, length-take}
 use lib.Seq.{take-all}
-use Rattle.reading.specs.Basics.{ℕ, zero, suc, _+_, Bool, true, false, List, [], _∷_, _++_, filterMap, Option, none, some, Option·map, length, take, drop, getElem?, with}
+use Rattle.reading.specs.Basics.{ℕ, zero, suc, _+_, Bool, true, false, List, [], _∷_, _++_, filterMap, Option, none, some, Option·map, length, take, drop, getElem?, given, with}
 use Rattle.reading.proofs.Lists.{Apart, at-in, length-filterMap}
 use Rattle.firing.specs.Firing.{Weights}
 use Rattle.firing.proofs.Running.{take-with, split-here}
-use Rattle.net.specs.Net.{Net, variablesOf}
-use Rattle.net.specs.Values.{holds}
+use Rattle.net.specs.Net.{Net}
 use Rattle.net_file.specs.Limits.{Limits}
-use Rattle.coloured.specs.Effect.{Binding, transitionAt, standsFor, weightsOf, bindings, effect}
+use Rattle.coloured.specs.Effect.{Binding, bindings, effect}
 use Rattle.coloured.specs.Orders.{orderOf, named}
 use Rattle.coloured.proofs.Named.{order-names, named-order, orders-apart}
 use Rattle.unfolding.specs.Unfolding.{rows, rowNumber, orderOfRow}
@@ -77,17 +76,23 @@ module _ (n : Net) (i : ℕ) {b : Binding} (is : getElem? (bindings n) i ≡ som
   unfolding rows
   row-here e = walk-at (rowedIf n) (bindings n) i is (ap (Option·map (rowed (orderOf b))) e)
 
-  -- by its guard
-  abbrev pub guarded : Bool
-  guarded = holds n (standsFor (variablesOf n (transitionAt n (b .transition))) (b .colours)) (transitionAt n (b .transition) .guard)
+  -- it has an effect, or it has none
+  abbrev pub takes : Option Weights → Bool
+  takes o = given o false λ w. true
 
-  pub guard-passes : guarded ≡ true → passed n (i + 1) ≡ passed n i + 1
-  unfolding effect
-  guard-passes e = passed-more {w = weightsOf n (transitionAt n (b .transition)) (standsFor (variablesOf n (transitionAt n (b .transition))) (b .colours))} (rw e)
+  pub effect-passes : takes (effect n b) ≡ true → passed n (i + 1) ≡ passed n i + 1
+  effect-passes e = go (effect n b) refl e
+    where
+      go : (o : Option Weights) → effect n b ≡ o → takes o ≡ true → passed n (i + 1) ≡ passed n i + 1
+      go none q f = let z : _≡_ {A = ℕ} 0 1 = cc in absurd (omega arith)
+      go (some w) q f = passed-more q
 
-  pub guard-fails : guarded ≡ false → passed n (i + 1) ≡ passed n i
-  unfolding effect
-  guard-fails e = passed-same (rw e)
+  pub effect-fails : takes (effect n b) ≡ false → passed n (i + 1) ≡ passed n i
+  effect-fails e = go (effect n b) refl e
+    where
+      go : (o : Option Weights) → effect n b ≡ o → takes o ≡ false → passed n (i + 1) ≡ passed n i
+      go none q f = passed-same q
+      go (some w) q f = let z : _≡_ {A = ℕ} 0 1 = cc in absurd (omega arith)
 
   -- the row of that number is this binding's
   pub order-here : (row : ℕ) → passed n i ≤ row → row < passed n (i + 1) → orderOfRow n row ≡ some (orderOf b)

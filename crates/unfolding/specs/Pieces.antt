@@ -1,7 +1,7 @@
 -- The bytes of the rows, binding by binding; and what the code that measures and writes them knows of the net.
 use mathlib.Core.Path.{_≡_}
 use Prim.Native.Nat.{_≤_, _<_}
-use Rattle.reading.specs.Basics.{ℕ, List, [], flatMap, some, length, take, given, below, product}
+use Rattle.reading.specs.Basics.{ℕ, _+_, List, [], flatMap, some, length, take, given, below, product}
 use Rattle.reading.specs.Reading.{accepted}
 use Rattle.firing.specs.Firing.{Weights}
 use Rattle.firing.specs.Arcs.{rowOf}
@@ -9,9 +9,12 @@ use Rattle.flat.specs.Flat.{rowBytes}
 use Rattle.net.specs.Net.{Net, sizesOf, flatPlaceCount}
 use Rattle.coloured.specs.Effect.{transitionAt, effect}
 use Rattle.net_file.specs.Parts.{readNet}
-use Rattle.coloured.specs.Drawing.{room}
+use Rattle.coloured.specs.Drawing.{room, Drawing, Binds}
+use Rattle.coloured.specs.Own.{Owned}
 use Rattle.coloured.specs.Ready.{Ready, numbered}
 use Rattle.unfolding.specs.Unfolding.{unfolded}
+use Rattle.unfolding.specs.Walked.{takesEffect}
+use Rattle.unfolding.specs.Marks.{hasRow, Marked}
 
 -- what binding number i of a transition gives the flat file: its row's bytes, none where it has no effect
 unfoldable pub bindingBytes : Net → ℕ → ℕ → List ℕ
@@ -25,25 +28,49 @@ transitionBytes n t = flatMap (bindingBytes n t) (below (product (sizesOf n (tra
 abbrev pub RowsLong : Net → ℕ → ℕ → Type 0
 RowsLong n t row = (i : ℕ) (w : Weights) → i < product (sizesOf n (transitionAt n t)) → effect n (numbered n t i) ≡ some w → length (rowBytes (rowOf (flatPlaceCount n) w)) ≡ row
 
--- the tables are those of a net, which has transition t
-pub record Known (s sizes vars seconds starts uses guards arcs : List ℕ) (count t : ℕ) : Type 0 where
+-- the tables are those of a net, and of each transition's bindings the marks tell which have an effect
+pub record Ruled (s sizes vars own guards arcs marks : List ℕ) (transitions : ℕ) : Type 0 where
   pub net : Net
-  pub transitions : ℕ
-  pub ready : Ready s net sizes vars seconds starts uses guards arcs count transitions
-  pub stands : t < transitions
+  pub uses : List ℕ
+  pub ready : Ready s net sizes vars own uses guards arcs transitions
+  pub marked : Marked net guards marks transitions
 
--- so it is for the net of the tables
-abbrev pub Of : List ℕ → List ℕ → List ℕ → List ℕ → List ℕ → List ℕ → List ℕ → List ℕ → ℕ → ℕ → (Net → Type 0) → Type 0
-Of s sizes vars seconds starts uses guards arcs count t P =
-    (n : Net) (transitions : ℕ) → Ready s n sizes vars seconds starts uses guards arcs count transitions → t < transitions → P n
+-- of one transition, which has so many bindings: its marks, where it has a guard, stand from base on
+pub record Known (s sizes vars own arcs marks : List ℕ) (guard t many base : ℕ) : Type 0 where
+  pub net : Net
+  pub guards : List ℕ
+  pub read : readNet s ≡ accepted net
+  pub drawing : Drawing s net sizes vars guards arcs
+  pub owned : Owned net own
+  pub stands : t < length (net .transitions)
+  pub size : many ≡ product (sizesOf net (transitionAt net t))
+  pub few : base + many ≤ 65536
+  pub told : (i : ℕ) → i < many → hasRow guard marks (base + i) ≡ takesEffect net t i
+
+-- of one binding of a transition: its colours, and whether it has an effect
+pub record Here (s sizes vars env arcs marks : List ℕ) (guard t k : ℕ) : Type 0 where
+  pub net : Net
+  pub guards : List ℕ
+  pub index : ℕ
+  pub read : readNet s ≡ accepted net
+  pub drawing : Drawing s net sizes vars guards arcs
+  pub stands : t < length (net .transitions)
+  pub binds : Binds net (numbered net t index) env
+  pub few : k < 65536
+  pub told : hasRow guard marks k ≡ takesEffect net t index
 
 -- a lent list has the room that loading the net's rows needs
 abbrev pub Roomy : List ℕ → List ℕ → Type 0
 Roomy s l = (n : Net) → readNet s ≡ accepted n → room s n ≤ length l
 
+-- lists of 1,024 slots have it
+abbrev pub Small : List ℕ → Type 0
+Small s = (n : Net) → readNet s ≡ accepted n → room s n ≤ 1024
+
 -- the tables are those of a net, with its initial counts
-pub record Tabled (s sizes vars seconds starts uses guards arcs initial : List ℕ) (count total transitions : ℕ) : Type 0 where
+pub record Tabled (s sizes vars own guards arcs initial : List ℕ) (total transitions : ℕ) : Type 0 where
   pub net : Net
-  pub ready : Ready s net sizes vars seconds starts uses guards arcs count transitions
+  pub uses : List ℕ
+  pub ready : Ready s net sizes vars own uses guards arcs transitions
   pub sized : flatPlaceCount net ≡ total
   pub counts : take total initial ≡ unfolded net .initial

@@ -1,14 +1,17 @@
 -- What the walk over all bindings tells: the rows among the first so many, and their numbers.
 use mathlib.Core.Path.{_≡_}
 use Prim.Native.Nat.{_≤_, _<_}
-use Rattle.reading.specs.Basics.{ℕ, zero, suc, _+_, true, ltb, if_then_else_, List, [], filterMap, Option·map, none, some, length, take, getD, product}
-use Rattle.net.specs.Net.{Transition, Net, net, inGuard, sizesOf, inTransition}
+use Rattle.reading.specs.Basics.{ℕ, zero, suc, _+_, Bool, true, false, ltb, if_then_else_, List, [], filterMap, Option·map, none, some, length, take, getD, given, product}
+use Rattle.net.specs.Net.{Net, net, sizesOf, inTransition}
 use Rattle.net_file.specs.Limits.{Limits}
+use Rattle.net_file.specs.Formed.{Formed}
 use Rattle.net_file.specs.Tables.{GuardHolds}
 use Rattle.net.specs.Told.{bits}
 use Rattle.coloured.specs.Effect.{transitionAt, bindings, effect}
 use Rattle.coloured.specs.Orders.{orderOf}
 use Rattle.coloured.specs.Numbers.{digits, before}
+use Rattle.coloured.specs.Own.{Owned}
+use Rattle.coloured.specs.Ready.{numbered}
 use Rattle.unfolding.specs.Unfolding.{Rowed, rowNumber, orderOfRow}
 use Rattle.unfolding.specs.declared.seek.Sought.{Sought}
 use Rattle.unfolding.specs.declared.seek.Sought.the-variants as sought
@@ -21,6 +24,10 @@ rowsAmong n i = filterMap (λ b. Option·map (λ w. record { order = orderOf b; 
 
 abbrev pub passed : Net → ℕ → ℕ
 passed n i = length (rowsAmong n i)
+
+-- binding number i of a transition has an effect, and so a row
+abbrev pub takesEffect : Net → ℕ → ℕ → Bool
+takesEffect n t i = given (effect n (numbered n t i)) false λ w. true
 
 -- ---- row numbers
 -- the order of binding number i of a transition
@@ -51,19 +58,22 @@ pub record Starts (n : Net) (guards starts numbers : List ℕ) (t : ℕ) : Type 
   pub held : (u : ℕ) → u < t → 1 ≤ getD guards u 0 → Numbers n u numbers (getD starts u 0) (product (sizesOf n (transitionAt n u)))
 
 -- ---- what the walk reads
--- of one transition: its variables as bits, and where its guard stands
-pub record Listed (s : List ℕ) (n : Net) (sizes vars : List ℕ) (t : Transition) (uses guard : ℕ) : Type 0 where
+-- of one transition: its own variables, and where its guard stands
+pub record Listed (s : List ℕ) (n : Net) (sizes vars own : List ℕ) (t guard : ℕ) : Type 0 where
+  pub limits : Limits n
+  pub formed : Formed n
   pub sets : n .sets ≡ sizes
   pub variables : n .variables ≡ vars
-  pub used : uses ≡ bits (λ v. inTransition v t) 32
-  pub inside : (v : ℕ) → inGuard v (t .guard) ≡ true → v < length (n .variables)
-  pub standing : GuardHolds s (net sizes vars (n .places) [] []) (t .guard) guard
+  pub owned : Owned n own
+  pub stands : t < length (n .transitions)
+  pub standing : GuardHolds s (net sizes vars (n .places) [] []) (transitionAt n t .guard) guard
 
--- of a net: so many transitions, each with its variables and its guard
-pub record Tables (s : List ℕ) (n : Net) (sizes vars uses guards : List ℕ) (count : ℕ) : Type 0 where
+-- of a net: so many transitions, each with its variables, also as bits, and its guard
+pub record Tables (s : List ℕ) (n : Net) (sizes vars own uses guards : List ℕ) (count : ℕ) : Type 0 where
   pub limits : Limits n
   pub are : length (n .transitions) ≡ count
-  pub each : (t : ℕ) → t < count → Listed s n sizes vars (transitionAt n t) (getD uses t 0) (getD guards t 0)
+  pub used : (t : ℕ) → t < count → getD uses t 0 ≡ bits (λ v. inTransition v (transitionAt n t)) 32
+  pub each : (t : ℕ) → t < count → Listed s n sizes vars own t (getD guards t 0)
 
 -- ---- what the search for a row tells
 -- among the bindings of a transition, of which there are so many: the row is one of them, or it comes after them

@@ -46,7 +46,7 @@ fn row_of(
     requires { ⌜ length (now guards) ≡ 32 ⌝ }
     requires { ⌜ length (now starts) ≡ 32 ⌝ }
     requires { ⌜ i * 6 + 6 ≤ length (now orders) ⌝ }
-    ensures { λ r. ⌜ ((s : List ℕ) (n : Net) → Tables s n (now (sizes .entry)) (now (vars .entry)) (now (uses .entry)) (now (guards .entry)) transitions
+    ensures { λ r. ⌜ ((s own : List ℕ) (n : Net) → Tables s n (now (sizes .entry)) (now (vars .entry)) own (now (uses .entry)) (now (guards .entry)) transitions
         → Starts n (now (guards .entry)) (now (starts .entry)) (now (numbers .entry)) transitions
         → r ≡ rowNumber n (take 6 (drop (i * 6) (now (orders .entry))))) ⌝ }
 {
@@ -81,7 +81,7 @@ pub fn write_images(
     requires { ⌜ length (now guards) ≡ 32 ⌝ }
     requires { ⌜ length (now starts) ≡ 32 ⌝ }
     requires { ⌜ length (now orders) / 6 * 5 ≤ length (now out) ⌝ }
-    ensures { λ _. ⌜ ((s : List ℕ) (n : Net) → Tables s n (now (sizes .entry)) (now (vars .entry)) (now (uses .entry)) (now (guards .entry)) transitions
+    ensures { λ _. ⌜ ((s own : List ℕ) (n : Net) → Tables s n (now (sizes .entry)) (now (vars .entry)) own (now (uses .entry)) (now (guards .entry)) transitions
         → Starts n (now (guards .entry)) (now (starts .entry)) (now (numbers .entry)) transitions
         → now (out .exit) ≡ over (images n (now (orders .entry))) (now (out .entry))) ⌝ }
 {

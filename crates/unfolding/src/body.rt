@@ -1,94 +1,163 @@
-// The rows of a flat file, from the tables of a net: how many bytes they take, and the bytes themselves, binding by binding.
+// The rows of a flat file, from the tables of a net: which bindings have one, how many bytes they take, and the bytes themselves, binding by binding.
+use crate::marks::has_row;
+use crate::marks::set_mark;
+use crate::walk::entries_of;
 use crate::walk::passes;
 use crate::write::write_row;
-use coloured::Loaded;
 use coloured::Steady;
-use coloured::load_binding;
+use coloured::load_row;
+use coloured::next_binding;
+use coloured::space_of;
 use coloured::steady_row;
-use net_file::bindings_of;
 ghost use mathlib.Core.Path.{_≡_};
+ghost use mathlib.Core.List.{List};
+ghost use mathlib.Core.Bool.{_||_, _&&_};
 ghost use Prim.Native.Nat.{ℕ, _+_, _*_, _≤_, _<_};
-ghost use lib.ListN.{length, getD};
-ghost use Rattle.reading.specs.Basics.{flatMap, below, product};
+ghost use lib.ListN.{length};
+ghost use lib.Dec.{eqb};
+ghost use Rattle.reading.specs.Basics.{flatMap, below, product, if_then_else_};
 ghost use Rattle.net.specs.Net.{Net, sizesOf};
-ghost use Rattle.net_file.specs.Limits.{Limits};
 ghost use Rattle.coloured.specs.Effect.{transitionAt};
-ghost use Rattle.coloured.specs.Ready.{Ready};
+ghost use Rattle.coloured.specs.Drawing.{Binds};
+ghost use Rattle.coloured.specs.Ready.{numbered};
 ghost use Rattle.unfolding.specs.Out.{Appended};
-ghost use Rattle.unfolding.specs.Pieces.{bindingBytes, transitionBytes, RowsLong, Known, Of, Roomy};
-ghost use Rattle.unfolding.specs.Walked.{Listed};
+ghost use Rattle.unfolding.specs.Pieces.{bindingBytes, transitionBytes, Ruled, Known, Here, Roomy};
+ghost use Rattle.unfolding.specs.Walked.{takesEffect, Listed, Tables};
+ghost use Rattle.unfolding.specs.Marks.{markAt, Blank, effects, Marking, Marked, Counted};
 
-// A transition's variables, or none past the end.
-fn uses_of(uses: &[u32], t: usize) -> u32
-    ensures { λ r. ⌜ r ≡ getD (now (uses .entry)) t 0 ⌝ }
+// Sets the mark of a binding of a transition with a guard, if it has an effect: how many have one, after so many.
+fn mark_one(
+    s: &[u8],
+    sizes: &[u8],
+    vars: &[u8],
+    env: &[u8; 32],
+    guard: u16,
+    k: usize,
+    count: usize,
+    marks: &mut [u32; 2048],
+) -> usize
+    requires { ⌜ (1 ≤ guard) × (count ≤ 4228250625) × (length (now marks) ≡ 2048) ⌝ }
+    ensures is { λ r. ⌜ ((n : Net) (own : List ℕ) (t i : ℕ) → Listed (now (s .entry)) n (now (sizes .entry)) (now (vars .entry)) own t guard
+        → Binds n (numbered n t i) (now (env .entry))
+        → (r ≡ count + (if takesEffect n t i then 1 else 0))
+        × ((j : ℕ) → j < 65536 → markAt (now (marks .exit)) j ≡ (markAt (now (marks .entry)) j || (eqb j k && takesEffect n t i)))) ⌝ }
+    ensures high { λ r. ⌜ r ≤ count + 1 ⌝ }
+    ensures kept { λ _. ⌜ length (now (marks .exit)) ≡ 2048 ⌝ }
 {
-    if t < uses.len() { uses[t] } else { 0 }
+    if passes(s, sizes, vars, env, guard) {
+        set_mark(marks, k);
+        return count + 1;
+    }
+    count
 }
 
-// How many bytes binding number `index` of a transition gives.
+// Sets the marks of the bindings of a transition with a guard, from base on: how many have an effect.
+fn mark_those(
+    s: &[u8],
+    sizes: &[u8],
+    vars: &[u8],
+    own: &[u16; 128],
+    guard: u16,
+    t: usize,
+    many: usize,
+    base: usize,
+    marks: &mut [u32; 2048],
+) -> usize
+    requires { ⌜ (1 ≤ guard) × (t < 32) × (many ≤ 4228250625) × (base ≤ 135304020000) × (length (now marks) ≡ 2048) ⌝ }
+    ensures is { λ r. ⌜ ((n : Net) → Listed (now (s .entry)) n (now (sizes .entry)) (now (vars .entry)) (now (own .entry)) t guard
+        → many ≡ product (sizesOf n (transitionAt n t)) → base + many ≤ 65536 → Blank (now (marks .entry)) base
+        → (r ≡ effects n t many) × Marking n t (now (marks .entry)) (now (marks .exit)) base many) ⌝ }
+    ensures kept { λ _. ⌜ length (now (marks .exit)) ≡ 2048 ⌝ }
+{
+    let mut env = [0u8; 32];
+    let mut count: usize = 0;
+    let mut i: usize = 0;
+    while i < many {
+        count = mark_one(s, sizes, vars, &env, guard, base + i, count, marks);
+        next_binding(own, t, &mut env);
+        i += 1;
+    }
+    count
+}
+
+// Sets the marks of all bindings of transitions with a guard, and tells how many rows each transition has: without a guard each binding has one.
+pub fn mark_all(
+    s: &[u8],
+    sizes: &[u8],
+    vars: &[u8],
+    own: &[u16; 128],
+    guards: &[u16; 32],
+    transitions: usize,
+    marks: &mut [u32; 2048],
+    rows: &mut [usize; 32],
+)
+    requires { ⌜ (transitions ≤ 32) × (length (now marks) ≡ 2048) × (length (now rows) ≡ 32) ⌝ }
+    ensures { λ _. ⌜ ((n : Net) (uses : List ℕ) → Tables (now (s .entry)) n (now (sizes .entry)) (now (vars .entry)) (now (own .entry)) uses (now (guards .entry)) transitions
+        → Blank (now (marks .entry)) 0 → Marked n (now (guards .entry)) (now (marks .exit)) transitions × Counted n (now (rows .exit)) transitions) ⌝ }
+{
+    let mut base: usize = 0;
+    let mut t: usize = 0;
+    while t < transitions {
+        let many = space_of(own, t);
+        if guards[t] < 1 {
+            rows[t] = many;
+        } else {
+            rows[t] = mark_those(s, sizes, vars, own, guards[t], t, many, base, marks);
+            base += many;
+        }
+        t += 1;
+    }
+}
+
+// How many bytes a binding gives: those of its row, if it has one. Its mark is number k.
 fn measure_one(
     s: &[u8],
     sizes: &[u8],
     vars: &[u8],
-    seconds: &[u8],
-    starts: &[usize],
-    uses: &[u32],
-    guards: &[u16],
-    arcs: &[u32],
-    count: usize,
+    env: &[u8; 32],
+    guard: u16,
+    arcs: &[u64; 3072],
     t: usize,
-    index: usize,
+    marks: &[u32; 2048],
+    k: usize,
     places: &mut [u16],
     amounts: &mut [u16],
 ) -> usize
-    requires { ⌜ (count ≤ 32) × (t < 32) × Roomy (now s) (now places) × Roomy (now s) (now amounts) ⌝ }
-    requires { ⌜ Known (now s) (now sizes) (now vars) (now seconds) (now starts) (now uses) (now guards) (now arcs) count t ⌝ }
-    ensures is { λ r. ⌜ Of (now (s .entry)) (now (sizes .entry)) (now (vars .entry)) (now (seconds .entry)) (now (starts .entry)) (now (uses .entry)) (now (guards .entry)) (now (arcs .entry)) count t
-        (λ n. r ≡ length (bindingBytes n t index)) ⌝ }
+    requires { ⌜ (t < 32) × Roomy (now s) (now places) × Roomy (now s) (now amounts) ⌝ }
+    requires { ⌜ Here (now s) (now sizes) (now vars) (now env) (now arcs) (now marks) guard t k ⌝ }
+    ensures is { λ r. ⌜ ((h : Here (now (s .entry)) (now (sizes .entry)) (now (vars .entry)) (now (env .entry)) (now (arcs .entry)) (now (marks .entry)) guard t k)
+        → r ≡ length (bindingBytes (h .net) t (h .index))) ⌝ }
     ensures small { λ r. ⌜ r ≤ 61441 ⌝ }
 {
-    match load_binding(
-        s,
-        sizes,
-        vars,
-        seconds,
-        starts,
-        uses,
-        guards,
-        arcs,
-        count,
-        t,
-        index,
-        places,
-        amounts,
-    ) {
-        Loaded::Nothing => 0,
-        Loaded::Row { hinders, .. } => 1 + 5 * hinders,
+    if has_row(guard, marks, k) {
+        let ends = load_row(s, sizes, vars, env, arcs, t, places, amounts);
+        return 1 + 5 * ends.hinders;
     }
+    0
 }
 
-// How many bytes the first `many` bindings of a transition give.
+// How many bytes all bindings of a transition give; its marks stand from base on.
 fn measure_bindings(
     s: &[u8],
     sizes: &[u8],
     vars: &[u8],
-    seconds: &[u8],
-    starts: &[usize],
-    uses: &[u32],
-    guards: &[u16],
-    arcs: &[u32],
-    count: usize,
+    own: &[u16; 128],
+    guard: u16,
+    arcs: &[u64; 3072],
     t: usize,
     many: usize,
+    base: usize,
+    marks: &[u32; 2048],
     places: &mut [u16],
     amounts: &mut [u16],
 ) -> usize
-    requires { ⌜ (count ≤ 32) × (t < 32) × Roomy (now s) (now places) × Roomy (now s) (now amounts) × (many ≤ 4228250625) ⌝ }
-    requires { ⌜ Known (now s) (now sizes) (now vars) (now seconds) (now starts) (now uses) (now guards) (now arcs) count t ⌝ }
-    ensures is { λ r. ⌜ Of (now (s .entry)) (now (sizes .entry)) (now (vars .entry)) (now (seconds .entry)) (now (starts .entry)) (now (uses .entry)) (now (guards .entry)) (now (arcs .entry)) count t
-        (λ n. r ≡ length (flatMap (bindingBytes n t) (below many))) ⌝ }
-    ensures small { λ r. ⌜ r ≤ 260000000000000 ⌝ }
+    requires { ⌜ (t < 32) × Roomy (now s) (now places) × Roomy (now s) (now amounts) ⌝ }
+    requires { ⌜ Known (now s) (now sizes) (now vars) (now own) (now arcs) (now marks) guard t many base ⌝ }
+    ensures is { λ r. ⌜ ((k : Known (now (s .entry)) (now (sizes .entry)) (now (vars .entry)) (now (own .entry)) (now (arcs .entry)) (now (marks .entry)) guard t many base)
+        → r ≡ length (flatMap (bindingBytes (k .net) t) (below many))) ⌝ }
+    ensures small { λ r. ⌜ r ≤ 4026597376 ⌝ }
 {
+    let mut env = [0u8; 32];
     let mut total: usize = 0;
     let mut i: usize = 0;
     while i < many {
@@ -96,136 +165,60 @@ fn measure_bindings(
             s,
             sizes,
             vars,
-            seconds,
-            starts,
-            uses,
-            guards,
+            &env,
+            guard,
             arcs,
-            count,
             t,
-            i,
+            marks,
+            base + i,
             places,
             amounts,
         );
+        next_binding(own, t, &mut env);
         i += 1;
     }
     total
 }
 
-// The length of its row where the guard of a transition holds in its binding number i, else 0.
-fn row_if(s: &[u8], sizes: &[u8], vars: &[u8], uses: u32, guard: u16, i: usize, row: usize) -> usize
-    requires { ⌜ 1 ≤ guard ⌝ }
-    ensures is { λ r. ⌜ ((n : Net) (t : ℕ) → Limits n → Listed (now (s .entry)) n (now (sizes .entry)) (now (vars .entry)) (transitionAt n t) uses guard
-        → i < product (sizesOf n (transitionAt n t)) → RowsLong n t row → r ≡ length (bindingBytes n t i)) ⌝ }
-    ensures small { λ r. ⌜ r ≤ row ⌝ }
-{
-    if passes(s, sizes, vars, uses, guard, i) {
-        return row;
-    }
-    0
-}
-
-// How many bytes the bindings of a transition with a guard give, where each row has so many.
-fn measure_guarded(
-    s: &[u8],
-    sizes: &[u8],
-    vars: &[u8],
-    uses: u32,
-    guard: u16,
-    many: usize,
-    row: usize,
-) -> usize
-    requires { ⌜ (1 ≤ guard) × (many ≤ 4228250625) × (row ≤ 31456801) ⌝ }
-    ensures is { λ r. ⌜ ((n : Net) (t : ℕ) → Limits n → Listed (now (s .entry)) n (now (sizes .entry)) (now (vars .entry)) (transitionAt n t) uses guard
-        → many ≡ product (sizesOf n (transitionAt n t)) → RowsLong n t row → r ≡ length (flatMap (bindingBytes n t) (below many))) ⌝ }
-    ensures small { λ r. ⌜ r ≤ 140000000000000000 ⌝ }
-{
-    let mut total: usize = 0;
-    let mut i: usize = 0;
-    while i < many {
-        total += row_if(s, sizes, vars, uses, guard, i, row);
-        i += 1;
-    }
-    total
-}
-
-// How many bytes the bindings of a transition give, where each row has so many: without a guard all of them have one.
-fn measure_steady(
-    s: &[u8],
-    sizes: &[u8],
-    vars: &[u8],
-    uses: u32,
-    guard: u16,
-    many: usize,
-    row: usize,
-) -> usize
-    requires { ⌜ (many ≤ 4228250625) × (row ≤ 31456801) ⌝ }
-    ensures is { λ r. ⌜ ((n : Net) (t : ℕ) → Limits n → Listed (now (s .entry)) n (now (sizes .entry)) (now (vars .entry)) (transitionAt n t) uses guard
-        → many ≡ product (sizesOf n (transitionAt n t)) → RowsLong n t row → r ≡ length (flatMap (bindingBytes n t) (below many))) ⌝ }
-    ensures small { λ r. ⌜ r ≤ 140000000000000000 ⌝ }
-{
-    if guard < 1 {
-        return many * row;
-    }
-    measure_guarded(s, sizes, vars, uses, guard, many, row)
-}
-
-// Where a transition's guard stands, 0 past the end.
-fn guard_of(guards: &[u16], t: usize) -> u16
-    ensures { λ r. ⌜ r ≡ getD (now (guards .entry)) t 0 ⌝ }
-{
-    if t < guards.len() { guards[t] } else { 0 }
-}
-
-// How many bytes all bindings of a transition give. Rows that are all of one length are not loaded for it.
+// How many bytes all bindings of a transition with so many rows give. Rows that are all of one length are not loaded for it.
 fn measure_transition(
     s: &[u8],
     sizes: &[u8],
     vars: &[u8],
-    seconds: &[u8],
-    starts: &[usize],
-    uses: &[u32],
-    guards: &[u16],
-    arcs: &[u32],
-    count: usize,
+    own: &[u16; 128],
+    guard: u16,
+    arcs: &[u64; 3072],
     t: usize,
     many: usize,
+    base: usize,
+    marks: &[u32; 2048],
+    rows: usize,
     places: &mut [u16],
     amounts: &mut [u16],
 ) -> usize
-    requires { ⌜ (count ≤ 32) × (t < 32) × Roomy (now s) (now places) × Roomy (now s) (now amounts) × (many ≤ 4228250625) ⌝ }
-    requires { ⌜ Known (now s) (now sizes) (now vars) (now seconds) (now starts) (now uses) (now guards) (now arcs) count t ⌝ }
-    ensures is { λ r. ⌜ Of (now (s .entry)) (now (sizes .entry)) (now (vars .entry)) (now (seconds .entry)) (now (starts .entry)) (now (uses .entry)) (now (guards .entry)) (now (arcs .entry)) count t
-        (λ n. many ≡ product (sizesOf n (transitionAt n t)) → r ≡ length (flatMap (bindingBytes n t) (below many))) ⌝ }
-    ensures small { λ r. ⌜ r ≤ 140000000000000000 ⌝ }
+    requires { ⌜ (t < 32) × Roomy (now s) (now places) × Roomy (now s) (now amounts) × (rows ≤ 65536) ⌝ }
+    requires { ⌜ Known (now s) (now sizes) (now vars) (now own) (now arcs) (now marks) guard t many base ⌝ }
+    ensures is { λ r. ⌜ ((k : Known (now (s .entry)) (now (sizes .entry)) (now (vars .entry)) (now (own .entry)) (now (arcs .entry)) (now (marks .entry)) guard t many base)
+        → rows ≡ effects (k .net) t many → r ≡ length (flatMap (bindingBytes (k .net) t) (below many))) ⌝ }
+    ensures small { λ r. ⌜ r ≤ 2100000000000 ⌝ }
 {
-    let Steady::Arcs { count: long } = steady_row(s, starts, arcs, count, t) else {
+    let Steady::Arcs { count } = steady_row(s, arcs, t) else {
         return measure_bindings(
             s,
             sizes,
             vars,
-            seconds,
-            starts,
-            uses,
-            guards,
+            own,
+            guard,
             arcs,
-            count,
             t,
             many,
+            base,
+            marks,
             places,
             amounts,
         );
     };
-    let row = 1 + 5 * long;
-    measure_steady(
-        s,
-        sizes,
-        vars,
-        uses_of(uses, t),
-        guard_of(guards, t),
-        many,
-        row,
-    )
+    rows * (1 + 5 * count)
 }
 
 // How many bytes the rows of all transitions take.
@@ -233,120 +226,108 @@ pub fn measure_all(
     s: &[u8],
     sizes: &[u8],
     vars: &[u8],
-    seconds: &[u8],
-    starts: &[usize],
-    uses: &[u32],
-    guards: &[u16],
-    arcs: &[u32],
-    count: usize,
+    own: &[u16; 128],
+    guards: &[u16; 32],
+    arcs: &[u64; 3072],
     transitions: usize,
+    marks: &[u32; 2048],
+    rows: &[usize; 32],
     places: &mut [u16],
     amounts: &mut [u16],
 ) -> usize
-    requires { ⌜ (count ≤ 32) × (transitions ≤ 32) × Roomy (now s) (now places) × Roomy (now s) (now amounts) ⌝ }
-    requires { ⌜ ((n : Net) × Ready (now s) n (now sizes) (now vars) (now seconds) (now starts) (now uses) (now guards) (now arcs) count transitions) ⌝ }
-    ensures is { λ r. ⌜ ((n : Net) → Ready (now (s .entry)) n (now (sizes .entry)) (now (vars .entry)) (now (seconds .entry)) (now (starts .entry)) (now (uses .entry)) (now (guards .entry)) (now (arcs .entry)) count transitions
-        → r ≡ length (flatMap (transitionBytes n) (below transitions))) ⌝ }
-    ensures small { λ r. ⌜ r ≤ 4480000000000000000 ⌝ }
+    requires { ⌜ (transitions ≤ 32) × Roomy (now s) (now places) × Roomy (now s) (now amounts) ⌝ }
+    requires { ⌜ ((k : Ruled (now s) (now sizes) (now vars) (now own) (now guards) (now arcs) (now marks) transitions) × Counted (k .net) (now rows) transitions) ⌝ }
+    ensures is { λ r. ⌜ ((k : Ruled (now (s .entry)) (now (sizes .entry)) (now (vars .entry)) (now (own .entry)) (now (guards .entry)) (now (arcs .entry)) (now (marks .entry)) transitions)
+        → Counted (k .net) (now (rows .entry)) transitions → r ≡ length (flatMap (transitionBytes (k .net)) (below transitions))) ⌝ }
+    ensures small { λ r. ⌜ r ≤ 67200000000000 ⌝ }
 {
     let mut total: usize = 0;
+    let mut base: usize = 0;
     let mut t: usize = 0;
     while t < transitions {
-        let many = bindings_of(uses_of(uses, t), sizes, vars);
+        let guard = guards[t];
+        let many = space_of(own, t);
         total += measure_transition(
             s,
             sizes,
             vars,
-            seconds,
-            starts,
-            uses,
-            guards,
+            own,
+            guard,
             arcs,
-            count,
             t,
             many,
+            base,
+            marks,
+            rows[t],
             places,
             amounts,
         );
+        base += entries_of(guard, many);
         t += 1;
     }
     total
 }
 
-// Writes the row of binding number `index` of a transition, if it has an effect.
+// Writes the row of a binding, if it has one. Its mark is number k.
 fn write_one(
     s: &[u8],
     sizes: &[u8],
     vars: &[u8],
-    seconds: &[u8],
-    starts: &[usize],
-    uses: &[u32],
-    guards: &[u16],
-    arcs: &[u32],
-    count: usize,
+    env: &[u8; 32],
+    guard: u16,
+    arcs: &[u64; 3072],
     t: usize,
-    index: usize,
+    marks: &[u32; 2048],
+    k: usize,
     places: &mut [u16],
     amounts: &mut [u16],
     out: &mut [u8],
     at: usize,
 ) -> usize
-    requires { ⌜ (count ≤ 32) × (t < 32) × Roomy (now s) (now places) × Roomy (now s) (now amounts) ⌝ }
-    requires { ⌜ Known (now s) (now sizes) (now vars) (now seconds) (now starts) (now uses) (now guards) (now arcs) count t ⌝ }
-    requires { ⌜ Of (now s) (now sizes) (now vars) (now seconds) (now starts) (now uses) (now guards) (now arcs) count t
-        (λ n. at + length (bindingBytes n t index) ≤ length (now out)) ⌝ }
-    ensures { λ r. ⌜ Of (now (s .entry)) (now (sizes .entry)) (now (vars .entry)) (now (seconds .entry)) (now (starts .entry)) (now (uses .entry)) (now (guards .entry)) (now (arcs .entry)) count t
-        (λ n. Appended (now (out .entry)) (now (out .exit)) at r (bindingBytes n t index)) ⌝ }
+    requires { ⌜ (t < 32) × Roomy (now s) (now places) × Roomy (now s) (now amounts) ⌝ }
+    requires { ⌜ ((h : Here (now s) (now sizes) (now vars) (now env) (now arcs) (now marks) guard t k) × (at + length (bindingBytes (h .net) t (h .index)) ≤ length (now out))) ⌝ }
+    ensures { λ r. ⌜ ((h : Here (now (s .entry)) (now (sizes .entry)) (now (vars .entry)) (now (env .entry)) (now (arcs .entry)) (now (marks .entry)) guard t k)
+        → Appended (now (out .entry)) (now (out .exit)) at r (bindingBytes (h .net) t (h .index))) ⌝ }
 {
-    match load_binding(
-        s,
-        sizes,
-        vars,
-        seconds,
-        starts,
-        uses,
-        guards,
-        arcs,
-        count,
-        t,
-        index,
-        places,
-        amounts,
-    ) {
-        Loaded::Nothing => at,
-        Loaded::Row {
-            takes,
-            puts,
-            hinders,
-        } => write_row(places, amounts, takes, puts, hinders, out, at),
+    if has_row(guard, marks, k) {
+        let ends = load_row(s, sizes, vars, env, arcs, t, places, amounts);
+        return write_row(
+            places,
+            amounts,
+            ends.takes,
+            ends.puts,
+            ends.hinders,
+            out,
+            at,
+        );
     }
+    at
 }
 
-// Writes the rows of a transition's first `many` bindings.
+// Writes the rows of all bindings of a transition; its marks stand from base on.
 fn write_bindings(
     s: &[u8],
     sizes: &[u8],
     vars: &[u8],
-    seconds: &[u8],
-    starts: &[usize],
-    uses: &[u32],
-    guards: &[u16],
-    arcs: &[u32],
-    count: usize,
+    own: &[u16; 128],
+    guard: u16,
+    arcs: &[u64; 3072],
     t: usize,
     many: usize,
+    base: usize,
+    marks: &[u32; 2048],
     places: &mut [u16],
     amounts: &mut [u16],
     out: &mut [u8],
     at: usize,
 ) -> usize
-    requires { ⌜ (count ≤ 32) × (t < 32) × Roomy (now s) (now places) × Roomy (now s) (now amounts) ⌝ }
-    requires { ⌜ Known (now s) (now sizes) (now vars) (now seconds) (now starts) (now uses) (now guards) (now arcs) count t ⌝ }
-    requires { ⌜ Of (now s) (now sizes) (now vars) (now seconds) (now starts) (now uses) (now guards) (now arcs) count t
-        (λ n. at + length (flatMap (bindingBytes n t) (below many)) ≤ length (now out)) ⌝ }
-    ensures { λ r. ⌜ Of (now (s .entry)) (now (sizes .entry)) (now (vars .entry)) (now (seconds .entry)) (now (starts .entry)) (now (uses .entry)) (now (guards .entry)) (now (arcs .entry)) count t
-        (λ n. Appended (now (out .entry)) (now (out .exit)) at r (flatMap (bindingBytes n t) (below many))) ⌝ }
+    requires { ⌜ (t < 32) × Roomy (now s) (now places) × Roomy (now s) (now amounts) ⌝ }
+    requires { ⌜ ((k : Known (now s) (now sizes) (now vars) (now own) (now arcs) (now marks) guard t many base)
+        × (at + length (flatMap (bindingBytes (k .net) t) (below many)) ≤ length (now out))) ⌝ }
+    ensures { λ r. ⌜ ((k : Known (now (s .entry)) (now (sizes .entry)) (now (vars .entry)) (now (own .entry)) (now (arcs .entry)) (now (marks .entry)) guard t many base)
+        → Appended (now (out .entry)) (now (out .exit)) at r (flatMap (bindingBytes (k .net) t) (below many))) ⌝ }
 {
+    let mut env = [0u8; 32];
     let mut next = at;
     let mut i: usize = 0;
     while i < many {
@@ -354,19 +335,18 @@ fn write_bindings(
             s,
             sizes,
             vars,
-            seconds,
-            starts,
-            uses,
-            guards,
+            &env,
+            guard,
             arcs,
-            count,
             t,
-            i,
+            marks,
+            base + i,
             places,
             amounts,
             out,
             next,
         );
+        next_binding(own, t, &mut env);
         i += 1;
     }
     next
@@ -377,46 +357,45 @@ pub fn write_all(
     s: &[u8],
     sizes: &[u8],
     vars: &[u8],
-    seconds: &[u8],
-    starts: &[usize],
-    uses: &[u32],
-    guards: &[u16],
-    arcs: &[u32],
-    count: usize,
+    own: &[u16; 128],
+    guards: &[u16; 32],
+    arcs: &[u64; 3072],
     transitions: usize,
+    marks: &[u32; 2048],
     places: &mut [u16],
     amounts: &mut [u16],
     out: &mut [u8],
     at: usize,
 ) -> usize
-    requires { ⌜ (count ≤ 32) × (transitions ≤ 32) × Roomy (now s) (now places) × Roomy (now s) (now amounts) ⌝ }
-    requires { ⌜ ((n : Net) × Ready (now s) n (now sizes) (now vars) (now seconds) (now starts) (now uses) (now guards) (now arcs) count transitions) ⌝ }
-    requires { ⌜ ((n : Net) → Ready (now s) n (now sizes) (now vars) (now seconds) (now starts) (now uses) (now guards) (now arcs) count transitions
-        → at + length (flatMap (transitionBytes n) (below transitions)) ≤ length (now out)) ⌝ }
-    ensures { λ r. ⌜ ((n : Net) → Ready (now (s .entry)) n (now (sizes .entry)) (now (vars .entry)) (now (seconds .entry)) (now (starts .entry)) (now (uses .entry)) (now (guards .entry)) (now (arcs .entry)) count transitions
-        → Appended (now (out .entry)) (now (out .exit)) at r (flatMap (transitionBytes n) (below transitions))) ⌝ }
+    requires { ⌜ (transitions ≤ 32) × Roomy (now s) (now places) × Roomy (now s) (now amounts) ⌝ }
+    requires { ⌜ ((k : Ruled (now s) (now sizes) (now vars) (now own) (now guards) (now arcs) (now marks) transitions)
+        × (at + length (flatMap (transitionBytes (k .net)) (below transitions)) ≤ length (now out))) ⌝ }
+    ensures { λ r. ⌜ ((k : Ruled (now (s .entry)) (now (sizes .entry)) (now (vars .entry)) (now (own .entry)) (now (guards .entry)) (now (arcs .entry)) (now (marks .entry)) transitions)
+        → Appended (now (out .entry)) (now (out .exit)) at r (flatMap (transitionBytes (k .net)) (below transitions))) ⌝ }
 {
     let mut next = at;
+    let mut base: usize = 0;
     let mut t: usize = 0;
     while t < transitions {
-        let many = bindings_of(uses_of(uses, t), sizes, vars);
+        let guard = guards[t];
+        let many = space_of(own, t);
         next = write_bindings(
             s,
             sizes,
             vars,
-            seconds,
-            starts,
-            uses,
-            guards,
+            own,
+            guard,
             arcs,
-            count,
             t,
             many,
+            base,
+            marks,
             places,
             amounts,
             out,
             next,
         );
+        base += entries_of(guard, many);
         t += 1;
     }
     next

@@ -1,10 +1,13 @@
 // The call that unfolds a net file into a flat file.
+use crate::body::mark_all;
 use crate::body::measure_all;
 use crate::body::write_all;
 use crate::write::write_end;
 use crate::write::write_head;
 use crate::write::write_places;
 use coloured::is_small;
+use coloured::list_variables;
+use coloured::most_slots;
 use coloured::pack_arcs;
 use net_file::NetRead;
 use net_file::read_net;
@@ -12,7 +15,8 @@ ghost use mathlib.Core.Path.{_≡_};
 ghost use Prim.Native.Nat.{_≤_, _+_, _*_, _/_};
 ghost use lib.ListN.{length, take};
 ghost use Rattle.unfolding.specs.Unfolding.{unfoldCall};
-ghost use Rattle.unfolding.specs.Pieces.{Roomy, Tabled};
+ghost use Rattle.unfolding.specs.Marks.{Blank};
+ghost use Rattle.unfolding.specs.Pieces.{Roomy, Small, Tabled};
 ghost use Rattle.unfolding.specs.Replies.{unfoldCalled};
 
 // The flat file's length in bytes, or why it was not written.
@@ -21,39 +25,39 @@ pub enum UnfoldReply {
     Refused { number: u8, place: usize },
 }
 
-// Writes the flat file of the net that the tables hold, if there is space for it, with lists lent for a row's arcs.
+// Writes the flat file of the net that the tables hold, if there is space for it, with lists lent for marks and for a row's arcs.
 fn write_with(
     s: &[u8],
     sizes: &[u8],
     vars: &[u8],
-    seconds: &[u8],
-    starts: &[usize],
-    uses: &[u32],
-    guards: &[u16],
-    arcs: &[u32],
+    own: &[u16; 128],
+    guards: &[u16; 32],
+    arcs: &[u64; 3072],
     initial: &[u16],
-    count: usize,
     total: usize,
     transitions: usize,
+    marks: &mut [u32; 2048],
     places: &mut [u16],
     amounts: &mut [u16],
     out: &mut [u8],
 ) -> UnfoldReply
-    requires { ⌜ (count ≤ 32) × (transitions ≤ 32) × (total ≤ 4096) × (total ≤ length (now initial)) × Roomy (now s) (now places) × Roomy (now s) (now amounts) ⌝ }
-    requires { ⌜ Tabled (now s) (now sizes) (now vars) (now seconds) (now starts) (now uses) (now guards) (now arcs) (now initial) count total transitions ⌝ }
+    requires { ⌜ (transitions ≤ 32) × (total ≤ 4096) × (total ≤ length (now initial)) × Roomy (now s) (now places) × Roomy (now s) (now amounts)
+        × (length (now marks) ≡ 2048) × Blank (now marks) 0 ⌝ }
+    requires { ⌜ Tabled (now s) (now sizes) (now vars) (now own) (now guards) (now arcs) (now initial) total transitions ⌝ }
     ensures { λ r. ⌜ unfoldCalled r (now (out .exit)) ≡ unfoldCall (now (s .entry)) (now (out .entry)) ⌝ }
 {
+    let mut counts = [0usize; 32];
+    mark_all(s, sizes, vars, own, guards, transitions, marks, &mut counts);
     let rows = measure_all(
         s,
         sizes,
         vars,
-        seconds,
-        starts,
-        uses,
+        own,
         guards,
         arcs,
-        count,
         transitions,
+        marks,
+        &counts,
         places,
         amounts,
     );
@@ -70,13 +74,11 @@ fn write_with(
         s,
         sizes,
         vars,
-        seconds,
-        starts,
-        uses,
+        own,
         guards,
         arcs,
-        count,
         transitions,
+        marks,
         places,
         amounts,
         out,
@@ -86,41 +88,37 @@ fn write_with(
     UnfoldReply::Written { length }
 }
 
-// With small lists, which a small net with a short file has room in.
+// With small lists, where the rows have room in them.
 fn write_small(
     s: &[u8],
     sizes: &[u8],
     vars: &[u8],
-    seconds: &[u8],
-    starts: &[usize],
-    uses: &[u32],
-    guards: &[u16],
-    arcs: &[u32],
+    own: &[u16; 128],
+    guards: &[u16; 32],
+    arcs: &[u64; 3072],
     initial: &[u16],
-    count: usize,
     total: usize,
     transitions: usize,
     out: &mut [u8],
 ) -> UnfoldReply
-    requires { ⌜ (count ≤ 32) × (transitions ≤ 32) × (total ≤ 4096) × (total ≤ length (now initial)) × (3 * total + length (now s) / 2 ≤ 1024) ⌝ }
-    requires { ⌜ Tabled (now s) (now sizes) (now vars) (now seconds) (now starts) (now uses) (now guards) (now arcs) (now initial) count total transitions ⌝ }
+    requires { ⌜ (transitions ≤ 32) × (total ≤ 4096) × (total ≤ length (now initial)) × Small (now s) ⌝ }
+    requires { ⌜ Tabled (now s) (now sizes) (now vars) (now own) (now guards) (now arcs) (now initial) total transitions ⌝ }
     ensures { λ r. ⌜ unfoldCalled r (now (out .exit)) ≡ unfoldCall (now (s .entry)) (now (out .entry)) ⌝ }
 {
     let mut places = [0u16; 1024];
     let mut amounts = [0u16; 1024];
+    let mut marks = [0u32; 2048];
     write_with(
         s,
         sizes,
         vars,
-        seconds,
-        starts,
-        uses,
+        own,
         guards,
         arcs,
         initial,
-        count,
         total,
         transitions,
+        &mut marks,
         &mut places,
         &mut amounts,
         out,
@@ -132,36 +130,32 @@ fn write_large(
     s: &[u8],
     sizes: &[u8],
     vars: &[u8],
-    seconds: &[u8],
-    starts: &[usize],
-    uses: &[u32],
-    guards: &[u16],
-    arcs: &[u32],
+    own: &[u16; 128],
+    guards: &[u16; 32],
+    arcs: &[u64; 3072],
     initial: &[u16],
-    count: usize,
     total: usize,
     transitions: usize,
     out: &mut [u8],
 ) -> UnfoldReply
-    requires { ⌜ (count ≤ 32) × (transitions ≤ 32) × (total ≤ 4096) × (total ≤ length (now initial)) ⌝ }
-    requires { ⌜ Tabled (now s) (now sizes) (now vars) (now seconds) (now starts) (now uses) (now guards) (now arcs) (now initial) count total transitions ⌝ }
+    requires { ⌜ (transitions ≤ 32) × (total ≤ 4096) × (total ≤ length (now initial)) ⌝ }
+    requires { ⌜ Tabled (now s) (now sizes) (now vars) (now own) (now guards) (now arcs) (now initial) total transitions ⌝ }
     ensures { λ r. ⌜ unfoldCalled r (now (out .exit)) ≡ unfoldCall (now (s .entry)) (now (out .entry)) ⌝ }
 {
     let mut places = [0u16; 20480];
     let mut amounts = [0u16; 20480];
+    let mut marks = [0u32; 2048];
     write_with(
         s,
         sizes,
         vars,
-        seconds,
-        starts,
-        uses,
+        own,
         guards,
         arcs,
         initial,
-        count,
         total,
         transitions,
+        &mut marks,
         &mut places,
         &mut amounts,
         out,
@@ -173,33 +167,27 @@ fn write_file(
     s: &[u8],
     sizes: &[u8],
     vars: &[u8],
-    seconds: &[u8],
-    starts: &[usize],
-    uses: &[u32],
-    guards: &[u16],
-    arcs: &[u32],
+    own: &[u16; 128],
+    guards: &[u16; 32],
+    arcs: &[u64; 3072],
     initial: &[u16],
-    count: usize,
     total: usize,
     transitions: usize,
     out: &mut [u8],
 ) -> UnfoldReply
-    requires { ⌜ (count ≤ 32) × (transitions ≤ 32) × (total ≤ 4096) × (total ≤ length (now initial)) ⌝ }
-    requires { ⌜ Tabled (now s) (now sizes) (now vars) (now seconds) (now starts) (now uses) (now guards) (now arcs) (now initial) count total transitions ⌝ }
+    requires { ⌜ (transitions ≤ 32) × (total ≤ 4096) × (total ≤ length (now initial)) ⌝ }
+    requires { ⌜ Tabled (now s) (now sizes) (now vars) (now own) (now guards) (now arcs) (now initial) total transitions ⌝ }
     ensures { λ r. ⌜ unfoldCalled r (now (out .exit)) ≡ unfoldCall (now (s .entry)) (now (out .entry)) ⌝ }
 {
-    if is_small(total, s.len()) {
+    if is_small(most_slots(s, arcs, transitions), s.len()) {
         return write_small(
             s,
             sizes,
             vars,
-            seconds,
-            starts,
-            uses,
+            own,
             guards,
             arcs,
             initial,
-            count,
             total,
             transitions,
             out,
@@ -209,13 +197,10 @@ fn write_file(
         s,
         sizes,
         vars,
-        seconds,
-        starts,
-        uses,
+        own,
         guards,
         arcs,
         initial,
-        count,
         total,
         transitions,
         out,
@@ -265,19 +250,20 @@ pub fn unfold(net: &[u8], out: &mut [u8]) -> UnfoldReply
             transitions,
             ..
         } => {
-            let mut packed = [0u32; 3072];
-            pack_arcs(&arcs, places, transitions, &mut packed);
+            let mut packed = [0u64; 3072];
+            pack_arcs(&arcs, places, transitions, &seconds, &starts, &mut packed);
+            let sized = front(&sizes, sets);
+            let over = front(&vars, variables);
+            let mut own = [0u16; 128];
+            list_variables(&uses, sized, over, transitions, &mut own);
             write_file(
                 net,
-                front(&sizes, sets),
-                front(&vars, variables),
-                &seconds,
-                &starts,
-                &uses,
+                sized,
+                over,
+                &own,
                 &guards,
                 &packed,
                 &initial,
-                places,
                 total,
                 transitions,
                 out,

@@ -2,6 +2,7 @@
 mod answer;
 mod body;
 mod call;
+mod marks;
 mod program;
 mod seek;
 mod text;
@@ -13,6 +14,7 @@ pub use call::UnfoldReply;
 use call::front;
 pub use call::unfold;
 pub use coloured::Order;
+use coloured::list_variables;
 use coloured::order_at;
 use net_file::NetRead;
 use net_file::read_net;
@@ -44,6 +46,7 @@ fn images_with(
     s: &[u8],
     sizes: &[u8],
     vars: &[u8],
+    own: &[u16; 128],
     uses: &[u32],
     guards: &[u16],
     transitions: usize,
@@ -55,7 +58,7 @@ fn images_with(
     requires { ⌜ length (now uses) ≡ 32 ⌝ }
     requires { ⌜ length (now guards) ≡ 32 ⌝ }
     requires { ⌜ length (now orders) / 6 * 5 ≤ length (now out) ⌝ }
-    ensures { λ _. ⌜ ((n : Net) → Tables (now (s .entry)) n (now (sizes .entry)) (now (vars .entry)) (now (uses .entry)) (now (guards .entry)) transitions
+    ensures { λ _. ⌜ ((n : Net) → Tables (now (s .entry)) n (now (sizes .entry)) (now (vars .entry)) (now (own .entry)) (now (uses .entry)) (now (guards .entry)) transitions
         → entries n (now (guards .entry)) transitions ≤ length (now (numbers .entry))
         → now (out .exit) ≡ over (meant.images n (now (orders .entry))) (now (out .entry))) ⌝ }
 {
@@ -64,7 +67,7 @@ fn images_with(
         s,
         sizes,
         vars,
-        uses,
+        own,
         guards,
         transitions,
         &mut starts,
@@ -88,6 +91,7 @@ fn images_short(
     s: &[u8],
     sizes: &[u8],
     vars: &[u8],
+    own: &[u16; 128],
     uses: &[u32],
     guards: &[u16],
     transitions: usize,
@@ -98,7 +102,7 @@ fn images_short(
     requires { ⌜ length (now uses) ≡ 32 ⌝ }
     requires { ⌜ length (now guards) ≡ 32 ⌝ }
     requires { ⌜ length (now orders) / 6 * 5 ≤ length (now out) ⌝ }
-    ensures { λ _. ⌜ ((n : Net) → Tables (now (s .entry)) n (now (sizes .entry)) (now (vars .entry)) (now (uses .entry)) (now (guards .entry)) transitions
+    ensures { λ _. ⌜ ((n : Net) → Tables (now (s .entry)) n (now (sizes .entry)) (now (vars .entry)) (now (own .entry)) (now (uses .entry)) (now (guards .entry)) transitions
         → entries n (now (guards .entry)) transitions ≤ 1024
         → now (out .exit) ≡ over (meant.images n (now (orders .entry))) (now (out .entry))) ⌝ }
 {
@@ -107,6 +111,7 @@ fn images_short(
         s,
         sizes,
         vars,
+        own,
         uses,
         guards,
         transitions,
@@ -121,6 +126,7 @@ fn images_long(
     s: &[u8],
     sizes: &[u8],
     vars: &[u8],
+    own: &[u16; 128],
     uses: &[u32],
     guards: &[u16],
     transitions: usize,
@@ -131,7 +137,7 @@ fn images_long(
     requires { ⌜ length (now uses) ≡ 32 ⌝ }
     requires { ⌜ length (now guards) ≡ 32 ⌝ }
     requires { ⌜ length (now orders) / 6 * 5 ≤ length (now out) ⌝ }
-    ensures { λ _. ⌜ ((n : Net) → Tables (now (s .entry)) n (now (sizes .entry)) (now (vars .entry)) (now (uses .entry)) (now (guards .entry)) transitions
+    ensures { λ _. ⌜ ((n : Net) → Tables (now (s .entry)) n (now (sizes .entry)) (now (vars .entry)) (now (own .entry)) (now (uses .entry)) (now (guards .entry)) transitions
         → now (out .exit) ≡ over (meant.images n (now (orders .entry))) (now (out .entry))) ⌝ }
 {
     let mut numbers = [0u32; 65536];
@@ -139,6 +145,7 @@ fn images_long(
         s,
         sizes,
         vars,
+        own,
         uses,
         guards,
         transitions,
@@ -153,6 +160,7 @@ fn images_of(
     s: &[u8],
     sizes: &[u8],
     vars: &[u8],
+    own: &[u16; 128],
     uses: &[u32],
     guards: &[u16],
     transitions: usize,
@@ -163,7 +171,7 @@ fn images_of(
     requires { ⌜ length (now uses) ≡ 32 ⌝ }
     requires { ⌜ length (now guards) ≡ 32 ⌝ }
     ensures { λ r. ⌜ ((n : Net) → readNet (now (s .entry)) ≡ accepted n
-        → Tables (now (s .entry)) n (now (sizes .entry)) (now (vars .entry)) (now (uses .entry)) (now (guards .entry)) transitions
+        → Tables (now (s .entry)) n (now (sizes .entry)) (now (vars .entry)) (now (own .entry)) (now (uses .entry)) (now (guards .entry)) transitions
         → imagesCalled r (now (out .exit)) ≡ imagesCall (now (s .entry)) (now (orders .entry)) (now (out .entry))) ⌝ }
 {
     if orders.len() % 6 != 0 {
@@ -179,11 +187,11 @@ fn images_of(
             place: 0,
         };
     }
-    if count_entries(sizes, vars, uses, guards, transitions) <= 1024 {
-        images_short(s, sizes, vars, uses, guards, transitions, orders, out);
+    if count_entries(own, guards, transitions) <= 1024 {
+        images_short(s, sizes, vars, own, uses, guards, transitions, orders, out);
         return ImagesReply::Answered { count };
     }
-    images_long(s, sizes, vars, uses, guards, transitions, orders, out);
+    images_long(s, sizes, vars, own, uses, guards, transitions, orders, out);
     ImagesReply::Answered { count }
 }
 
@@ -223,16 +231,23 @@ pub fn images(net: &[u8], orders: &[u8], out: &mut [u8]) -> ImagesReply
             total: _,
             transitions,
             space: _,
-        } => images_of(
-            net,
-            front(&sizes, sets),
-            front(&vars, variables),
-            &uses,
-            &guards,
-            transitions,
-            orders,
-            out,
-        ),
+        } => {
+            let sized = front(&sizes, sets);
+            let over = front(&vars, variables);
+            let mut own = [0u16; 128];
+            list_variables(&uses, sized, over, transitions, &mut own);
+            images_of(
+                net,
+                sized,
+                over,
+                &own,
+                &uses,
+                &guards,
+                transitions,
+                orders,
+                out,
+            )
+        }
     }
 }
 
@@ -248,6 +263,7 @@ fn order_of(
     s: &[u8],
     sizes: &[u8],
     vars: &[u8],
+    own: &[u16; 128],
     uses: &[u32],
     guards: &[u16],
     transitions: usize,
@@ -257,10 +273,10 @@ fn order_of(
     requires { ⌜ length (now uses) ≡ 32 ⌝ }
     requires { ⌜ length (now guards) ≡ 32 ⌝ }
     ensures { λ r. ⌜ ((n : Net) → readNet (now (s .entry)) ≡ accepted n
-        → Tables (now (s .entry)) n (now (sizes .entry)) (now (vars .entry)) (now (uses .entry)) (now (guards .entry)) transitions
+        → Tables (now (s .entry)) n (now (sizes .entry)) (now (vars .entry)) (now (own .entry)) (now (uses .entry)) (now (guards .entry)) transitions
         → orderReply r ≡ orderCall (now (s .entry)) row) ⌝ }
 {
-    match seek_row(s, sizes, vars, uses, guards, transitions, row as usize) {
+    match seek_row(s, sizes, vars, own, guards, transitions, row as usize) {
         Located::Nowhere => OrderReply::NoRow,
         Located::At { transition, index } => OrderReply::Found {
             order: order_at(uses[transition], sizes, vars, transition as u8, index),
@@ -304,14 +320,12 @@ pub fn row_order(net: &[u8], row: u32) -> OrderReply
             total: _,
             transitions,
             space: _,
-        } => order_of(
-            net,
-            front(&sizes, sets),
-            front(&vars, variables),
-            &uses,
-            &guards,
-            transitions,
-            row,
-        ),
+        } => {
+            let sized = front(&sizes, sets);
+            let over = front(&vars, variables);
+            let mut own = [0u16; 128];
+            list_variables(&uses, sized, over, transitions, &mut own);
+            order_of(net, sized, over, &own, &uses, &guards, transitions, row)
+        }
     }
 }

@@ -1,12 +1,13 @@
 // The way back: from a row number to its binding.
 use crate::walk::count_one;
-use net_file::bindings_of;
+use coloured::next_binding;
+use coloured::space_of;
 ghost use mathlib.Core.Path.{_≡_};
+ghost use mathlib.Core.List.{List};
 ghost use Prim.Native.Nat.{ℕ, _≤_, _<_, _+_};
 ghost use lib.ListN.{length};
 ghost use Rattle.reading.specs.Basics.{product};
 ghost use Rattle.net.specs.Net.{Net, sizesOf};
-ghost use Rattle.net_file.specs.Limits.{Limits};
 ghost use Rattle.coloured.specs.Effect.{transitionAt};
 ghost use Rattle.coloured.specs.Numbers.{before};
 ghost use Rattle.unfolding.specs.Walked.{passed, Listed, Tables, SoughtTold, SoughtRoom, LocatedTold, LocatedRoom};
@@ -22,28 +23,31 @@ fn seek_guarded(
     s: &[u8],
     sizes: &[u8],
     vars: &[u8],
-    uses: u32,
+    own: &[u16; 128],
     guard: u16,
+    t: usize,
     size: usize,
     row: usize,
     count: usize,
 ) -> Sought
     requires { ⌜ 1 ≤ guard ⌝ }
+    requires { ⌜ t < 32 ⌝ }
     requires { ⌜ count ≤ row ⌝ }
     requires { ⌜ count + size ≤ 1000000000000 ⌝ }
-    ensures is { λ r. ⌜ ((n : Net) (t : ℕ) → Limits n → t < length (n .transitions)
-        → Listed (now (s .entry)) n (now (sizes .entry)) (now (vars .entry)) (transitionAt n t) uses guard
+    ensures is { λ r. ⌜ ((n : Net) → Listed (now (s .entry)) n (now (sizes .entry)) (now (vars .entry)) (now (own .entry)) t guard
         → size ≡ product (sizesOf n (transitionAt n t)) → count ≡ passed n (before n t) → SoughtTold n t size row r) ⌝ }
     ensures room { λ r. ⌜ SoughtRoom size row count r ⌝ }
 {
+    let mut env = [0u8; 32];
     let mut total = count;
     let mut i: usize = 0;
     while i < size {
-        let next = count_one(s, sizes, vars, uses, guard, i, total);
+        let next = count_one(s, sizes, vars, &env, guard, total);
         if row < next {
             return Sought::At { index: i };
         }
         total = next;
+        next_binding(own, t, &mut env);
         i += 1;
     }
     Sought::Past { count: total }
@@ -54,21 +58,22 @@ fn seek_in(
     s: &[u8],
     sizes: &[u8],
     vars: &[u8],
-    uses: u32,
+    own: &[u16; 128],
     guard: u16,
+    t: usize,
     size: usize,
     row: usize,
     count: usize,
 ) -> Sought
+    requires { ⌜ t < 32 ⌝ }
     requires { ⌜ count ≤ row ⌝ }
     requires { ⌜ count + size ≤ 1000000000000 ⌝ }
-    ensures is { λ r. ⌜ ((n : Net) (t : ℕ) → Limits n → t < length (n .transitions)
-        → Listed (now (s .entry)) n (now (sizes .entry)) (now (vars .entry)) (transitionAt n t) uses guard
+    ensures is { λ r. ⌜ ((n : Net) → Listed (now (s .entry)) n (now (sizes .entry)) (now (vars .entry)) (now (own .entry)) t guard
         → size ≡ product (sizesOf n (transitionAt n t)) → count ≡ passed n (before n t) → SoughtTold n t size row r) ⌝ }
     ensures room { λ r. ⌜ SoughtRoom size row count r ⌝ }
 {
     if 0 < guard {
-        return seek_guarded(s, sizes, vars, uses, guard, size, row, count);
+        return seek_guarded(s, sizes, vars, own, guard, t, size, row, count);
     }
     if row - count < size {
         return Sought::At { index: row - count };
@@ -89,23 +94,22 @@ pub fn seek_row(
     s: &[u8],
     sizes: &[u8],
     vars: &[u8],
-    uses: &[u32],
+    own: &[u16; 128],
     guards: &[u16],
     transitions: usize,
     row: usize,
 ) -> Located
     requires { ⌜ transitions ≤ 32 ⌝ }
-    requires { ⌜ length (now uses) ≡ 32 ⌝ }
     requires { ⌜ length (now guards) ≡ 32 ⌝ }
-    ensures is { λ r. ⌜ ((n : Net) → Tables (now (s .entry)) n (now (sizes .entry)) (now (vars .entry)) (now (uses .entry)) (now (guards .entry)) transitions
+    ensures is { λ r. ⌜ ((n : Net) (uses : List ℕ) → Tables (now (s .entry)) n (now (sizes .entry)) (now (vars .entry)) (now (own .entry)) uses (now (guards .entry)) transitions
         → LocatedTold n row r) ⌝ }
     ensures room { λ r. ⌜ LocatedRoom transitions r ⌝ }
 {
     let mut count: usize = 0;
     let mut t: usize = 0;
     while t < transitions {
-        let size = bindings_of(uses[t], sizes, vars);
-        match seek_in(s, sizes, vars, uses[t], guards[t], size, row, count) {
+        let size = space_of(own, t);
+        match seek_in(s, sizes, vars, own, guards[t], t, size, row, count) {
             Sought::At { index } => return Located::At {
                 transition: t,
                 index,

@@ -1,49 +1,45 @@
 // The walk over all bindings in order, which gives each its row number.
-use coloured::set_binding;
+use coloured::next_binding;
+use coloured::space_of;
 use net::eval_guard;
-use net_file::bindings_of;
 ghost use mathlib.Core.Path.{_≡_};
 ghost use Prim.Native.Nat.{ℕ, _≤_, _<_, _+_};
 ghost use mathlib.Core.List.{List};
 ghost use lib.ListN.{length, getD, set};
 ghost use Rattle.reading.specs.Basics.{product};
-ghost use Rattle.net.specs.Net.{Net, Transition, variablesOf, sizesOf};
-ghost use Rattle.net.specs.Values.{holds};
-ghost use Rattle.net_file.specs.Limits.{Limits};
-ghost use Rattle.coloured.specs.Effect.{transitionAt, standsFor};
-ghost use Rattle.coloured.specs.Numbers.{digits, before};
-ghost use Rattle.unfolding.specs.Walked.{passed, entriesAt, entries, Numbers, Starts, Listed, Tables};
+ghost use Rattle.net.specs.Net.{Net, sizesOf};
+ghost use Rattle.coloured.specs.Effect.{transitionAt};
+ghost use Rattle.coloured.specs.Drawing.{Binds};
+ghost use Rattle.coloured.specs.Numbers.{before};
+ghost use Rattle.coloured.specs.Ready.{numbered};
+ghost use Rattle.unfolding.specs.Walked.{passed, takesEffect, entriesAt, entries, Numbers, Starts, Listed, Tables};
 
-// Whether a transition's guard holds in its binding number i.
-pub fn passes(s: &[u8], sizes: &[u8], vars: &[u8], uses: u32, guard: u16, i: usize) -> bool
+// Whether a binding of a transition with a guard has an effect: its guard holds.
+pub fn passes(s: &[u8], sizes: &[u8], vars: &[u8], env: &[u8; 32], guard: u16) -> bool
     requires { ⌜ 1 ≤ guard ⌝ }
-    ensures { λ r. ⌜ ((n : Net) (t : Transition) → Limits n → Listed (now (s .entry)) n (now (sizes .entry)) (now (vars .entry)) t uses guard
-        → r ≡ holds n (standsFor (variablesOf n t) (digits (sizesOf n t) i)) (t .guard)) ⌝ }
+    ensures { λ r. ⌜ ((n : Net) (own : List ℕ) (t i : ℕ) → Listed (now (s .entry)) n (now (sizes .entry)) (now (vars .entry)) own t guard
+        → Binds n (numbered n t i) (now (env .entry)) → r ≡ takesEffect n t i) ⌝ }
 {
-    let mut env = [0u8; 32];
-    set_binding(uses, sizes, vars, i, &mut env);
-    eval_guard(s, sizes, vars, &env, 16, guard as usize).holds
+    eval_guard(s, sizes, vars, env, 16, guard as usize).holds
 }
 
-// How many rows there are with binding number i of a transition with a guard, after so many.
+// How many rows there are with a binding of a transition with a guard, after so many.
 pub fn count_one(
     s: &[u8],
     sizes: &[u8],
     vars: &[u8],
-    uses: u32,
+    env: &[u8; 32],
     guard: u16,
-    i: usize,
     count: usize,
 ) -> usize
     requires { ⌜ 1 ≤ guard ⌝ }
     requires { ⌜ count ≤ 1000000000000 ⌝ }
-    ensures is { λ r. ⌜ ((n : Net) (t : ℕ) → Limits n → t < length (n .transitions)
-        → Listed (now (s .entry)) n (now (sizes .entry)) (now (vars .entry)) (transitionAt n t) uses guard
-        → i < product (sizesOf n (transitionAt n t)) → count ≡ passed n (before n t + i) → r ≡ passed n (before n t + i + 1)) ⌝ }
+    ensures is { λ r. ⌜ ((n : Net) (own : List ℕ) (t i : ℕ) → Listed (now (s .entry)) n (now (sizes .entry)) (now (vars .entry)) own t guard
+        → Binds n (numbered n t i) (now (env .entry)) → i < product (sizesOf n (transitionAt n t)) → count ≡ passed n (before n t + i) → r ≡ passed n (before n t + i + 1)) ⌝ }
     ensures low { λ r. ⌜ count ≤ r ⌝ }
     ensures high { λ r. ⌜ r ≤ count + 1 ⌝ }
 {
-    if passes(s, sizes, vars, uses, guard, i) {
+    if passes(s, sizes, vars, env, guard) {
         return count + 1;
     }
     count
@@ -74,64 +70,59 @@ fn number_those(
     s: &[u8],
     sizes: &[u8],
     vars: &[u8],
-    uses: u32,
+    own: &[u16; 128],
     guard: u16,
+    t: usize,
     size: usize,
     base: usize,
     count: usize,
     numbers: &mut [u32],
 ) -> usize
     requires { ⌜ 1 ≤ guard ⌝ }
+    requires { ⌜ t < 32 ⌝ }
     requires { ⌜ base + size ≤ 1000000000000 ⌝ }
     requires { ⌜ count + size ≤ 1000000000000 ⌝ }
-    ensures is { λ r. ⌜ ((n : Net) (t : ℕ) → Limits n → t < length (n .transitions)
-        → Listed (now (s .entry)) n (now (sizes .entry)) (now (vars .entry)) (transitionAt n t) uses guard
+    ensures is { λ r. ⌜ ((n : Net) → Listed (now (s .entry)) n (now (sizes .entry)) (now (vars .entry)) (now (own .entry)) t guard
         → size ≡ product (sizesOf n (transitionAt n t)) → count ≡ passed n (before n t) → base + size ≤ length (now (numbers .entry))
         → (r ≡ passed n (before n t + size)) × Numbers n t (now (numbers .exit)) base size) ⌝ }
     ensures high { λ r. ⌜ r ≤ count + size ⌝ }
     ensures same { λ _. ⌜ ((j : ℕ) → j < base → getD (now (numbers .exit)) j 0 ≡ getD (now (numbers .entry)) j 0) ⌝ }
 {
+    let mut env = [0u8; 32];
     let mut total = count;
     let mut i: usize = 0;
     while i < size {
-        let next = count_one(s, sizes, vars, uses, guard, i, total);
+        let next = count_one(s, sizes, vars, &env, guard, total);
         store(numbers, base + i, number_of(total, next));
         total = next;
+        next_binding(own, t, &mut env);
         i += 1;
     }
     total
 }
 
-// How many entries a transition has in the table: one for each binding, none without a guard.
-fn entries_of(sizes: &[u8], vars: &[u8], uses: u32, guard: u16) -> usize
-    ensures is { λ r. ⌜ ((s : List ℕ) (n : Net) (t : ℕ) → Limits n → t < length (n .transitions)
-        → Listed s n (now (sizes .entry)) (now (vars .entry)) (transitionAt n t) uses guard → r ≡ entriesAt guard (product (sizesOf n (transitionAt n t)))) ⌝ }
-    ensures small { λ r. ⌜ r ≤ 4228250625 ⌝ }
+// How many entries a transition with so many bindings has in the table: one for each, none without a guard.
+pub fn entries_of(guard: u16, size: usize) -> usize
+    ensures is { λ r. ⌜ r ≡ entriesAt guard size ⌝ }
+    ensures small { λ r. ⌜ r ≤ size ⌝ }
 {
     if guard < 1 {
         return 0;
     }
-    bindings_of(uses, sizes, vars)
+    size
 }
 
 // How many entries the table needs.
-pub fn count_entries(
-    sizes: &[u8],
-    vars: &[u8],
-    uses: &[u32],
-    guards: &[u16],
-    transitions: usize,
-) -> usize
+pub fn count_entries(own: &[u16; 128], guards: &[u16], transitions: usize) -> usize
     requires { ⌜ transitions ≤ 32 ⌝ }
-    requires { ⌜ length (now uses) ≡ 32 ⌝ }
     requires { ⌜ length (now guards) ≡ 32 ⌝ }
-    ensures { λ r. ⌜ ((s : List ℕ) (n : Net) → Tables s n (now (sizes .entry)) (now (vars .entry)) (now (uses .entry)) (now (guards .entry)) transitions
+    ensures { λ r. ⌜ ((s sizes vars uses : List ℕ) (n : Net) → Tables s n sizes vars (now (own .entry)) uses (now (guards .entry)) transitions
         → r ≡ entries n (now (guards .entry)) transitions) ⌝ }
 {
     let mut total: usize = 0;
     let mut t: usize = 0;
     while t < transitions {
-        total += entries_of(sizes, vars, uses[t], guards[t]);
+        total += entries_of(guards[t], space_of(own, t));
         t += 1;
     }
     total
@@ -142,17 +133,16 @@ pub fn number_all(
     s: &[u8],
     sizes: &[u8],
     vars: &[u8],
-    uses: &[u32],
+    own: &[u16; 128],
     guards: &[u16],
     transitions: usize,
     starts: &mut [usize],
     numbers: &mut [u32],
 )
     requires { ⌜ transitions ≤ 32 ⌝ }
-    requires { ⌜ length (now uses) ≡ 32 ⌝ }
     requires { ⌜ length (now guards) ≡ 32 ⌝ }
     requires { ⌜ length (now starts) ≡ 32 ⌝ }
-    ensures { λ _. ⌜ ((n : Net) → Tables (now (s .entry)) n (now (sizes .entry)) (now (vars .entry)) (now (uses .entry)) (now (guards .entry)) transitions
+    ensures { λ _. ⌜ ((n : Net) (uses : List ℕ) → Tables (now (s .entry)) n (now (sizes .entry)) (now (vars .entry)) (now (own .entry)) uses (now (guards .entry)) transitions
         → entries n (now (guards .entry)) transitions ≤ length (now (numbers .entry))
         → Starts n (now (guards .entry)) (now (starts .exit)) (now (numbers .exit)) transitions) ⌝ }
 {
@@ -160,7 +150,7 @@ pub fn number_all(
     let mut count: usize = 0;
     let mut t: usize = 0;
     while t < transitions {
-        let size = bindings_of(uses[t], sizes, vars);
+        let size = space_of(own, t);
         if guards[t] < 1 {
             starts[t] = count;
             count += size;
@@ -170,8 +160,9 @@ pub fn number_all(
                 s,
                 sizes,
                 vars,
-                uses[t],
+                own,
                 guards[t],
+                t,
                 size,
                 base,
                 count,

@@ -15,7 +15,7 @@ images-of-spec =
     (λ c κs. search needs)
     (λ c. search needs)
     (λ c. λ n is tables. images-done (c .before .before .before .before .before .before .before .before .before .before .before .before .before .before .before .args .s .now) is (c .before .before .before .before .before .before .before .before .before .before .before .before .before .before .before .args .orders .now) (c .before .before .before .before .before .before .before .before .before .before .before .before .before .before .before .args .out .now) (c .before .before .before .before .before .before .before .if1 .left) _ (c .before .before .before .before .before .before .if2 .left)
-    (c .before .before .images-short .ensures n tables (omega (arith, c .before .before .before .before .if3 .taken, c .before .before .before .before .before .count-entries .ensures (c .before .before .before .before .before .before .before .before .before .before .before .before .before .before .before .args .s .now) n tables))))
+    (c .before .before .images-short .ensures n tables (omega (arith, c .before .before .before .before .if3 .taken, c .before .before .before .before .before .count-entries .ensures (c .before .before .before .before .before .before .before .before .before .before .before .before .before .before .before .args .s .now) (c .before .before .before .before .before .before .before .before .before .before .before .before .before .before .before .args .sizes .now) (c .before .before .before .before .before .before .before .before .before .before .before .before .before .before .before .args .vars .now) (c .before .before .before .before .before .before .before .before .before .before .before .before .before .before .before .args .uses .now) n tables))))
     (λ c κs. search needs)
     (λ c. search needs)
     (λ c. λ n is tables. images-done (c .before .before .before .before .before .before .before .before .before .before .before .before .before .before .before .args .s .now) is (c .before .before .before .before .before .before .before .before .before .before .before .before .before .before .before .args .orders .now) (c .before .before .before .before .before .before .before .before .before .before .before .before .before .before .before .args .out .now) (c .before .before .before .before .before .before .before .if1 .left) _ (c .before .before .before .before .before .before .if2 .left) (c .before .before .images-long .ensures n tables)))

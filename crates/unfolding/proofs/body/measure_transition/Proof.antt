@@ -1,7 +1,7 @@
 use borrow.Author.Needs.{needs}
 use native.Mathlib.Omega.{arith}
-use Rattle.coloured.proofs.Readied.{limited}
-use Rattle.unfolding.proofs.Steadied.{listed-of, rows-long, long-most}
+use Prim.Native.Nat.{_+_, _*_}
+use Rattle.unfolding.proofs.Steadied.{rows-measured, product-most, rows-long, long-most}
 use Rattle.unfolding.proofs.body.measure_transition.Statement.{statement}
 use Rattle.unfolding.proofs.body.measure_transition.Tie as tie
 
@@ -15,13 +15,8 @@ measure-transition-spec =
     (λ c κs. search needs)
     (λ c. search needs)
     (λ c. search needs)
-    (λ c. (λ n transitions ready lt is. c .before .before .before .before .measure-bindings .ensures .0 n transitions ready lt, omega (arith, c .before .before .before .before .measure-bindings .ensures .1)))
-    (λ c. omega (arith, long-most (c .before .long .given .1) (c .before .before .before .steady-row .ensures .1)))
-    (λ c. omega (arith, long-most (c .before .long .given .1) (c .before .before .before .steady-row .ensures .1)))
-    (λ c κs. search needs)
-    (λ c κs. search needs)
-    (λ c κs. (c .before .before .before .before .before .before .before .before .before .before .before .before .before .before .before .before .pre .0 .4, omega (arith, long-most (c .before .before .before .long .given .1) (c .before .before .before .before .before .steady-row .ensures .1))))
-    (λ c. (
-      λ n transitions ready lt is. c .measure-steady .ensures .0 n (c .before .before .before .before .before .before .before .before .before .before .before .before .before .before .before .before .before .args .t) (limited ready) (listed-of ready lt (c .before .before .uses-of .ensures) (c .before .guard-of .ensures)) is (rows-long ready lt (c .before .before .before .before .long .given .1) (c .before .before .before .before .before .before .steady-row .ensures .0)),
-      c .measure-steady .ensures .1,
-    )))
+    (λ c. (λ k e. c .before .before .before .before .measure-bindings .ensures .0 k, omega (arith, c .before .before .before .before .measure-bindings .ensures .1)))
+    (λ c. omega (arith, long-most (c .before .count .given .1) (c .before .before .before .steady-row .ensures .1)))
+    (λ c. omega (arith, long-most (c .before .count .given .1) (c .before .before .before .steady-row .ensures .1)))
+    (λ c. omega (arith, product-most (c .before .before .before .before .before .before .before .before .before .args .rows) (1 + 5 * c .before .count .given .0 .0) (c .before .before .before .before .before .before .before .before .before .pre .0 .3) (omega (arith, long-most (c .before .count .given .1) (c .before .before .before .steady-row .ensures .1)))))
+    (λ c. (λ k e. rows-measured (k .net) (c .before .before .before .before .before .before .before .before .before .args .t) (k .size) e (rows-long k (c .before .count .given .1) (c .before .before .before .steady-row .ensures .0)), product-most (c .before .before .before .before .before .before .before .before .before .args .rows) (1 + 5 * c .before .count .given .0 .0) (c .before .before .before .before .before .before .before .before .before .pre .0 .3) (omega (arith, long-most (c .before .count .given .1) (c .before .before .before .steady-row .ensures .1))))))

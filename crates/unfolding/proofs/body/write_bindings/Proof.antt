@@ -1,23 +1,26 @@
 use native.Mathlib.Omega.{arith}
-use mathlib.Core.Path.{_≡_, refl, ap, _∙_}
-use Prim.Native.Nat.{_≤_, _+_, _*_, _-_}
+use mathlib.Core.Path.{_≡_, refl, _∙_}
+use Prim.Native.Nat.{_≤_, _<_, _-_}
 use lib.ListN.{length}
 use Rattle.reading.specs.Basics.{numbersFrom, below}
-use Rattle.unfolding.specs.Pieces.{bindingBytes, Of}
+use Rattle.coloured.specs.Drawing.{Binds}
+use Rattle.coloured.specs.Ready.{numbered}
+use Rattle.coloured.proofs.Owning.{first-binds}
+use Rattle.unfolding.specs.Pieces.{bindingBytes, Known}
 use Rattle.unfolding.proofs.Appending.{Going, go-on, go-end}
-use Rattle.unfolding.proofs.Pieces.{Measuring, measure-begins, measure-rest, measure-goes, left-more, left-none, write-begins}
+use Rattle.unfolding.proofs.Pieces.{Measuring, measure-begins, measure-rest, measure-goes, left-more, left-none, write-begins, here-of, binds-next}
 use Rattle.unfolding.proofs.body.write_bindings.Statement.{statement}
 use Rattle.unfolding.proofs.body.write_bindings.Tie as tie
 
 abbrev Inv-loop : tie.InvT-loop
-Inv-loop s sizes vars seconds starts uses guards arcs count t many places₀ amounts₀ out₀ at next₀ i₀ places amounts out next i =
+Inv-loop s sizes vars own guard arcs t many base marks places₀ amounts₀ out₀ at env₀ next₀ i₀ places amounts out env next i =
     (i ≤ many) × (length places ≡ length places₀) × (length amounts ≡ length amounts₀) × (length out ≡ length out₀)
-    × Of s sizes vars seconds starts uses guards arcs count t (λ n. Measuring (bindingBytes n t) many at next i)
-    × Of s sizes vars seconds starts uses guards arcs count t (λ n. Going (bindingBytes n t) (below many) (numbersFrom i (many - i)) out₀ out at next)
+    × ((k : Known s sizes vars own arcs marks guard t many base) → i < many → Binds (k .net) (numbered (k .net) t i) env)
+    × ((k : Known s sizes vars own arcs marks guard t many base) → Measuring (bindingBytes (k .net) t) many at next i)
+    × ((k : Known s sizes vars own arcs marks guard t many base) → Going (bindingBytes (k .net) t) (below many) (numbersFrom i (many - i)) out₀ out at next)
 
 abbrev μ-loop : tie.MeasureT-loop
-μ-loop s sizes vars seconds starts uses guards arcs count t many places₀ amounts₀ out₀ at next₀ i₀ places amounts out next i =
-    many - i
+μ-loop s sizes vars own guard arcs t many base marks places₀ amounts₀ out₀ at env₀ next₀ i₀ places amounts out env next i = many - i
 
 pub write-bindings-spec : {M : Type 1} → statement M
 write-bindings-spec =
@@ -25,32 +28,22 @@ write-bindings-spec =
     (tie.spec
     Inv-loop
     μ-loop
-    (λ c. (
-      omega arith,
-      refl,
-      refl,
-      refl,
-      λ n transitions ready lt. measure-begins (bindingBytes n (c .before .before .before .before .before .before .before .before .before .before .before .args .t)) (c .before .before .before .before .before .before .before .before .before .before .before .args .many) (c .before .before .before .before .before .before .before .before .before .before .before .args .at),
-      λ n transitions ready lt. write-begins (bindingBytes n (c .before .before .before .before .before .before .before .before .before .before .before .args .t)) (c .before .before .before .before .before .before .before .before .before .before .before .args .many) _ (c .before .before .before .before .before .before .before .before .before .before .before .args .at),
-    ))
-    (λ c κs. (
-      (c .before .before .before .before .before .before .before .before .before .before .before .before .before .before .before .before .pre .0 .0, c .before .before .before .before .before .before .before .before .before .before .before .before .before .before .before .before .pre .0 .1, λ n read. omega (arith, c .before .before .before .before .before .before .before .before .before .before .before .before .before .before .before .before .pre .0 .2 n read, c .before .before .before .before .loop .inv .1), λ n read. omega (arith, c .before .before .before .before .before .before .before .before .before .before .before .before .before .before .before .before .pre .0 .3 n read, c .before .before .before .before .loop .inv .2)),
-      (
-        c .before .before .before .before .before .before .before .before .before .before .before .before .before .before .before .before .pre .1 .0,
-        λ n transitions ready lt. omega (arith, measure-rest (bindingBytes n (c .before .before .before .before .before .before .before .before .before .before .before .before .before .before .before .before .args .t)) (c .before .before .before .before .before .before .before .before .before .before .before .before .before .before .before .before .args .many) (c .before .before .before .before .before .before .before .before .before .before .before .before .before .before .before .before .args .at) (c .before .before .before .before .loop .inv .4 n transitions ready lt) (c .before .before .before .loop-test .taken), c .before .before .before .before .loop .inv .3, c .before .before .before .before .before .before .before .before .before .before .before .before .before .before .before .before .pre .1 .1 n transitions ready lt),
-      ),
-    ))
+    (λ c. (omega arith, refl, refl, refl, (λ k lt. first-binds (k .net) _ 32), (λ k. measure-begins (bindingBytes (k .net) (c .before .before .before .before .before .before .args .t)) (c .before .before .before .before .before .before .args .many) (c .before .before .before .before .before .before .args .at)), λ k. write-begins (bindingBytes (k .net) (c .before .before .before .before .before .before .args .t)) (c .before .before .before .before .before .before .args .many) _ (c .before .before .before .before .before .before .args .at)))
+    (λ c. omega (arith, c .before .before .before .before .before .before .before .before .before .pre .1 .0 .few))
+    (λ c κs. ((c .before .before .before .before .before .before .before .before .before .before .before .before .pre .0 .0, (λ n read. omega (arith, c .before .before .before .before .before .before .before .before .before .before .before .before .pre .0 .1 n read, c .before .before .before .before .before .loop .inv .1)), (λ n read. omega (arith, c .before .before .before .before .before .before .before .before .before .before .before .before .pre .0 .2 n read, c .before .before .before .before .before .loop .inv .2))), (here-of (c .before .before .before .before .before .before .before .before .before .before .before .before .pre .1 .0) (c .before .before .before .before .loop-test .taken) (c .before .before .before .before .before .loop .inv .4 (c .before .before .before .before .before .before .before .before .before .before .before .before .pre .1 .0) (c .before .before .before .before .loop-test .taken)), omega (arith, measure-rest (bindingBytes (c .before .before .before .before .before .before .before .before .before .before .before .before .pre .1 .0 .net) (c .before .before .before .before .before .before .before .before .before .before .before .before .args .t)) (c .before .before .before .before .before .before .before .before .before .before .before .before .args .many) (c .before .before .before .before .before .before .before .before .before .before .before .before .args .at) (c .before .before .before .before .before .loop .inv .5 (c .before .before .before .before .before .before .before .before .before .before .before .before .pre .1 .0)) (c .before .before .before .before .loop-test .taken), c .before .before .before .before .before .loop .inv .3, c .before .before .before .before .before .before .before .before .before .before .before .before .pre .1 .1))))
+    (λ c κs. c .before .before .before .before .before .before .before .before .before .before .before .before .before .before .before .before .before .before .before .before .pre .0 .0)
     (λ c. omega arith)
     (λ c. omega arith)
     (λ c. (
       omega arith,
-      c .before .before .before .before .before .before .write-one .kept .1 .1 .1 .1 .1 .1 .1 .1 .1 .1 .1 .0 ∙ c .before .before .before .before .before .before .before .before .before .before .before .loop .inv .1,
-      c .before .before .before .before .before .before .write-one .kept .1 .1 .1 .1 .1 .1 .1 .1 .1 .1 .1 .1 .0 ∙ c .before .before .before .before .before .before .before .before .before .before .before .loop .inv .2,
-      c .before .before .before .before .before .before .write-one .kept .1 .1 .1 .1 .1 .1 .1 .1 .1 .1 .1 .1 .1 .0 ∙ c .before .before .before .before .before .before .before .before .before .before .before .loop .inv .3,
-      λ n transitions ready lt. measure-goes (bindingBytes n (c .before .before .before .before .before .before .before .before .before .before .before .before .before .before .before .before .before .before .before .before .before .before .before .args .t)) (c .before .before .before .before .before .before .before .before .before .before .before .before .before .before .before .before .before .before .before .before .before .before .before .args .many) (c .before .before .before .before .before .before .before .before .before .before .before .before .before .before .before .before .before .before .before .before .before .before .before .args .at) (c .before .before .before .before .before .before .before .before .before .before .before .loop .inv .4 n transitions ready lt) (c .before .before .before .before .before .before .before .before .before .before .loop-test .taken) (c .before .before .before .before .before .before .write-one .ensures n transitions ready lt .next-is),
-      λ n transitions ready lt. go-on (bindingBytes n (c .before .before .before .before .before .before .before .before .before .before .before .before .before .before .before .before .before .before .before .before .before .before .before .args .t)) (c .before .before .before .before .before .before .before .before .before .before .before .loop .inv .5 n transitions ready lt) (left-more (c .before .before .before .before .before .before .before .before .before .before .before .before .before .before .before .before .before .before .before .before .before .before .before .args .many) (c .before .before .before .before .before .before .before .before .before .before .before .loop .i) (c .before .before .before .before .before .before .before .before .before .before .loop-test .taken)) (c .before .before .before .before .before .before .write-one .ensures n transitions ready lt),
+      c .before .before .before .before .before .before .before .before .write-one .kept .1 .1 .1 .1 .1 .1 .1 .1 .1 .0 ∙ c .before .before .before .before .before .before .before .before .before .before .before .before .before .before .loop .inv .1,
+      c .before .before .before .before .before .before .before .before .write-one .kept .1 .1 .1 .1 .1 .1 .1 .1 .1 .1 .0 ∙ c .before .before .before .before .before .before .before .before .before .before .before .before .before .before .loop .inv .2,
+      c .before .before .before .before .before .before .before .before .write-one .kept .1 .1 .1 .1 .1 .1 .1 .1 .1 .1 .1 .0 ∙ c .before .before .before .before .before .before .before .before .before .before .before .before .before .before .loop .inv .3,
+      (λ k lt. binds-next (c .before .before .before .before .before .before .before .before .before .before .before .before .before .before .loop .env) (c .next-binding .last .1 .1 .0) (c .before .before .before .before .before .before .before .before .before .before .before .before .before .before .loop .i) k (c .next-binding .ensures) (c .before .before .before .before .before .before .before .before .before .before .before .before .before .before .loop .inv .4 k (c .before .before .before .before .before .before .before .before .before .before .before .before .before .loop-test .taken)) lt),
+      (λ k. measure-goes (bindingBytes (k .net) (c .before .before .before .before .before .before .before .before .before .before .before .before .before .before .before .before .before .before .before .before .before .args .t)) (c .before .before .before .before .before .before .before .before .before .before .before .before .before .before .before .before .before .before .before .before .before .args .many) (c .before .before .before .before .before .before .before .before .before .before .before .before .before .before .before .before .before .before .before .before .before .args .at) (c .before .before .before .before .before .before .before .before .before .before .before .before .before .before .loop .inv .5 k) (c .before .before .before .before .before .before .before .before .before .before .before .before .before .loop-test .taken) (c .before .before .before .before .before .before .before .before .write-one .ensures (here-of k (c .before .before .before .before .before .before .before .before .before .before .before .before .before .loop-test .taken) (c .before .before .before .before .before .before .before .before .before .before .before .before .before .before .loop .inv .4 k (c .before .before .before .before .before .before .before .before .before .before .before .before .before .loop-test .taken))) .next-is)),
+      λ k. go-on (bindingBytes (k .net) (c .before .before .before .before .before .before .before .before .before .before .before .before .before .before .before .before .before .before .before .before .before .args .t)) (c .before .before .before .before .before .before .before .before .before .before .before .before .before .before .loop .inv .6 k) (left-more (c .before .before .before .before .before .before .before .before .before .before .before .before .before .before .before .before .before .before .before .before .before .args .many) (c .before .before .before .before .before .before .before .before .before .before .before .before .before .before .loop .i) (c .before .before .before .before .before .before .before .before .before .before .before .before .before .loop-test .taken)) (c .before .before .before .before .before .before .before .before .write-one .ensures (here-of k (c .before .before .before .before .before .before .before .before .before .before .before .before .before .loop-test .taken) (c .before .before .before .before .before .before .before .before .before .before .before .before .before .before .loop .inv .4 k (c .before .before .before .before .before .before .before .before .before .before .before .before .before .loop-test .taken)))),
     ))
     (λ c. c .before .loop .inv .1)
     (λ c. c .before .loop .inv .2)
     (λ c. c .before .loop .inv .3)
-    (λ c. λ n transitions ready lt. go-end (bindingBytes n (c .before .before .before .before .before .before .before .before .before .before .before .before .before .args .t)) (c .before .loop .inv .5 n transitions ready lt) (left-none (c .before .before .before .before .before .before .before .before .before .before .before .before .before .args .many) (c .before .loop .i) (omega arith))))
+    (λ c. λ k. go-end (bindingBytes (k .net) (c .before .before .before .before .before .before .before .before .args .t)) (c .before .loop .inv .6 k) (left-none (c .before .before .before .before .before .before .before .before .args .many) (c .before .loop .i) (omega arith))))

@@ -1,6 +1,7 @@
 use borrow.Author.Needs.{needs}
 use native.Mathlib.Omega.{arith}
 use Rattle.coloured.proofs.Readied.{most-room}
+use Rattle.unfolding.proofs.Marking.{blank-words}
 use Rattle.unfolding.proofs.call.write_large.Statement.{statement}
 use Rattle.unfolding.proofs.call.write_large.Tie as tie
 
@@ -10,6 +11,6 @@ write-large-spec =
     (tie.spec
     (λ c. search needs)
     (λ c. search needs)
-    (λ c κs. ((c .before .before .before .before .before .before .before .before .before .before .before .before .before .pre .0 .0, c .before .before .before .before .before .before .before .before .before .before .before .before .before .pre .0 .1, c .before .before .before .before .before .before .before .before .before .before .before .before .before .pre .0 .2, c .before .before .before .before .before .before .before .before .before .before .before .before .before .pre .0 .3, λ n read. omega (arith, most-room (c .before .before .before .before .before .before .before .before .before .before .before .before .before .args .s .now) n read), λ n read. omega (arith, most-room (c .before .before .before .before .before .before .before .before .before .before .before .before .before .args .s .now) n read)), c .before .before .before .before .before .before .before .before .before .before .before .before .before .pre .1))
+    (λ c κs. ((c .before .before .before .before .before .before .before .before .before .pre .0 .0, c .before .before .before .before .before .before .before .before .before .pre .0 .1, c .before .before .before .before .before .before .before .before .before .pre .0 .2, (λ n read. omega (arith, most-room (c .before .before .before .before .before .before .before .before .before .args .s .now) n read)), (λ n read. omega (arith, most-room (c .before .before .before .before .before .before .before .before .before .args .s .now) n read)), search needs, blank-words 2048), c .before .before .before .before .before .before .before .before .before .pre .1))
     (λ c. search needs)
     (λ c. search needs))

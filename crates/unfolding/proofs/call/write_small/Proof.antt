@@ -1,6 +1,6 @@
 use borrow.Author.Needs.{needs}
 use native.Mathlib.Omega.{arith}
-use Rattle.unfolding.proofs.Unfolds.{small-room}
+use Rattle.unfolding.proofs.Marking.{blank-words}
 use Rattle.unfolding.proofs.call.write_small.Statement.{statement}
 use Rattle.unfolding.proofs.call.write_small.Tie as tie
 
@@ -10,6 +10,6 @@ write-small-spec =
     (tie.spec
     (λ c. search needs)
     (λ c. search needs)
-    (λ c κs. ((c .before .before .before .before .before .before .before .before .before .before .before .before .before .pre .0 .0, c .before .before .before .before .before .before .before .before .before .before .before .before .before .pre .0 .1, c .before .before .before .before .before .before .before .before .before .before .before .before .before .pre .0 .2, c .before .before .before .before .before .before .before .before .before .before .before .before .before .pre .0 .3, λ n read. omega (arith, small-room (c .before .before .before .before .before .before .before .before .before .before .before .before .before .pre .1) (c .before .before .before .before .before .before .before .before .before .before .before .before .before .pre .0 .4) n read), λ n read. omega (arith, small-room (c .before .before .before .before .before .before .before .before .before .before .before .before .before .pre .1) (c .before .before .before .before .before .before .before .before .before .before .before .before .before .pre .0 .4) n read)), c .before .before .before .before .before .before .before .before .before .before .before .before .before .pre .1))
+    (λ c κs. ((c .before .before .before .before .before .before .before .before .before .pre .0 .0, c .before .before .before .before .before .before .before .before .before .pre .0 .1, c .before .before .before .before .before .before .before .before .before .pre .0 .2, (λ n read. omega (arith, c .before .before .before .before .before .before .before .before .before .pre .0 .3 n read)), (λ n read. omega (arith, c .before .before .before .before .before .before .before .before .before .pre .0 .3 n read)), search needs, blank-words 2048), c .before .before .before .before .before .before .before .before .before .pre .1))
     (λ c. search needs)
     (λ c. search needs))

@@ -6,12 +6,4 @@ use Rattle.unfolding.proofs.seek.seek_in.Tie as tie
 
 pub seek-in-spec : {M : Type 1} → statement M
 seek-in-spec =
-    tie.close
-    (tie.spec
-    (λ c κs. search needs)
-    (λ c. c .seek-guarded .ensures)
-    (λ c. search needs)
-    (λ c. search needs)
-    (λ c. (λ n t limits lt listed is rows. sought-follows t limits lt listed (omega arith) (c .before .before .before .before .before .args .row) rows is (omega arith) (c .if2 .taken), c .if2 .taken))
-    (λ c. omega arith)
-    (λ c. (λ n t limits lt listed is rows. sought-past t limits lt listed (omega arith) rows is, (omega arith, omega arith))))
+    tie.close (tie.spec (λ c κs. search needs) (λ c. c .seek-guarded .ensures) (λ c. search needs) (λ c. search needs) (λ c. (λ n listed is rows. sought-follows listed (omega arith) (c .before .before .before .before .before .args .row) rows is (omega arith) (c .if2 .taken), c .if2 .taken)) (λ c. omega arith) (λ c. (λ n listed is rows. sought-past listed (omega arith) rows is, (omega arith, omega arith))))

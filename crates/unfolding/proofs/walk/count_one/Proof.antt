@@ -1,10 +1,15 @@
 use native.Mathlib.Omega.{arith}
 use mathlib.Core.Path.{sym, _∙_}
-use Rattle.coloured.specs.Effect.{transitionAt}
 use Rattle.unfolding.proofs.Tabled.{count-passes, count-fails}
 use borrow.Author.Needs.{needs}
 use Rattle.unfolding.proofs.walk.count_one.Statement.{statement}
 use Rattle.unfolding.proofs.walk.count_one.Tie as tie
 
 pub count-one-spec : {M : Type 1} → statement M
-count-one-spec = tie.close (tie.spec (λ c κs. search needs) (λ c. search needs) (λ c. (λ n t limits lt listed inside is. count-passes n t _ limits lt inside (sym (c .if1 .taken) ∙ c .before .passes .ensures n (transitionAt n t) limits listed) is, (omega arith, omega arith))) (λ c. (λ n t limits lt listed inside is. count-fails n t _ limits lt inside (sym (c .if1 .left) ∙ c .before .passes .ensures n (transitionAt n t) limits listed) is, (omega arith, omega arith))))
+count-one-spec =
+    tie.close
+    (tie.spec
+    (λ c κs. search needs)
+    (λ c. search needs)
+    (λ c. (λ n own t i listed binds inside is. count-passes n t i (listed .limits) (listed .stands) inside (sym (c .if1 .taken) ∙ c .before .passes .ensures n own t i listed binds) is, (omega arith, omega arith)))
+    (λ c. (λ n own t i listed binds inside is. count-fails n t i (listed .limits) (listed .stands) inside (sym (c .if1 .left) ∙ c .before .passes .ensures n own t i listed binds) is, (omega arith, omega arith))))
