@@ -44,7 +44,7 @@ mark-all-spec =
       omega arith,
       omega arith,
       c .before .before .before .before .loop .inv .2,
-      length-set (c .before .before .before .before .loop .rows) (c .before .before .before .before .loop .t) (c .before .before .space-of .result) ∙ c .before .before .before .before .loop .inv .3,
+      length-set (c .before .before .before .before .loop .rows) (c .before .before .before .before .loop .t) _ ∙ c .before .before .before .before .loop .inv .3,
       λ n uses tables blank.
           let listed = tables .each (c .before .before .before .before .loop .t) (c .before .before .before .loop-test .taken) in
           reach-follows n (c .before .before .before .before .before .before .before .before .args .guards .now) (c .before .before .before .before .loop .inv .4 n uses tables blank) (omega (arith, c .before .before .before .before .loop .inv .3, c .before .before .before .before .before .before .before .before .pre .0)) (c .before .before .space-of .ensures .0 n (listed .owned) (listed .limits) (listed .stands)) listed (w .0 .taken),
@@ -53,7 +53,7 @@ mark-all-spec =
       omega arith,
       omega (arith, c .before .before .space-of .ensures .1),
       w .3 .ensures .1,
-      length-set (c .before .before .before .before .loop .rows) (c .before .before .before .before .loop .t) (w .3 .result) ∙ c .before .before .before .before .loop .inv .3,
+      length-set (c .before .before .before .before .loop .rows) (c .before .before .before .before .loop .t) _ ∙ c .before .before .before .before .loop .inv .3,
       λ n uses tables blank.
           let listed = tables .each (c .before .before .before .before .loop .t) (c .before .before .before .loop-test .taken) in
           let was = c .before .before .before .before .loop .inv .4 n uses tables blank in

@@ -12,13 +12,9 @@ write-one-spec =
     (tie.spec
     (λ c κs. search needs)
     (λ c κs. search needs)
-    (λ c κs. (
-      row-here (c .before .before .before .before .before .before .before .before .before .before .before .before .before .before .before .before .before .before .pre .1 .0) (c .before .before .before .before .before .before .before .before .before .before .before .before .before .before .before .before .before .before .args .places .now) (c .before .before .before .before .before .before .before .before .before .before .before .before .before .before .before .before .before .before .args .amounts .now) (c .before .before .before .before .before .before .before .load-row .last .1 .1 .1 .1 .1 .1 .0) (c .before .before .before .before .before .before .before .load-row .last .1 .1 .1 .1 .1 .1 .1 .0) (c .before .before .before .before .before .before .before .load-row .ensures) (c .before .before .before .before .before .before .before .before .before .before .before .before .before .before .before .before .before .before .pre .0 .1) (c .before .before .before .before .before .before .before .before .before .before .before .before .before .before .before .before .before .before .pre .0 .2) .puts-after,
-      (
-        row-here (c .before .before .before .before .before .before .before .before .before .before .before .before .before .before .before .before .before .before .pre .1 .0) (c .before .before .before .before .before .before .before .before .before .before .before .before .before .before .before .before .before .before .args .places .now) (c .before .before .before .before .before .before .before .before .before .before .before .before .before .before .before .before .before .before .args .amounts .now) (c .before .before .before .before .before .before .before .load-row .last .1 .1 .1 .1 .1 .1 .0) (c .before .before .before .before .before .before .before .load-row .last .1 .1 .1 .1 .1 .1 .1 .0) (c .before .before .before .before .before .before .before .load-row .ensures) (c .before .before .before .before .before .before .before .before .before .before .before .before .before .before .before .before .before .before .pre .0 .1) (c .before .before .before .before .before .before .before .before .before .before .before .before .before .before .before .before .before .before .pre .0 .2) .hinders-after,
-        omega (arith, c .before .before .before .before .before .before .before .before .before .before .before .before .before .before .before .before .before .before .pre .1 .1, gives-length (c .before .before .before .before .before .before .before .before .before .before .before .before .before .before .before .before .before .before .pre .1 .0) (c .before .before .before .before .before .before .before .before .before .before .before .before .before .before .before .before .before .before .args .places .now) (c .before .before .before .before .before .before .before .before .before .before .before .before .before .before .before .before .before .before .args .amounts .now) (c .before .before .before .before .before .before .before .load-row .last .1 .1 .1 .1 .1 .1 .0) (c .before .before .before .before .before .before .before .load-row .last .1 .1 .1 .1 .1 .1 .1 .0) (c .before .before .before .before .before .before .before .load-row .ensures) (c .before .before .before .before .before .before .before .before .before .before .before .before .before .before .before .before .before .before .pre .0 .1) (c .before .before .before .before .before .before .before .before .before .before .before .before .before .before .before .before .before .before .pre .0 .2) (sym (c .before .before .before .before .before .before .before .before .before .before .if1 .taken) ∙ c .before .before .before .before .before .before .before .before .before .before .before .has-row .ensures (c .before .before .before .before .before .before .before .before .before .before .before .before .before .before .before .before .before .before .pre .1 .0 .few))),
-      ),
-    ))
+    (λ c κs.
+    let row = row-here (c .before .before .before .before .before .before .before .before .before .before .before .before .before .before .before .before .before .before .pre .1 .0) (c .before .before .before .before .before .before .before .before .before .before .before .before .before .before .before .before .before .before .args .places .now) (c .before .before .before .before .before .before .before .before .before .before .before .before .before .before .before .before .before .before .args .amounts .now) (c .before .before .before .before .before .before .before .load-row .last .1 .1 .1 .1 .1 .1 .0) (c .before .before .before .before .before .before .before .load-row .last .1 .1 .1 .1 .1 .1 .1 .0) (c .before .before .before .before .before .before .before .load-row .ensures) (c .before .before .before .before .before .before .before .before .before .before .before .before .before .before .before .before .before .before .pre .0 .1) (c .before .before .before .before .before .before .before .before .before .before .before .before .before .before .before .before .before .before .pre .0 .2) in
+    (omega (arith, row .puts-after), (omega (arith, row .hinders-after), omega (arith, row .hinders-after, c .before .before .before .before .before .before .before .before .before .before .before .before .before .before .before .before .before .before .pre .1 .1, gives-length (c .before .before .before .before .before .before .before .before .before .before .before .before .before .before .before .before .before .before .pre .1 .0) (c .before .before .before .before .before .before .before .before .before .before .before .before .before .before .before .before .before .before .args .places .now) (c .before .before .before .before .before .before .before .before .before .before .before .before .before .before .before .before .before .before .args .amounts .now) (c .before .before .before .before .before .before .before .load-row .last .1 .1 .1 .1 .1 .1 .0) (c .before .before .before .before .before .before .before .load-row .last .1 .1 .1 .1 .1 .1 .1 .0) (c .before .before .before .before .before .before .before .load-row .ensures) (c .before .before .before .before .before .before .before .before .before .before .before .before .before .before .before .before .before .before .pre .0 .1) (c .before .before .before .before .before .before .before .before .before .before .before .before .before .before .before .before .before .before .pre .0 .2) (sym (c .before .before .before .before .before .before .before .before .before .before .if1 .taken) ∙ c .before .before .before .before .before .before .before .before .before .before .before .has-row .ensures (c .before .before .before .before .before .before .before .before .before .before .before .before .before .before .before .before .before .before .pre .1 .0 .few))))))
     (λ c. search needs)
     (λ c. search needs)
     (λ c. search needs)
