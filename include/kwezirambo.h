@@ -13,7 +13,7 @@
  * No call keeps a pointer, allocates memory or has state of its own, so calls on different buffers may run side by side.
  *
  * Stack, as measured on nets with expressions of 16 levels: kwz_fire_images and kwz_first_row take 561 KiB, kwz_images 280 KiB,
- * kwz_unfold, kwz_fire_orders and kwz_first_order 122 KiB, kwz_net_sizes and kwz_row_order 24 KiB, kwz_flat_sizes less than 1 KiB.
+ * kwz_unfold 140 KiB, kwz_fire_orders and kwz_first_order 132 KiB, kwz_net_sizes and kwz_row_order 24 KiB, kwz_flat_sizes less than 1 KiB.
  * It does not grow with the length of the file or the lists; 1 MiB is enough for any call.
  *
  * Refusal numbers. In a file the place is a byte's position; 12, 13 and 14 have place 0.
