@@ -112,7 +112,7 @@ fn fire_with(
     }
 }
 
-// With small lists, which a small net with a short file has room in.
+// With small lists, where the rows have room in them.
 fn fire_small(
     s: &[u8],
     sizes: &[u8],
@@ -350,7 +350,7 @@ fn first_with(
     }
 }
 
-// With small lists, which a small net with a short file has room in.
+// With small lists, where the rows have room in them.
 fn first_small(
     s: &[u8],
     sizes: &[u8],
