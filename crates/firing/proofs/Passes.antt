@@ -5,7 +5,7 @@ use Prim.Native.Nat.{_≤_}
 use native.Mathlib.Decide.{decLt}
 use borrow.Author.Needs.{zero≤}
 use borrow.Author.Tests.{lt-ltb, le-ltb, leb-true, leb-false}
-use Rattle.reading.specs.Basics.{ℕ, zero, suc, _+_, _<_, Bool, true, false, _&&_, List, _∷_, length, getD, ltb, leb, find, any}
+use Rattle.reading.specs.Basics.{ℕ, zero, suc, _+_, _-_, _<_, Bool, true, false, _&&_, List, _∷_, length, getD, ltb, leb, find, any}
 use Rattle.firing.specs.Arcs.{Arc, Rising, none, more, weightIn, arcsIn}
 use Rattle.firing.specs.Steps.{Within, EndsWithin, told, arcAt, spilling, changedBy, changed, Sought}
 use Rattle.firing.proofs.Rows.{arcs-more, arcs-none, weight-hit, weight-skip, weight-below}
@@ -95,6 +95,10 @@ hinders-none w count h = rw (le-ltb 0 w (omega arith))
 pub hinders-some : (w count : ℕ) → 1 ≤ w → leb w count ≡ (ltb 0 w && leb w count)
 hinders-some w count h = rw (lt-ltb 0 w (omega arith))
 
+-- ---- spilling, by the count
+fits : (m : List ℕ) (takes : List Arc) (a : Arc) → getD m (a .place) 0 + a .weight ≤ 65535 → spilling m takes a ≡ false
+fits m takes a h = le-ltb 65535 (getD m (a .place) 0 - weightIn takes (a .place) + a .weight) (omega arith)
+
 -- ---- rising arcs, from any number on
 from-0 : {n from : ℕ} {l : List Arc} → Rising n from l → Rising n 0 l
 from-0 none = none
@@ -121,6 +125,23 @@ module _ (places weights : List ℕ) (takes puts : ℕ) (m : List ℕ) (n : ℕ)
   pub spill-ends : {t i : ℕ} → Spilling t i → puts ≤ i → false ≡ any (spilling m (arcsIn places weights 0 takes)) (arcsIn places weights takes puts)
   spill-ends {t} {i} s h = sym (s .same ∙ any-past places weights puts i (spilling m (arcsIn places weights 0 takes)) h)
 
+  -- a put that does not spill is passed, with any takes that have no weight at its place or a later one
+  passes : {t t′ i : ℕ} → Spilling t i → i < puts
+      → ((q : ℕ) → getD places i 0 ≤ q → weightIn (arcsIn places weights t takes) q ≡ weightIn (arcsIn places weights t′ takes) q)
+      → spilling m (arcsIn places weights 0 takes) (arcAt places weights i) ≡ false → Spilling t′ (i + 1)
+  passes {i = i} s h f k =
+      let first = rise places weights puts i h (s .rest) in
+      record {
+        from = getD places i 0 + 1;
+        rest = first .1;
+        later = λ q k. s .later q (let l = first .0 in omega arith) ∙ f q (omega arith);
+        same = s .same ∙ any-miss places weights puts i (spilling m (arcsIn places weights 0 takes)) h k;
+      }
+
+  -- a count that fits with the put fits with the take away
+  pub spill-fits : {t i p count w : ℕ} → Spilling t i → i < puts → p ≡ getD places i 0 → count ≡ getD m p 0 → w ≡ getD weights i 0 → count + w ≤ 65535 → Spilling t (i + 1)
+  spill-fits {i = i} s h e f g l = passes s h (λ q k. refl) (fits m (arcsIn places weights 0 takes) (arcAt places weights i) (rw (← e, ← f, ← g) l))
+
   -- the put number i, tested with the take that is found from number t on
   module _ (rising : Rising n 0 (arcsIn places weights 0 takes)) {t i p t′ : ℕ} {r : Bool} (s : Spilling t i) (h : i < puts)
       (e : p ≡ getD places i 0) (f : Sought places t takes p t′)
@@ -137,11 +158,4 @@ module _ (places weights : List ℕ) (takes puts : ℕ) (m : List ℕ) (n : ℕ)
     spill-hit k = sym (s .same ∙ any-hit places weights puts i (spilling m (arcsIn places weights 0 takes)) h (sym tested ∙ k))
 
     pub spill-goes : r ≡ false → Spilling t′ (i + 1)
-    spill-goes k =
-        let first = rise places weights puts i h (s .rest) in
-        record {
-          from = getD places i 0 + 1;
-          rest = first .1;
-          later = λ q k. s .later q (let l = first .0 in omega arith) ∙ f .passed weights q (omega arith);
-          same = s .same ∙ any-miss places weights puts i (spilling m (arcsIn places weights 0 takes)) h (sym tested ∙ k);
-        }
+    spill-goes k = passes s h (λ q l. f .passed weights q (omega arith)) (sym tested ∙ k)

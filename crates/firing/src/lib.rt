@@ -155,7 +155,8 @@ fn spills(places: &[u16], amounts: &[u16], t: usize, takes: usize, i: usize, m: 
     65535 < left + slot(amounts, i)
 }
 
-// Whether some put brings its count above 65,535. Takes and puts stand by rising place, so each take is passed once.
+// Whether some put brings its count above 65,535. The take at its place is looked for only where the count with the put does not fit.
+// Takes and puts stand by rising place, so each take is passed once.
 fn some_spills(places: &[u16], amounts: &[u16], takes: usize, puts: usize, m: &[u16]) -> bool
     requires { ⌜ takes ≤ puts ⌝ }
     requires { ⌜ Within (now places) (now amounts) puts ⌝ }
@@ -167,9 +168,12 @@ fn some_spills(places: &[u16], amounts: &[u16], takes: usize, puts: usize, m: &[
     let mut t = 0;
     let mut i = takes;
     while i < puts {
-        t = seek(places, t, takes, slot(places, i));
-        if spills(places, amounts, t, takes, i, m) {
-            return true;
+        let p = slot(places, i);
+        if 65535 < entry(m, p) + slot(amounts, i) {
+            t = seek(places, t, takes, p);
+            if spills(places, amounts, t, takes, i, m) {
+                return true;
+            }
         }
         i += 1;
     }

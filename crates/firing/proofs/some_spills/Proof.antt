@@ -1,8 +1,9 @@
 use borrow.Author.Needs.{needs}
 use native.Mathlib.Omega.{arith}
+use mathlib.Core.Logic.{⊎-elim}
 use Prim.Native.Nat.{ℕ, _-_}
 use Rattle.firing.specs.Arcs.{Rising, arcsIn}
-use Rattle.firing.proofs.Passes.{Spilling, spill-begins, spill-hit, spill-goes, spill-ends}
+use Rattle.firing.proofs.Passes.{Spilling, spill-begins, spill-hit, spill-goes, spill-fits, spill-ends}
 use Rattle.firing.proofs.some_spills.Statement.{statement}
 use Rattle.firing.proofs.some_spills.Tie as tie
 
@@ -23,8 +24,15 @@ some-spills-spec =
     (λ c κs. search needs)
     (λ c κs. search needs)
     (λ c κs. search needs)
-    (λ c n r s. spill-hit _ _ _ _ _ _ r (c .before .before .before .before .before .loop .inv n r s) (c .before .before .before .before .loop-test .taken) (c .before .before .before .slot .ensures .0) (c .before .before .seek .ensures) (c .before .spills .ensures) (c .if1 .taken))
+    (λ c. omega arith)
+    (λ c κs. search needs)
+    (λ c κs. search needs)
+    (λ c n r s. spill-hit _ _ _ _ _ _ r (c .before .before .before .before .before .before .before .before .loop .inv n r s) (c .before .before .before .before .before .before .before .loop-test .taken) (c .before .before .before .before .before .before .slot .ensures .0) (c .before .before .seek .ensures) (c .before .spills .ensures) (c .if2 .taken))
     (λ c. omega arith)
     (λ c. omega arith)
-    (λ c n r s. spill-goes _ _ _ _ _ _ r (c .before .before .before .before .before .loop .inv n r s) (c .before .before .before .before .loop-test .taken) (c .before .before .before .slot .ensures .0) (c .before .before .seek .ensures) (c .before .spills .ensures) (c .if1 .left))
+    (λ c n r s.
+    ⊎-elim
+    (λ w. rw (w .4) (spill-goes _ _ _ _ _ _ r (c .before .before .before .before .before .loop .inv n r s) (c .before .before .before .before .loop-test .taken) (c .before .before .before .slot .ensures .0) (w .1 .ensures) (w .2 .ensures) (w .3 .left)))
+    (λ w. rw (w .1) (spill-fits _ _ _ _ _ _ (c .before .before .before .before .before .loop .inv n r s) (c .before .before .before .before .loop-test .taken) (c .before .before .before .slot .ensures .0) (c .before .before .entry .ensures .0) (c .before .slot2 .ensures .0) (omega (arith, w .0 .left))))
+    (c .if1 .came))
     (λ c n r s. spill-ends _ _ _ _ _ _ (c .before .loop .inv n r s) (c .loop-test .left)))
