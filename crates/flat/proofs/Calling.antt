@@ -2,7 +2,7 @@
 use mathlib.Core.Path.{_≡_, refl, sym, ap, _∙_, subst}
 use Prim.Native.Nat.{_≤_, _<_}
 use native.Mathlib.Omega.{arith}
-use Rattle.reading.specs.Basics.{ℕ, _+_, _/_, _%_, List, length, eqb, below, items}
+use Rattle.reading.specs.Basics.{ℕ, _+_, _/_, _%_, Bool, if_then_else_, List, length, eqb, below, items}
 use Rattle.reading.specs.Reading.{accepted, refused}
 use Rattle.firing.specs.Firing.{First, found, nothing, first}
 use Rattle.firing.specs.Loops.{Ran, stoppedAt}
@@ -12,6 +12,10 @@ use Rattle.flat.specs.Flat.{Flat, readFlat, fireRow, fireImage, flatSize
 use Rattle.flat.specs.Told.{mostRows, Held, Scanned}
 use Rattle.flat.specs.declared.reader.Scan.{Scan}
 use Rattle.flat.specs.declared.reader.Scan.the-variants.{Net, Refused}
+
+-- how often a function that calls itself again may still do so
+abbrev pub calls : Bool → ℕ
+calls again = if again then 1 else 0
 
 -- what was read
 pub the-net : (s starts : List ℕ) {r : Scan} {places rows : ℕ} → r ≡ Net places rows → Scanned s starts r → (f : Flat) × Held s starts places rows f

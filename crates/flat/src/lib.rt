@@ -196,11 +196,23 @@ fn fire_short(flat: &[u8], marking: &mut [u16], images: &[u8], answers: &mut [u8
     )
 }
 
-// On any file.
-fn fire_long(flat: &[u8], marking: &mut [u16], images: &[u8], answers: &mut [u8]) -> FireReply
+// On any file. It can call itself, though no file is so short: so the compiler keeps it apart, and its tables lie in no other
+// function's frame.
+fn fire_long(
+    flat: &[u8],
+    marking: &mut [u16],
+    images: &[u8],
+    answers: &mut [u8],
+    again: bool,
+) -> FireReply
     ensures { λ r. ⌜ fireCalled r (now (marking .exit)) (now (answers .exit))
         ≡ fireImages (now (flat .entry)) (now (marking .entry)) (now (images .entry)) (now (answers .entry)) ⌝ }
 {
+    if flat.len() < 1 {
+        if again {
+            return fire_long(flat, marking, images, answers, false);
+        }
+    }
     let mut starts = [0usize; 65536];
     let mut places = [0u16; 12288];
     let mut weights = [0u16; 12288];
@@ -223,7 +235,7 @@ pub fn fire_images(flat: &[u8], marking: &mut [u16], images: &[u8], answers: &mu
     if flat.len() <= 2048 {
         return fire_short(flat, marking, images, answers);
     }
-    fire_long(flat, marking, images, answers)
+    fire_long(flat, marking, images, answers, true)
 }
 
 // Whether the row whose arcs stand at a place of the file would fire.
@@ -322,10 +334,15 @@ fn first_short(flat: &[u8], marking: &[u16]) -> FirstReply
     first_with(flat, marking, &mut starts, &mut places, &mut weights)
 }
 
-// On any file.
-fn first_long(flat: &[u8], marking: &[u16]) -> FirstReply
+// On any file. It can call itself, as fire_long can.
+fn first_long(flat: &[u8], marking: &[u16], again: bool) -> FirstReply
     ensures { λ r. ⌜ firstReply r ≡ firstRow (now (flat .entry)) (now (marking .entry)) ⌝ }
 {
+    if flat.len() < 1 {
+        if again {
+            return first_long(flat, marking, false);
+        }
+    }
     let mut starts = [0usize; 65536];
     let mut places = [0u16; 12288];
     let mut weights = [0u16; 12288];
@@ -338,5 +355,5 @@ pub fn first_row(flat: &[u8], marking: &[u16]) -> FirstReply
     if flat.len() <= 2048 {
         return first_short(flat, marking);
     }
-    first_long(flat, marking)
+    first_long(flat, marking, true)
 }
