@@ -1,5 +1,6 @@
 // The arcs of an arc expression under a binding, appended to two lent lists, one of places and one of weights.
 use crate::merge::slot;
+use crate::sum::sum_terms;
 use crate::terms::list_terms;
 use net::eval_rank;
 use reading::byte_at;
@@ -117,6 +118,8 @@ fn load_terms(
 }
 
 // Appends the arcs of any expression but 0x40: its terms first, behind the room for its arcs.
+// A sum of counts is gone through operand after operand; where something else stands inside, the terms are listed by recursion.
+// It can call itself, on an empty file and once, so that it is not built into load_arc: the way of 0x40 stays short.
 fn load_listed(
     s: &[u8],
     sizes: &[u8],
@@ -129,11 +132,30 @@ fn load_listed(
     places: &mut [u16],
     amounts: &mut [u16],
     used: usize,
+    again: bool,
 ) -> usize
     requires { ⌜ (start + count ≤ 65535) × (byteAt (now s) at ≡ 0x40 → ⊥) ⌝ }
     ensures { λ r. ⌜ ArcLoaded (now (s .entry)) (now (sizes .entry)) (now (vars .entry)) (now (env .entry)) paired start count at
         (now (places .entry)) (now (amounts .entry)) used (now (places .exit)) (now (amounts .exit)) r ⌝ }
 {
+    if s.len() < 1 {
+        if again {
+            return load_listed(
+                s,
+                sizes,
+                vars,
+                env,
+                paired,
+                start,
+                count,
+                at,
+                places,
+                amounts,
+                used,
+                false,
+            );
+        }
+    }
     if places.len() < count {
         return used;
     }
@@ -141,6 +163,23 @@ fn load_listed(
         return used;
     }
     let base = used + count;
+    if byte_at(s, at) == 0x42 {
+        let sum = sum_terms(
+            &s,
+            &sizes,
+            &vars,
+            env,
+            paired,
+            count,
+            at,
+            places,
+            amounts,
+            base,
+        );
+        if sum.ahead < 1 {
+            return load_terms(start, count, base, sum.end, 0, places, amounts, used);
+        }
+    }
     let m = list_terms(
         &s,
         &sizes,
@@ -189,6 +228,7 @@ pub fn load_arc(
             places,
             amounts,
             used,
+            true,
         );
     }
     let rank = eval_rank(s, sizes, vars, env, paired, 15, at + 3).rank;

@@ -27,7 +27,7 @@ pub struct Multiset {
 }
 
 // Stores the one term of a count if its rank is below a number.
-fn store_below(
+pub fn store_below(
     ranks: &mut [u16],
     counts: &mut [u16],
     used: usize,
