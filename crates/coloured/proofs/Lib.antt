@@ -28,3 +28,4 @@ pub mod Owning
 pub mod Walking
 pub mod Giving
 pub mod Listing
+pub mod MostRows

@@ -29,6 +29,13 @@ pub record Turned (slot : ℕ) (env after : List ℕ) (r : Bool) : Type 0 where
   pub next : 1 ≤ slot → getD env (slotVariable slot) 0 + 1 < slotSize slot → (r ≡ false) × (after ≡ set env (slotVariable slot) (getD env (slotVariable slot) 0 + 1))
   pub last : 1 ≤ slot → slotSize slot ≤ getD env (slotVariable slot) 0 + 1 → (r ≡ true) × (after ≡ set env (slotVariable slot) 0)
 
+-- a slot's variable went on by so many colours, going round its set r times; a slot that is not used hands them on
+pub record Skipped (slot many : ℕ) (env after : List ℕ) (r : ℕ) : Type 0 where
+  pub room : length env ≡ 32
+  pub unused : slotSize slot < 1 → (r ≡ many) × (after ≡ env)
+  pub stored : 1 ≤ slotSize slot → after ≡ set env (slotVariable slot) ((getD env (slotVariable slot) 0 + many) % slotSize slot)
+  pub rounds : getD env (slotVariable slot) 0 < slotSize slot → r ≡ (getD env (slotVariable slot) 0 + many) / slotSize slot
+
 -- a slot's variable was given a colour, if it is one of its set; a slot that is not used has the colour 0
 pub record Given (slot colour : ℕ) (env after : List ℕ) (r : Bool) : Type 0 where
   pub room : length env ≡ 32

@@ -1,7 +1,7 @@
 -- Arc expressions that give as many arcs under every binding.
 use mathlib.Core.Path.{_≡_}
 use Prim.Native.Nat.{_≤_, _<_}
-use Rattle.reading.specs.Basics.{ℕ, _+_, _*_, List, length, Option, none, some, ltb, if_then_else_, product}
+use Rattle.reading.specs.Basics.{ℕ, _+_, _-_, _*_, List, length, Option, none, some, ltb, if_then_else_, product}
 use Rattle.reading.specs.Reading.{fine, accepted}
 use Rattle.firing.specs.Firing.{Weights}
 use Rattle.firing.specs.Arcs.{Row, rowOf}
@@ -15,13 +15,27 @@ use Rattle.coloured.specs.Ready.{numbered}
 use Rattle.coloured.specs.declared.steady.Steady.{Steady}
 use Rattle.coloured.specs.declared.steady.Steady.the-variants as steady
 
--- how many, over so many ranks: one for a count of a colour, all for a count of every colour, none where it is 0; not told of the others
+-- a count of every colour less a count of one, over so many ranks: none where the first is 0, all where some of that colour is left, else all but it
+abbrev pub othersOf : ℕ → ℕ → ℕ → ℕ
+othersOf ranks count less = if ltb 0 count then (if ltb less count then ranks else ranks - 1) else 0
+
+-- how many, over so many ranks: one for a count of a colour, all for a count of every colour, none where it is 0; so many as are left of every colour less one; not told of the others
 abbrev pub steadyArcs : ℕ → Expression → Option ℕ
 steadyArcs ranks (one count k) = some (if ltb 0 count then 1 else 0)
 steadyArcs ranks (two count a b) = some (if ltb 0 count then 1 else 0)
 steadyArcs ranks (all count) = some (if ltb 0 count then ranks else 0)
 steadyArcs ranks (plus a b) = none
-steadyArcs ranks (minus a b) = none
+steadyArcs ranks (minus (all count) (one less k)) = some (othersOf ranks count less)
+steadyArcs ranks (minus (all count) (two less a b)) = some (othersOf ranks count less)
+steadyArcs ranks (minus (all count) (all less)) = none
+steadyArcs ranks (minus (all count) (plus a b)) = none
+steadyArcs ranks (minus (all count) (minus a b)) = none
+steadyArcs ranks (minus (all count) (times factor e)) = none
+steadyArcs ranks (minus (one count k) b) = none
+steadyArcs ranks (minus (two count k l) b) = none
+steadyArcs ranks (minus (plus a c) b) = none
+steadyArcs ranks (minus (minus a c) b) = none
+steadyArcs ranks (minus (times factor a) b) = none
 steadyArcs ranks (times factor e) = none
 
 -- of the expression that stands at a place of the file

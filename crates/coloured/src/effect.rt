@@ -48,7 +48,7 @@ fn load_kind(
 }
 
 // Whether the guard at a place of the file holds; 0 where there is none.
-pub fn guard_holds(s: &[u8], sizes: &[u8], vars: &[u8], env: &[u8; 32], at: usize) -> bool
+fn guard_holds(s: &[u8], sizes: &[u8], vars: &[u8], env: &[u8; 32], at: usize) -> bool
     ensures { λ r. ⌜ GuardTold (now (s .entry)) (now (sizes .entry)) (now (vars .entry)) (now (env .entry)) at r ⌝ }
 {
     if at < 1 {

@@ -2,6 +2,7 @@
 mod binding;
 mod effect;
 mod engine;
+mod most;
 mod order;
 mod own;
 mod pack;
@@ -10,18 +11,19 @@ mod steady;
 
 pub use binding::Numbered;
 pub use binding::binding_number;
-pub use effect::guard_holds;
 pub use effect::load_row;
 use engine::Searched;
 use engine::fire_list;
 use engine::search_all;
 use engine::uses_at;
+pub use most::most_row;
 use net_file::NetRead;
 use net_file::read_net;
 pub use order::Order;
 pub use order::order_at;
 pub use own::list_variables;
 pub use own::next_binding;
+pub use own::skip_bindings;
 pub use own::space_of;
 pub use pack::pack_arcs;
 pub use slots::most_slots;
@@ -150,7 +152,8 @@ fn fire_small(
     )
 }
 
-// With lists that have room for every net.
+// With lists that have room for every net. It can call itself, though no net's file is empty: so the compiler keeps it
+// apart, and its lists lie in no other function's frame.
 fn fire_large(
     s: &[u8],
     sizes: &[u8],
@@ -163,12 +166,31 @@ fn fire_large(
     marking: &mut [u16],
     orders: &[u8],
     answers: &mut [u8],
+    again: bool,
 ) -> FireReply
     requires { ⌜ transitions ≤ 32 ⌝ }
     ensures { λ r. ⌜ ((n : Net) (uses : List ℕ) → Ready (now (s .entry)) n (now (sizes .entry)) (now (vars .entry)) (now (own .entry)) uses (now (guards .entry)) (now (arcs .entry)) transitions
         → flatPlaceCount n ≡ total
         → fireCalled r (now (marking .exit)) (now (answers .exit)) ≡ fireOrders (now (s .entry)) (now (marking .entry)) (now (orders .entry)) (now (answers .entry))) ⌝ }
 {
+    if s.len() < 1 {
+        if again {
+            return fire_large(
+                s,
+                sizes,
+                vars,
+                own,
+                guards,
+                arcs,
+                transitions,
+                total,
+                marking,
+                orders,
+                answers,
+                false,
+            );
+        }
+    }
     let mut places = [0u16; 20480];
     let mut amounts = [0u16; 20480];
     fire_with(
@@ -234,6 +256,7 @@ fn fire_on(
         marking,
         orders,
         answers,
+        true,
     )
 }
 
@@ -386,7 +409,8 @@ fn first_small(
     )
 }
 
-// With lists that have room for every net.
+// With lists that have room for every net. It can call itself, though no net's file is empty: so the compiler keeps it
+// apart, and its lists lie in no other function's frame.
 fn first_large(
     s: &[u8],
     sizes: &[u8],
@@ -398,12 +422,30 @@ fn first_large(
     transitions: usize,
     total: usize,
     marking: &[u16],
+    again: bool,
 ) -> FirstReply
     requires { ⌜ transitions ≤ 32 ⌝ }
     ensures { λ r. ⌜ ((n : Net) → Ready (now (s .entry)) n (now (sizes .entry)) (now (vars .entry)) (now (own .entry)) (now (uses .entry)) (now (guards .entry)) (now (arcs .entry)) transitions
         → flatPlaceCount n ≡ total
         → firstReply r ≡ firstOrder (now (s .entry)) (now (marking .entry))) ⌝ }
 {
+    if s.len() < 1 {
+        if again {
+            return first_large(
+                s,
+                sizes,
+                vars,
+                own,
+                uses,
+                guards,
+                arcs,
+                transitions,
+                total,
+                marking,
+                false,
+            );
+        }
+    }
     let mut places = [0u16; 20480];
     let mut amounts = [0u16; 20480];
     first_with(
@@ -465,6 +507,7 @@ fn first_on(
         transitions,
         total,
         marking,
+        true,
     )
 }
 

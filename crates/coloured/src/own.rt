@@ -15,7 +15,7 @@ ghost use Rattle.coloured.specs.Orders.{fits};
 ghost use Rattle.coloured.specs.Drawing.{Binds};
 ghost use Rattle.coloured.specs.Loading.{binding};
 ghost use Rattle.coloured.specs.Ready.{numbered};
-ghost use Rattle.coloured.specs.Own.{Owned, slotSize, Turned, Given, entryOf, Cleared, Put, Listed};
+ghost use Rattle.coloured.specs.Own.{Owned, slotSize, Turned, Skipped, Given, entryOf, Cleared, Put, Listed};
 
 // Does nothing: where an array is lent as a slice, its length is known.
 fn lend_table(own: &[u16]) {}
@@ -158,6 +158,45 @@ pub fn next_binding(own: &[u16; 128], t: usize, env: &mut [u8; 32])
         if !turn_slot(own[t * 4 + k], env) {
             return;
         }
+    }
+}
+
+// A colour and so many more.
+fn further(colour: u8, many: u16) -> u32
+    ensures { λ r. ⌜ r ≡ colour + many ⌝ }
+{
+    colour as u32 + many as u32
+}
+
+// Moves a slot's variable on by so many colours, going round its set: how many times it went round. A slot that is not used hands them on.
+fn skip_slot(slot: u16, many: u16, env: &mut [u8; 32]) -> u16
+    ensures { λ r. ⌜ Skipped slot many (now (env .entry)) (now (env .exit)) r ⌝ }
+{
+    lend(env);
+    let size = (slot % 256) as u32;
+    if size < 1 {
+        return many;
+    }
+    let v = (slot / 256 % 32) as usize;
+    let colour = further(env[v], many);
+    env[v] = (colour % size) as u8;
+    (colour / size % 65536) as u16
+}
+
+// Goes from a transition's binding on by so many.
+pub fn skip_bindings(own: &[u16; 128], t: usize, many: u16, env: &mut [u8; 32])
+    requires { ⌜ t < 32 ⌝ }
+    ensures { λ _. ⌜ ((n : Net) (i : ℕ) → Owned n (now (own .entry)) → Limits n → Formed n → t < length (n .transitions)
+        → i + many < product (sizesOf n (transitionAt n t)) → Binds n (numbered n t i) (now (env .entry)) → Binds n (numbered n t (i + many)) (now (env .exit))) ⌝ }
+{
+    let mut rest = many;
+    let mut k: usize = 4;
+    while 0 < k {
+        k -= 1;
+        if rest < 1 {
+            return;
+        }
+        rest = skip_slot(own[t * 4 + k], rest, env);
     }
 }
 

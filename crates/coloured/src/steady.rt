@@ -3,8 +3,8 @@ use reading::byte_at;
 use reading::word_at;
 ghost use mathlib.Core.Path.{_≡_};
 ghost use Prim.Native.Nat.{_≤_, _<_};
-ghost use Rattle.reading.specs.Basics.{ltb, if_then_else_};
-ghost use Rattle.coloured.specs.Steady.{SteadyArc, SteadyWithin, SteadyKind, SteadyRow};
+ghost use Rattle.reading.specs.Basics.{ltb, if_then_else_, byteAt};
+ghost use Rattle.coloured.specs.Steady.{othersOf, SteadyArc, SteadyWithin, SteadyKind, SteadyRow};
 
 // So many arcs under every binding; or that is not told.
 pub enum Steady {
@@ -18,6 +18,39 @@ fn if_any(count: usize, many: usize) -> usize
     ensures small { λ r. ⌜ r ≤ many ⌝ }
 {
     if count < 1 { 0 } else { many }
+}
+
+// How many of the ranks have something left of a count of every colour, less a count of one.
+fn others(ranks: usize, count: usize, less: usize) -> usize
+    ensures is { λ r. ⌜ r ≡ othersOf ranks count less ⌝ }
+    ensures small { λ r. ⌜ r ≤ ranks ⌝ }
+{
+    if count < 1 {
+        return 0;
+    }
+    if less < count {
+        return ranks;
+    }
+    if ranks < 1 { 0 } else { ranks - 1 }
+}
+
+// How many arcs the difference at a place of the file gives so many ranks: told where it is every colour (0x41) less one (0x40).
+fn steady_others(s: &[u8], ranks: usize, at: usize) -> Steady
+    requires { ⌜ (ranks ≤ 65535) × (byteAt (now s) at ≡ 0x43) ⌝ }
+    ensures is { λ r. ⌜ SteadyArc (now (s .entry)) ranks at r ⌝ }
+    ensures small { λ r. ⌜ SteadyWithin 65535 r ⌝ }
+{
+    let first = at + 1;
+    if byte_at(s, first) != 0x41 {
+        return Steady::Varies;
+    }
+    let second = first + 3;
+    if byte_at(s, second) != 0x40 {
+        return Steady::Varies;
+    }
+    Steady::Arcs {
+        count: others(ranks, word_at(s, first + 1), word_at(s, second + 1)),
+    }
 }
 
 // How many arcs the expression at a place of the file gives so many ranks.
@@ -36,6 +69,9 @@ fn steady_arc(s: &[u8], ranks: usize, at: usize) -> Steady
         return Steady::Arcs {
             count: if_any(word_at(s, at + 1), ranks),
         };
+    }
+    if b == 0x43 {
+        return steady_others(s, ranks, at);
     }
     Steady::Varies
 }

@@ -11,14 +11,14 @@ use Rattle.coloured.specs.Ready.{numbered}
 use Rattle.coloured.specs.Own.{Owned}
 use Rattle.coloured.proofs.Effects.{not-true, not-false}
 use Rattle.coloured.proofs.Owning.{theirs, theirSizes}
-use Rattle.coloured.proofs.Walking.{Walking, walk-begins, walk-turns, walk-stops, walk-ends}
+use Rattle.coloured.proofs.Walking.{Walking, walk-begins, walk-is, walk-turns, walk-stops, walk-ends}
 use Rattle.coloured.proofs.own.next_binding.Statement.{statement}
 use Rattle.coloured.proofs.own.next_binding.Tie as tie
 
 abbrev Inv-loop : tie.InvT-loop
 Inv-loop own t env₀ k₀ env k =
     (k ≤ 4)
-    × ((n : Net) (i : ℕ) → Owned n own → Limits n → t < length (n .transitions) → i + 1 < product (theirSizes n t) → Binds n (numbered n t i) env₀ → Walking (theirs n t) (theirSizes n t) env i k)
+    × ((n : Net) (i : ℕ) → Owned n own → Limits n → t < length (n .transitions) → i + 1 < product (theirSizes n t) → Binds n (numbered n t i) env₀ → Walking (theirs n t) (theirSizes n t) env (i + 1) 1 k)
 
 abbrev μ-loop : tie.MeasureT-loop
 μ-loop own t env₀ k₀ env k = k
@@ -29,14 +29,14 @@ next-binding-spec =
     (tie.spec
     Inv-loop
     μ-loop
-    (λ c. (omega arith, λ n i owned l lt less b. walk-begins n (c .args .t) i owned l lt _ less b))
+    (λ c. (omega arith, λ n i owned l lt less b. walk-begins n (c .args .t) (i + 1) owned l lt _ i 1 refl less b))
     (λ c. omega arith)
     (λ c. omega arith)
     (λ c. omega arith)
     (λ c. omega arith)
     (λ c. omega arith)
     (λ c κs. search needs)
-    (λ c. λ n i owned l formed lt less b. walk-stops n _ i owned l lt (omega arith) (omega arith) refl (c .before .turn-slot .ensures) (c .before .before .before .before .before .loop .inv .1 n i owned l lt less b) (not-true _ (c .if1 .taken)) formed)
+    (λ c. λ n i owned l formed lt less b. walk-is n _ (i + 1) formed lt (omega arith) (walk-stops n _ (i + 1) owned l lt (omega arith) (omega arith) refl (c .before .before .before .before .before .loop .inv .1 n i owned l lt less b) refl (c .before .turn-slot .ensures) (not-true _ (c .if1 .taken))))
     (λ c. omega arith)
-    (λ c. (omega arith, λ n i owned l lt less b. walk-turns n _ i owned l lt (omega arith) (omega arith) refl (c .before .turn-slot .ensures) (c .before .before .before .before .before .loop .inv .1 n i owned l lt less b) (not-false _ (c .if1 .left))))
-    (λ c. λ n i owned l formed lt less b. walk-ends n _ i owned l lt less (c .before .loop .inv .1 n i owned l lt less b) (omega arith)))
+    (λ c. (omega arith, λ n i owned l lt less b. walk-turns n _ (i + 1) owned l lt (omega arith) (omega arith) refl (c .before .before .before .before .before .loop .inv .1 n i owned l lt less b) refl (c .before .turn-slot .ensures) (not-false _ (c .if1 .left))))
+    (λ c. λ n i owned l formed lt less b. walk-ends n _ (i + 1) formed lt less (omega arith) (c .before .loop .inv .1 n i owned l lt less b)))

@@ -1,0 +1,44 @@
+use borrow.Author.Needs.{needs}
+use native.Mathlib.Omega.{arith}
+use Rattle.reading.specs.Basics.{if_then_else_}
+use Rattle.coloured.proofs.Readied.{roomy}
+use Prim.Native.Nat.{ℕ, _<_}
+use borrow.Fn.Kinds.{In}
+use borrow.Fn.PlainCycle.{Measures, is, falls, and}
+use Rattle.coloured.proofs.fire_large.Reads as fire-large
+use Rattle.coloured.proofs.fire_large.Kinds as fire-large-kinds
+use Rattle.coloured.proofs.+fire_large.Lts-fire_large as fire-large-lts
+use Rattle.coloured.proofs.fire_with.Reads as fire-with-reads
+use Rattle.coloured.proofs.+fire_large.{statement}
+use Rattle.coloured.proofs.+fire_large.Tie.{close}
+
+abbrev μ-fire-large : Measures 9 fire-large-kinds.ps ℕ
+μ-fire-large κs a = if a .1 .1 .1 .1 .1 .1 .1 .1 .1 .1 .1 .0 then 1 else 0
+
+abbrev fire-large-at : ℕ → In 9 fire-large-kinds.ps
+fire-large-at t =
+    and 9 fire-large-kinds.ps (is 9 fire-large-kinds.ps μ-fire-large t) fire-large.Pre
+
+abbrev fire-large-below : ℕ → In 9 fire-large-kinds.ps
+fire-large-below t =
+    and 9 fire-large-kinds.ps (falls 9 fire-large-kinds.ps _<_ μ-fire-large t) fire-large.Pre
+
+pub +fire-large-spec : {M : Type 1} → statement M
++fire-large-spec = close μ-fire-large λ t. fire-large-lts.spec (
+  fire-large-below t,
+  fire-large.Post,
+  fire-with-reads.Asked,
+  fire-with-reads.Learnt,
+)
+    (fire-large-at t)
+    fire-large.Post
+    (λ c κs. (rw (← c .before .before .before .before .before .before .before .before .before .before .pre .0, c .before .before .if2 .taken) (omega arith), search needs))
+    (λ c. search needs)
+    (λ c. search needs)
+    (λ c. search needs)
+    (λ c. search needs)
+    (λ c. search needs)
+    (λ c κs. search needs)
+    (λ c. search needs)
+    (λ c. search needs)
+    (λ c. λ n uses ready sized. c .before .before .before .before .before .before .fire-with .ensures n uses ready sized (omega (arith, roomy ready)) (omega (arith, roomy ready)))
