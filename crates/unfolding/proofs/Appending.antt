@@ -64,6 +64,10 @@ module _ {A : Type 0} (f : A → List ℕ) where
     unfolding flatMap
     go-on e x = record { goes = λ exit next y. here .goes exit next (rw e (append-then x y)) }
 
+    -- those that give nothing are passed over
+    pub go-over : {more : List A} → flatMap f rest ≡ flatMap f more → Going f l more entry out start at
+    go-over e = record { goes = λ exit next y. here .goes exit next (rw e y) }
+
     -- none is left
     pub go-end : rest ≡ [] → Appended entry out start at (flatMap f l)
     unfolding flatMap

@@ -103,8 +103,17 @@ zero-at zero i = refl
 zero-at (suc n) zero = refl
 zero-at (suc n) (suc i) = zero-at n i
 
+zero-none : (w : ℕ) → member 0 w ≡ false
+zero-none w = ap (λ x. eqb (x % 2) 1) (div-eq-of-lt (pow-pos w))
+
 pub blank-words : (n : ℕ) → Blank (replicate n 0) 0
-blank-words n j le lt = ap (λ x. member x (j % 32)) (zero-at n (j / 32)) ∙ ap (λ x. eqb (x % 2) 1) (div-eq-of-lt (pow-pos (j % 32)))
+blank-words n j le lt = ap (λ x. member x (j % 32)) (zero-at n (j / 32)) ∙ zero-none (j % 32)
+
+-- nor in one word of 0
+pub blank-word : (marks : List ℕ) (k j : ℕ) → k % 32 < 1 → getD marks (k / 32) 0 ≡ 0 → j < 32 → markAt marks (k + j) ≡ false
+blank-word marks k j first none lt =
+    let e : (k + j) / 32 ≡ k / 32 = omega arith in
+    ap (λ x. member x ((k + j) % 32)) (ap (λ i. getD marks i 0) e ∙ none) ∙ zero-none ((k + j) % 32)
 
 -- ---- the marks of a transition
 -- set for a binding that has an effect, and only for such a one

@@ -3,8 +3,9 @@ use mathlib.Core.Path.{_≡_, refl, sym, ap, _∙_}
 use Prim.Native.Nat.{_≤_, _<_}
 use native.Mathlib.Omega.{arith}
 use native.Mathlib.Nat.{add-zero}
+use borrow.Author.Tests.{le-ltb}
 use lib.ListN.{length-append}
-use Rattle.reading.specs.Basics.{ℕ, suc, _+_, _*_, _-_, true, false, List, [], _∷_, _++_, map, flatMap, filterMap, Option, none, some, length, getD, getElem?, given, numbersFrom, below, product}
+use Rattle.reading.specs.Basics.{ℕ, zero, suc, _+_, _*_, _-_, true, false, List, [], _∷_, _++_, map, flatMap, filterMap, Option, none, some, length, getD, getElem?, given, numbersFrom, below, product}
 use Rattle.firing.specs.Firing.{Weights}
 use Rattle.firing.specs.Arcs.{Row, rowIn, rowOf}
 use Rattle.firing.specs.declared.Ends.{Ends}
@@ -25,7 +26,7 @@ use Rattle.coloured.proofs.Digits.{choices-at}
 use Rattle.coloured.proofs.Split.{flat-flat}
 use Rattle.unfolding.specs.Unfolding.{Rowed, rows, unfolded}
 use Rattle.unfolding.specs.Walked.{takesEffect, entriesAt, entries, Tables}
-use Rattle.unfolding.specs.Marks.{hasRow}
+use Rattle.unfolding.specs.Marks.{markAt, hasRow}
 use Rattle.unfolding.specs.Pieces.{bindingBytes, transitionBytes, Ruled, Known, Here, Roomy}
 use Rattle.unfolding.proofs.Appending.{length-row-in, Going, go-begin}
 use Rattle.unfolding.proofs.Rows.{rowedIf}
@@ -100,15 +101,18 @@ by-effect n t i {C} e f = go (effect n (numbered n t i)) refl e
     go none q g = let z : _≡_ {A = ℕ} 0 1 = cc in absurd (omega arith)
     go (some w) q g = f w q
 
+no-effect : (n : Net) (t i : ℕ) → takesEffect n t i ≡ false → bindingBytes n t i ≡ []
+unfolding bindingBytes
+no-effect n t i e = go (effect n (numbered n t i)) e
+  where
+    go : (o : Option Weights) → (given o false λ w. true) ≡ false → (given o [] λ w. rowBytes (rowOf (flatPlaceCount n) w)) ≡ []
+    go none q = refl
+    go (some w) q = let z : _≡_ {A = ℕ} 0 1 = cc in absurd (omega arith)
+
 module _ {s sizes vars env arcs marks : List ℕ} {guard t k : ℕ} (here : Here s sizes vars env arcs marks guard t k) where
   -- it has no row
   pub gives-nothing : false ≡ hasRow guard marks k → bindingBytes (here .net) t (here .index) ≡ []
-  unfolding bindingBytes
-  gives-nothing e = go (effect (here .net) (numbered (here .net) t (here .index))) (sym (e ∙ here .told))
-    where
-      go : (o : Option Weights) → (given o false λ w. true) ≡ false → (given o [] λ w. rowBytes (rowOf (flatPlaceCount (here .net)) w)) ≡ []
-      go none q = refl
-      go (some w) q = let z : _≡_ {A = ℕ} 0 1 = cc in absurd (omega arith)
+  gives-nothing e = no-effect (here .net) t (here .index) (sym (e ∙ here .told))
 
   -- its row was loaded
   module _ (places amounts places' amounts' : List ℕ) {r : Ends} (told : LoadsRow s sizes vars env arcs t places amounts places' amounts' r) (p : Roomy s places) (a : Roomy s amounts) where
@@ -138,6 +142,16 @@ pub left-none : (many i : ℕ) → many ≤ i → numbersFrom i (many - i) ≡ [
 unfolding numbersFrom
 left-none many i h = let e : many - i ≡ 0 = omega arith in rw e
 
+-- those that give nothing
+left-over : (f : ℕ → List ℕ) (many i count : ℕ) → i + count ≤ many → ((j : ℕ) → j < count → f (i + j) ≡ []) → flatMap f (numbersFrom i (many - i)) ≡ flatMap f (numbersFrom (i + count) (many - (i + count)))
+unfolding flatMap
+left-over f many i zero le nothing = let e : i + 0 ≡ i = omega arith in rw e
+left-over f many i (suc count) le nothing =
+    let first : f i ≡ [] = rw (add-zero i) at (nothing 0 (omega arith)) in
+    let e : i + suc count ≡ i + 1 + count = omega arith in
+    let others = left-over f many (i + 1) count (omega arith) (λ j lt. let q : i + suc j ≡ i + 1 + j = omega arith in rw q at (nothing (suc j) (omega arith))) in
+    ap (flatMap f) (left-more many i (omega arith)) ∙ ap (λ l. l ++ flatMap f (numbersFrom (i + 1) (many - (i + 1)))) first ∙ rw e others
+
 -- a total that grows by the length of each piece: with those left it is the whole
 pub record Measuring (f : ℕ → List ℕ) (many start total i : ℕ) : Type 0 where
   pub sum : total + length (flatMap f (numbersFrom i (many - i))) ≡ start + length (flatMap f (below many))
@@ -155,6 +169,9 @@ module _ (f : ℕ → List ℕ) (many start : ℕ) where
 
     pub measure-goes : i < many → {more : ℕ} → more ≡ total + length (f i) → Measuring f many start more (i + 1)
     measure-goes h e = record { sum = omega (arith, measure-rest h) }
+
+    pub measure-over : {k : ℕ} → flatMap f (numbersFrom i (many - i)) ≡ flatMap f (numbersFrom k (many - k)) → Measuring f many start total k
+    measure-over e = record { sum = rw e at (here .sum) }
 
     pub measure-ends : many ≤ i → total ≡ start + length (flatMap f (below many))
     unfolding flatMap
@@ -180,13 +197,28 @@ here-of {i = i} known lt binds = record {
   told = known .told i lt;
 }
 
--- the colours of the next
+-- where a word of marks is 0, 32 bindings give nothing
+pub known-over : {s sizes vars own arcs marks : List ℕ} {guard t many base : ℕ} (known : Known s sizes vars own arcs marks guard t many base) (i : ℕ)
+    → i + 32 ≤ many → 1 ≤ guard → ((j : ℕ) → j < 32 → markAt marks (base + i + j) ≡ false)
+    → flatMap (bindingBytes (known .net) t) (numbersFrom i (many - i)) ≡ flatMap (bindingBytes (known .net) t) (numbersFrom (i + 32) (many - (i + 32)))
+known-over {marks = marks} {guard = guard} {t = t} {many = many} {base = base} known i le guarded blank =
+    left-over (bindingBytes (known .net) t) many i 32 le (λ j lt.
+    let e : base + (i + j) ≡ base + i + j = omega arith in
+    no-effect (known .net) t (i + j) (sym (known .told (i + j) (omega arith)) ∙ rw (le-ltb guard 1 guarded, e) (blank j lt)))
+
+-- the colours of the next, or so many on
+pub binds-on : (env after : List ℕ) (i step : ℕ) {s sizes vars own arcs marks : List ℕ} {guard t many base : ℕ} (known : Known s sizes vars own arcs marks guard t many base)
+    → ((n : Net) (i : ℕ) → Owned n own → Limits n → Formed n → t < length (n .transitions) → i + step < product (sizesOf n (transitionAt n t))
+    → Binds n (numbered n t i) env → Binds n (numbered n t (i + step)) after)
+    → Binds (known .net) (numbered (known .net) t i) env → i + step < many → Binds (known .net) (numbered (known .net) t (i + step)) after
+binds-on env after i step {s = s} known next binds lt =
+    next (known .net) i (known .owned) (limits s (known .net) (known .read)) (formed s (known .net) (known .read)) (known .stands) (omega (arith, known .size)) binds
+
 pub binds-next : (env after : List ℕ) (i : ℕ) {s sizes vars own arcs marks : List ℕ} {guard t many base : ℕ} (known : Known s sizes vars own arcs marks guard t many base)
     → ((n : Net) (i : ℕ) → Owned n own → Limits n → Formed n → t < length (n .transitions) → i + 1 < product (sizesOf n (transitionAt n t))
     → Binds n (numbered n t i) env → Binds n (numbered n t (i + 1)) after)
     → Binds (known .net) (numbered (known .net) t i) env → i + 1 < many → Binds (known .net) (numbered (known .net) t (i + 1)) after
-binds-next env after i {s = s} known next binds lt =
-    next (known .net) i (known .owned) (limits s (known .net) (known .read)) (formed s (known .net) (known .read)) (known .stands) (omega (arith, known .size)) binds
+binds-next env after i known = binds-on env after i 1 known
 
 -- the tables of all
 pub tables-ready : {s sizes vars own uses guards arcs : List ℕ} {n : Net} {transitions : ℕ} → Ready s n sizes vars own uses guards arcs transitions → Tables s n sizes vars own uses guards transitions

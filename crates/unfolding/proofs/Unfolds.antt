@@ -1,11 +1,11 @@
 -- What the call that unfolds gives, from what was read, measured and written. Assumes nothing.
-use mathlib.Core.Path.{_≡_, refl, sym, ap, _∙_}
+use mathlib.Core.Path.{_≡_, refl, sym, ap, subst, _∙_}
 use Prim.Native.Nat.{_≤_, _<_}
 use native.Mathlib.Omega.{arith}
 use borrow.Author.Tests.{le-leb, lt-leb, leb-true, leb-false}
 use lib.ListN.{length-append}
 use lib.Seq.{length-take-le}
-use Rattle.reading.specs.Basics.{ℕ, _+_, _*_, _/_, Bool, true, false, List, [], _∷_, _++_, flatMap, length, getD, take, leb, below, over}
+use Rattle.reading.specs.Basics.{ℕ, _+_, _*_, _/_, Bool, true, false, not, List, [], _∷_, _++_, flatMap, length, getD, take, leb, below, over}
 use Rattle.reading.specs.Reading.{Outcome, accepted, refused, failing}
 use Rattle.flat.specs.Flat.{rowBytes, writeFlat}
 use Rattle.flat.proofs.Written.{placeBytes, length-places}
@@ -20,14 +20,16 @@ use Rattle.coloured.specs.Packed.{shapeIn, Packed}
 use Rattle.coloured.specs.Own.{Owned}
 use Rattle.coloured.specs.Slots.{NetSlotted}
 use Rattle.coloured.proofs.Accepted.{ready}
+use Rattle.coloured.proofs.Effects.{not-true, not-false}
 use Rattle.coloured.proofs.Readied.{small-room}
 use Rattle.unfolding.specs.Unfolding.{unfolded, flatFile, WriteCall, unfoldCall, line, program}
+use Rattle.unfolding.specs.Walked.{Tables}
 use Rattle.unfolding.specs.Pieces.{transitionBytes, Ruled, Small, Tabled}
-use Rattle.unfolding.specs.Marks.{Marked}
+use Rattle.unfolding.specs.Marks.{Marked, Counted}
 use Rattle.unfolding.specs.Out.{Appended}
-use Rattle.unfolding.proofs.Appending.{append-then, append-all, front}
+use Rattle.unfolding.proofs.Appending.{append-then, append-all, append-count, front}
 use Rattle.unfolding.proofs.Decimals.{line-length}
-use Rattle.unfolding.proofs.Pieces.{rows-bytes}
+use Rattle.unfolding.proofs.Pieces.{rows-bytes, tables-ready}
 use Rattle.unfolding.proofs.Initial.{initial-counted}
 
 -- ---- the call
@@ -68,28 +70,37 @@ module _ {s sizes vars own guards arcs initial : List ℕ} {total transitions : 
       rw same (small-room s (t .net) (enough (t .net) sizes vars guards (t .ready .drawing) (t .ready .transitions-are)) few)
 
   -- its length, from that of the rows
-  pub file-length : total ≤ length initial → {rows : ℕ} → rows ≡ length rowsOf → 3 + 3 * total + rows ≡ length (flatFile (t .net))
-  file-length h {rows} e =
+  pub file-length : total ≤ length initial → 3 + 3 * total + length rowsOf ≡ length (flatFile (t .net))
+  file-length h =
       let places : List ℕ = flatMap placeBytes (take total initial) in
       omega (arith, ap length file-is, length-append (places ++ rowsOf) (0x5F ∷ []), length-append places rowsOf, length-places (take total initial), length-take-le total initial h)
 
   -- the pieces written one behind the other are the file
   pub file-written : {o o1 o2 o3 o4 : List ℕ} {n1 n2 n3 n4 : ℕ} → Appended o o1 0 n1 (0x02 ∷ 1 ∷ []) → Appended o1 o2 n1 n2 (flatMap placeBytes (take total initial))
-      → Appended o2 o3 n2 n3 rowsOf → Appended o3 o4 n3 n4 (0x5F ∷ []) → over (flatFile (t .net)) o ≡ o4
-  file-written {o} head places rows end = sym (append-all (append-then (append-then (append-then head places) rows) end) ∙ ap (λ b. over b o) file-is)
+      → Appended o2 o3 n2 n3 rowsOf → Appended o3 o4 n3 n4 (0x5F ∷ []) → Appended o o4 0 n4 (flatFile (t .net))
+  file-written {o} {o4 = o4} {n4 = n4} head places rows end = subst (Appended o o4 0 n4) file-is (append-then (append-then (append-then head places) rows) end)
 
-  -- the call's result
-  pub call-short : (out : List ℕ) {rows : ℕ} → total ≤ length initial → rows ≡ length rowsOf → length out < 3 + 3 * total + rows
-      → record { result = refused 14 0; out = out } ≡ unfoldCall s out
-  call-short out h e lt = unfold-short s out (t .ready .read) (omega (arith, file-length h e))
+  -- whether there is space, as the code tells it
+  module _ (out : List ℕ) {told : Bool} (h : total ≤ length initial) (e : told ≡ leb (3 + 3 * total + length rowsOf) (length out)) where
+    pub has-space : not told ≡ false → 3 + 3 * total + length rowsOf ≤ length out
+    has-space f = leb-true (3 + 3 * total + length rowsOf) (length out) (sym e ∙ not-false told f)
 
-  pub call-whole : (out : List ℕ) {exit : List ℕ} {size : ℕ} → size ≡ length (flatFile (t .net)) → size ≤ length out → over (flatFile (t .net)) out ≡ exit
-      → record { result = accepted size; out = exit } ≡ unfoldCall s out
-  call-whole out e le w = rw (e, ← w) (unfold-whole s out (t .ready .read) (omega arith))
+    -- the call's result
+    pub call-short : not told ≡ true → record { result = refused 14 0; out = out } ≡ unfoldCall s out
+    call-short f = unfold-short s out (t .ready .read) (let lt = leb-false (3 + 3 * total + length rowsOf) (length out) (sym e ∙ not-true told f) in omega (arith, file-length h))
+
+    pub call-whole : not told ≡ false → {exit : List ℕ} {size : ℕ} → Appended out exit 0 size (flatFile (t .net)) → record { result = accepted size; out = exit } ≡ unfoldCall s out
+    call-whole f w = rw (append-count w, append-all w) (unfold-whole s out (t .ready .read) (omega (arith, file-length h, has-space f)))
 
   -- with the marks
-  abbrev pub ruled-of : {marks : List ℕ} → Marked (t .net) guards marks transitions → Ruled s sizes vars own guards arcs marks transitions
+  abbrev ruled-of : {marks : List ℕ} → Marked (t .net) guards marks transitions → Ruled s sizes vars own guards arcs marks transitions
   ruled-of marked = record { net = t .net; uses = t .uses; ready = t .ready; marked = marked }
+
+  -- and the number of each transition's rows
+  abbrev pub ruled-marked : {marks rows : List ℕ} {A : Type 0}
+      → ((n : Net) (uses : List ℕ) → Tables s n sizes vars own uses guards transitions → A → Marked n guards marks transitions × Counted n rows transitions)
+      → A → ((k : Ruled s sizes vars own guards arcs marks transitions) × Counted (k .net) rows transitions)
+  ruled-marked told a = let both = told (t .net) (t .uses) (tables-ready (t .ready)) a in (ruled-of (both .0), both .1)
 
 -- ---- the tables that the reader leaves
 module _ (s sizes vars firsts seconds starts uses guards arcs initial : List ℕ) {sets variables places total transitions space : ℕ}

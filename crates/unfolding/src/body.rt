@@ -1,4 +1,5 @@
 // The rows of a flat file, from the tables of a net: which bindings have one, how many bytes they take, and the bytes themselves, binding by binding.
+use crate::marks::has_none;
 use crate::marks::has_row;
 use crate::marks::set_mark;
 use crate::walk::entries_of;
@@ -7,6 +8,7 @@ use crate::write::write_row;
 use coloured::Steady;
 use coloured::load_row;
 use coloured::next_binding;
+use coloured::skip_bindings;
 use coloured::space_of;
 use coloured::steady_row;
 ghost use mathlib.Core.Path.{_≡_};
@@ -304,7 +306,7 @@ fn write_one(
     at
 }
 
-// Writes the rows of all bindings of a transition; its marks stand from base on.
+// Writes the rows of all bindings of a transition; its marks stand from base on. Where a word of them is 0, it passes over 32 at once.
 fn write_bindings(
     s: &[u8],
     sizes: &[u8],
@@ -331,23 +333,28 @@ fn write_bindings(
     let mut next = at;
     let mut i: usize = 0;
     while i < many {
-        next = write_one(
-            s,
-            sizes,
-            vars,
-            &env,
-            guard,
-            arcs,
-            t,
-            marks,
-            base + i,
-            places,
-            amounts,
-            out,
-            next,
-        );
-        next_binding(own, t, &mut env);
-        i += 1;
+        if has_none(guard, marks, base + i, many - i) {
+            skip_bindings(own, t, 32, &mut env);
+            i += 32;
+        } else {
+            next = write_one(
+                s,
+                sizes,
+                vars,
+                &env,
+                guard,
+                arcs,
+                t,
+                marks,
+                base + i,
+                places,
+                amounts,
+                out,
+                next,
+            );
+            next_binding(own, t, &mut env);
+            i += 1;
+        }
     }
     next
 }

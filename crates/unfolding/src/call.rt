@@ -1,7 +1,7 @@
 // The call that unfolds a net file into a flat file.
 use crate::body::mark_all;
-use crate::body::measure_all;
 use crate::body::write_all;
+use crate::fit::fits;
 use crate::write::write_end;
 use crate::write::write_head;
 use crate::write::write_places;
@@ -48,21 +48,21 @@ fn write_with(
 {
     let mut counts = [0usize; 32];
     mark_all(s, sizes, vars, own, guards, transitions, marks, &mut counts);
-    let rows = measure_all(
+    if !fits(
         s,
         sizes,
         vars,
         own,
         guards,
         arcs,
+        total,
         transitions,
         marks,
         &counts,
         places,
         amounts,
-    );
-    let length = 3 + 3 * total + rows;
-    if out.len() < length {
+        out.len(),
+    ) {
         return UnfoldReply::Refused {
             number: 14,
             place: 0,
@@ -84,7 +84,7 @@ fn write_with(
         out,
         next,
     );
-    write_end(out, next);
+    let length = write_end(out, next);
     UnfoldReply::Written { length }
 }
 
@@ -125,7 +125,8 @@ fn write_small(
     )
 }
 
-// With lists that have room for every net.
+// With lists that have room for every net. It can call itself, though no net's file is empty: so the compiler keeps it
+// apart, and its lists lie in no other function's frame.
 fn write_large(
     s: &[u8],
     sizes: &[u8],
@@ -137,11 +138,29 @@ fn write_large(
     total: usize,
     transitions: usize,
     out: &mut [u8],
+    again: bool,
 ) -> UnfoldReply
     requires { ⌜ (transitions ≤ 32) × (total ≤ 4096) × (total ≤ length (now initial)) ⌝ }
     requires { ⌜ Tabled (now s) (now sizes) (now vars) (now own) (now guards) (now arcs) (now initial) total transitions ⌝ }
     ensures { λ r. ⌜ unfoldCalled r (now (out .exit)) ≡ unfoldCall (now (s .entry)) (now (out .entry)) ⌝ }
 {
+    if s.len() < 1 {
+        if again {
+            return write_large(
+                s,
+                sizes,
+                vars,
+                own,
+                guards,
+                arcs,
+                initial,
+                total,
+                transitions,
+                out,
+                false,
+            );
+        }
+    }
     let mut places = [0u16; 20480];
     let mut amounts = [0u16; 20480];
     let mut marks = [0u32; 2048];
@@ -204,6 +223,7 @@ fn write_file(
         total,
         transitions,
         out,
+        true,
     )
 }
 

@@ -2,6 +2,7 @@
 mod answer;
 mod body;
 mod call;
+mod fit;
 mod marks;
 mod program;
 mod seek;
@@ -121,7 +122,8 @@ fn images_short(
     );
 }
 
-// On any net.
+// On any net. It can call itself, though no net's file is empty: so the compiler keeps it apart, and its table lies in no
+// other function's frame.
 fn images_long(
     s: &[u8],
     sizes: &[u8],
@@ -132,6 +134,7 @@ fn images_long(
     transitions: usize,
     orders: &[u8],
     out: &mut [u8],
+    again: bool,
 )
     requires { ⌜ transitions ≤ 32 ⌝ }
     requires { ⌜ length (now uses) ≡ 32 ⌝ }
@@ -140,6 +143,23 @@ fn images_long(
     ensures { λ _. ⌜ ((n : Net) → Tables (now (s .entry)) n (now (sizes .entry)) (now (vars .entry)) (now (own .entry)) (now (uses .entry)) (now (guards .entry)) transitions
         → now (out .exit) ≡ over (meant.images n (now (orders .entry))) (now (out .entry))) ⌝ }
 {
+    if s.len() < 1 {
+        if again {
+            images_long(
+                s,
+                sizes,
+                vars,
+                own,
+                uses,
+                guards,
+                transitions,
+                orders,
+                out,
+                false,
+            );
+            return;
+        }
+    }
     let mut numbers = [0u32; 65536];
     images_with(
         s,
@@ -191,7 +211,18 @@ fn images_of(
         images_short(s, sizes, vars, own, uses, guards, transitions, orders, out);
         return ImagesReply::Answered { count };
     }
-    images_long(s, sizes, vars, own, uses, guards, transitions, orders, out);
+    images_long(
+        s,
+        sizes,
+        vars,
+        own,
+        uses,
+        guards,
+        transitions,
+        orders,
+        out,
+        true,
+    );
     ImagesReply::Answered { count }
 }
 

@@ -1,0 +1,43 @@
+use borrow.Author.Needs.{needs}
+use native.Mathlib.Omega.{arith}
+use Rattle.reading.specs.Basics.{if_then_else_}
+use Rattle.coloured.proofs.Readied.{most-room}
+use Rattle.unfolding.proofs.Marking.{blank-words}
+use Prim.Native.Nat.{ℕ, _<_}
+use borrow.Fn.Kinds.{In}
+use borrow.Fn.PlainCycle.{Measures, is, falls, and}
+use Rattle.unfolding.proofs.call.write_large.Reads as write-large
+use Rattle.unfolding.proofs.call.write_large.Kinds as write-large-kinds
+use Rattle.unfolding.proofs.call.+write_large.Lts-write_large as write-large-lts
+use Rattle.unfolding.proofs.call.write_with.Reads as write-with-reads
+use Rattle.unfolding.proofs.call.+write_large.{statement}
+use Rattle.unfolding.proofs.call.+write_large.Tie.{close}
+
+abbrev μ-write-large : Measures 8 write-large-kinds.ps ℕ
+μ-write-large κs a = if a .1 .1 .1 .1 .1 .1 .1 .1 .1 .1 .0 then 1 else 0
+
+abbrev write-large-at : ℕ → In 8 write-large-kinds.ps
+write-large-at t =
+    and 8 write-large-kinds.ps (is 8 write-large-kinds.ps μ-write-large t) write-large.Pre
+
+abbrev write-large-below : ℕ → In 8 write-large-kinds.ps
+write-large-below t =
+    and 8 write-large-kinds.ps (falls 8 write-large-kinds.ps _<_ μ-write-large t) write-large.Pre
+
+pub +write-large-spec : {M : Type 1} → statement M
++write-large-spec = close μ-write-large λ t. write-large-lts.spec (
+  write-large-below t,
+  write-large.Post,
+  write-with-reads.Asked,
+  write-with-reads.Learnt,
+)
+    (write-large-at t)
+    write-large.Post
+    (λ c κs. (rw (← c .before .before .before .before .before .before .before .before .pre .0, c .before .if2 .taken) (omega arith), search needs))
+    (λ c. search needs)
+    (λ c. search needs)
+    (λ c. search needs)
+    (λ c. search needs)
+    (λ c κs. ((c .before .before .before .before .before .before .before .before .before .before .pre .1 .0 .0, c .before .before .before .before .before .before .before .before .before .before .pre .1 .0 .1, c .before .before .before .before .before .before .before .before .before .before .pre .1 .0 .2, (λ n read. omega (arith, most-room (c .before .before .before .before .before .before .before .before .before .before .args .s .now) n read)), (λ n read. omega (arith, most-room (c .before .before .before .before .before .before .before .before .before .before .args .s .now) n read)), search needs, blank-words 2048), c .before .before .before .before .before .before .before .before .before .before .pre .1 .1))
+    (λ c. search needs)
+    (λ c. search needs)
