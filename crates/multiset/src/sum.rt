@@ -1,4 +1,5 @@
-// The terms of a sum of counts, 0x42 with nothing but 0x42 and 0x40 inside, operand after operand: no operand is a step of a recursion.
+// A short way for the commonest sums, 0x42 with nothing but 0x42 and 0x40 inside: their counts one after the other. The recursion of terms.rt
+// lists every expression, and takes over where something else stands inside; both give the same counts.
 // Nothing is asked of the bytes: where operands stand there, what comes out is theirs.
 use crate::merge::insert;
 use crate::merge::merge;
