@@ -180,7 +180,8 @@ fn edges_table() -> Vec<String> {
     let mut out: Vec<String> = [0x20, 0x30, 0x31, 0x41].map(|byte| format!("net passes: level 16 at {byte:#04X}")).to_vec();
     out.extend([0x40, 0x41, 0x42, 0x43, 0x44].map(|byte| format!("net passes: ceiling 65,535 at {byte:#04X}")));
     let net = "16384 bytes; 16 sets; 32 variables; 32 places; 32 transitions; 4096 colours; 65536 bindings; a set of 1; a set of 64; 4 variables;
-        a pair place; nothing but the ends";
+        a pair place; nothing but the ends; a sum of 16 counts; a sum of 17 counts; a sum of more than 32 counts; something else among 17 counts or more;
+        every colour less one";
     out.extend(net.split(';').map(|line| format!("net passes: {}", line.trim())));
     out.extend(["4096 places", "65536 rows", "nothing but the ends"].map(|line| format!("flat passes: {line}")));
     out
@@ -538,12 +539,31 @@ fn edges(case: &Case) -> Vec<String> {
     edge(places == 4096, "4096 colours");
     edge(bindings == 65536, "65536 bindings");
     edge(crate::cases::lists::transitions_of(file).iter().any(|used| used.len() == 4), "4 variables");
+    for pair in w.steps.windows(2).filter(|pair| matches!(pair[0].byte, 0x16..=0x18)) {
+        let (counts, others, _) = operands(file, pair[1].at);
+        edge(counts == 16 && others == 0, "a sum of 16 counts");
+        edge(counts == 17 && others == 0, "a sum of 17 counts");
+        edge(counts > 32 && others == 0, "a sum of more than 32 counts");
+        edge(counts > 16 && others > 0, "something else among 17 counts or more");
+        edge(pair[1].byte == 0x43 && file[pair[1].at + 1] == 0x41 && file[pair[1].at + 4] == 0x40, "every colour less one");
+    }
     for step in &w.steps {
         edge(step.level == DEEPEST, &format!("level 16 at {:#04X}", step.byte));
         let full = step.need == Need::Term && ceiling(file, step.at).0 == 65535;
         edge(full, &format!("ceiling 65,535 at {:#04X}", step.byte));
     }
     out
+}
+
+/// How many operands of a sum are counts of one colour or pair, how many are something else, and where the next expression starts.
+fn operands(file: &[u8], at: usize) -> (usize, usize, usize) {
+    if file[at] == 0x42 {
+        let (counts, others, middle) = operands(file, at + 1);
+        let (more, strange, next) = operands(file, middle);
+        return (counts + more, others + strange, next);
+    }
+    let count = (file[at] == 0x40) as usize;
+    (count, 1 - count, ceiling(file, at).1)
 }
 
 /// The ceiling of the arc expression at a place, and where the next one starts.

@@ -491,10 +491,27 @@ fn longest(dice: &mut Dice, length: usize) -> Vec<u8> {
     file
 }
 
+/// A net whose take is a sum of so many counts, one of them something else where it shall be strange, and whose put is every colour less one.
+fn summed(dice: &mut Dice, scale: Scale, count: usize, strange: bool) -> Vec<u8> {
+    let (lean, at) = (dice.below(3), if strange { dice.below(count) } else { count });
+    let mut maker = Maker::new(dice, vec![], scale);
+    (maker.sets, maker.variables, maker.places) = (vec![3, 7], vec![0, 1], vec![vec![0], vec![0, 1]]);
+    maker.head();
+    maker.out.extend([0x14, 0x16, 1]);
+    maker.operands(1, 1, &[0, 1], (0..count, lean, at));
+    maker.out.extend([0x17, 0]);
+    maker.all_but_one(0, &[0, 1]);
+    maker.tokens();
+    [maker.out, vec![0x1F]].concat()
+}
+
 /// Shapes at the limits that pass.
 fn limits(out: &mut Vec<FileAim>) {
     for broken in 4..=11 {
         aim(out, false, 0, move |dice, scale| Maker::new(dice, vec![broken], scale).net());
+    }
+    for (count, strange) in [(16, false), (17, false), (40, false), (40, true)] {
+        aim(out, false, 0, move |dice, scale| summed(dice, scale, count, strange));
     }
     aim(out, false, 0, |_, _| RICH.to_vec());
     aim(out, true, 0, |_, _| RICH_FLAT.to_vec());

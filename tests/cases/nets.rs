@@ -165,7 +165,54 @@ impl<'a> Maker<'a> {
         let most = self.dice.among(&[3, 3, 3, 9, 65535]);
         let shown = if self.slip(5) { self.places.len() } else { place };
         self.out.extend([kind, shown as u8]);
-        self.term(place, 1, pool, most);
+        match self.dice.below(100) {
+            0..=9 if self.out.len() < 3000 => self.sum(place, pool),
+            10..=13 => self.all_but_one(place, pool),
+            _ => self.term(place, 1, pool, most),
+        }
+    }
+
+    /// A sum of many counts, nested evenly or to one side; now and then one of them is something else.
+    fn sum(&mut self, place: usize, pool: &[usize]) {
+        let count = self.dice.among(if self.small || self.deep { &[2, 3, 5, 16, 17, 33] } else { &[2, 4, 9, 16, 17, 32, 33, 64, 65, 130, 300] });
+        let lean = self.dice.below(3);
+        let strange = if self.dice.percent(30) { self.dice.below(count) } else { count };
+        self.operands(place, 1, pool, (0..count, lean, strange));
+    }
+
+    /// These operands of a sum, each of a ceiling of at most 2.
+    pub fn operands(&mut self, place: usize, level: usize, pool: &[usize], (these, lean, strange): (std::ops::Range<usize>, usize, usize)) {
+        if these.len() == 1 && these.start == strange {
+            let byte = self.dice.among(&[0x41, 0x44]);
+            self.out.extend([byte, 1, 0]);
+            return if byte == 0x44 { self.term(place, level + 1, pool, 2) };
+        }
+        if these.len() == 1 {
+            let number = self.dice.among(&[0, 1, 1, 2]);
+            return self.count(place, level, pool, number);
+        }
+        let even = lean == 0 || level + these.len() > 13;
+        let middle = if even { these.start + these.len() / 2 } else if lean == 1 { these.start + 1 } else { these.end - 1 };
+        self.out.push(0x42);
+        self.operands(place, level + 1, pool, (these.start..middle, lean, strange));
+        self.operands(place, level + 1, pool, (middle..these.end, lean, strange));
+    }
+
+    /// Every colour less one.
+    pub fn all_but_one(&mut self, place: usize, pool: &[usize]) {
+        self.out.extend([0x43, 0x41]);
+        let (all, one) = (self.dice.among(&[0, 1, 1, 2, 3]), self.dice.among(&[0, 1, 1, 2, 3]));
+        self.word(all);
+        self.count(place, 2, pool, one);
+    }
+
+    /// A count of one colour or pair.
+    fn count(&mut self, place: usize, level: usize, pool: &[usize], number: usize) {
+        self.out.push(0x40);
+        self.word(number);
+        for set in self.places[place].clone() {
+            self.colour(set, level + 1, pool);
+        }
     }
 
     /// Whether an expression at this level shall hold another one.
@@ -231,11 +278,7 @@ impl<'a> Maker<'a> {
             self.out.push(0x41);
             return self.word(count);
         }
-        self.out.push(0x40);
-        self.word(count);
-        for set in self.places[place].clone() {
-            self.colour(set, level + 1, pool);
-        }
+        self.count(place, level, pool, count);
     }
 
     fn nested_term(&mut self, place: usize, level: usize, pool: &[usize], most: usize) {
