@@ -81,7 +81,7 @@ pub enum Part {
 }
 
 // The set part: the sizes go into the front of a lent list of 16.
-pub fn read_sets(s: &[u8], sizes: &mut [u8], start: usize) -> Part
+fn read_sets(s: &[u8], sizes: &mut [u8], start: usize) -> Part
     requires { ⌜ length (now sizes) ≡ 16 ⌝ }
     ensures few { λ r. ⌜ Few 16 r ⌝ }
     ensures is { λ r. ⌜ setsRead (now (sizes .exit)) r ≡ whole (now (s .entry)) (setPart (now (s .entry))) [] start ⌝ }
@@ -132,7 +132,7 @@ fn variable_at(s: &[u8], sets: &[u8], count: usize, at: usize) -> SetStep
 }
 
 // The variable part: each variable's set goes into the front of a lent list of 32.
-pub fn read_variables(s: &[u8], sets: &[u8], vars: &mut [u8], start: usize) -> Part
+fn read_variables(s: &[u8], sets: &[u8], vars: &mut [u8], start: usize) -> Part
     requires { ⌜ length (now vars) ≡ 32 ⌝ }
     ensures few { λ r. ⌜ Few 32 r ⌝ }
     ensures is { λ r. ⌜ setsRead (now (vars .exit)) r ≡ whole (now (s .entry)) (variablePart (now (s .entry)) (net (now (sets .entry)) [] [] [] [])) [] start ⌝ }
@@ -254,7 +254,7 @@ fn two_sets(s: &[u8], sets: &[u8], count: usize, total: usize, at: usize) -> Pla
 }
 
 // The place command at a place, after so many places with so many colours together.
-pub fn place_at(s: &[u8], sets: &[u8], count: usize, total: usize, at: usize) -> PlaceStep
+fn place_at(s: &[u8], sets: &[u8], count: usize, total: usize, at: usize) -> PlaceStep
     requires { ⌜ total ≤ 4096 ⌝ }
     ensures is { λ r. ⌜ ((variables : List ℕ) (places : List Place) → length places ≡ count
         → sum (map (coloursOf (net (now (sets .entry)) variables [] [] [])) places) ≡ total
