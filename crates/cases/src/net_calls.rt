@@ -36,15 +36,15 @@ pub fn images_case() {
 }
 
 fn images(file: &[u8], orders: &[u8], out: &mut [u8]) {
-    match unfolding::images(file, orders, out) {
-        unfolding::ImagesReply::Answered { count } => say_line(b"answered ", count),
-        unfolding::ImagesReply::Refused { number, place } => say_refused(number, place),
+    match images::images(file, orders, out) {
+        images::ImagesReply::Answered { count } => say_line(b"answered ", count),
+        images::ImagesReply::Refused { number, place } => say_refused(number, place),
     }
     say_bytes(b"output", out);
 }
 
 // An order's six bytes, after its name.
-fn say_order(name: &[u8], o: coloured::Order) {
+fn say_order(name: &[u8], o: bindings::Order) {
     say(name);
     say(b"96 ");
     say_number(o.transition as u64);
@@ -62,13 +62,13 @@ pub fn order_case() {
     let mut file = [0u8; 131072];
     let n = read_bytes(&mut file);
     let row = read_row();
-    match unfolding::row_order(&file[..n], row) {
-        unfolding::OrderReply::Found { order } => {
+    match images::row_order(&file[..n], row) {
+        images::OrderReply::Found { order } => {
             say_order(b"order ", order);
             say(b"\n");
         }
-        unfolding::OrderReply::NoRow => say(b"none\n"),
-        unfolding::OrderReply::Refused { number, place } => say_refused(number, place),
+        images::OrderReply::NoRow => say(b"none\n"),
+        images::OrderReply::Refused { number, place } => say_refused(number, place),
     }
 }
 

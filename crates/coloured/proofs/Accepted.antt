@@ -5,8 +5,9 @@ use Rattle.reading.specs.Basics.{ℕ, List, [], length, getD, take}
 use Rattle.reading.specs.Reading.{refused}
 use Rattle.net.specs.Net.{Net, net, flatPlaceCount, inTransition}
 use Rattle.net.specs.Told.{bits}
-use Rattle.net_file.specs.Parts.{readNet}
-use Rattle.net_file.specs.Tables.{Started, TransitionsHold}
+use Rattle.net_parts.specs.Parts.{readNet}
+use Rattle.net_parts.specs.Tables.{Started}
+use Rattle.net_transitions.specs.Transitions.{TransitionsHold}
 use Rattle.net_file.specs.Limits.{Limits}
 use Rattle.net_file.specs.Formed.{Formed}
 use Rattle.net_file.specs.Held.{NetHolds, NetHeld, NetTold}
@@ -14,11 +15,11 @@ use Rattle.net_file.specs.declared.file.NetRead.{NetRead}
 use Rattle.net_file.specs.declared.file.NetRead.the-variants.{Whole, Refused}
 use Rattle.net_file.proofs.Limits.{limits}
 use Rattle.net_file.proofs.Formed.{formed}
-use Rattle.coloured.specs.Effect.{transitionAt}
-use Rattle.coloured.specs.Packed.{shapeIn, Packed}
-use Rattle.coloured.specs.Own.{Owned}
+use Rattle.bindings.specs.Effect.{transitionAt}
+use Rattle.rows.specs.Packed.{shapeIn, Packed}
+use Rattle.bindings.specs.Own.{Owned}
 use Rattle.coloured.specs.Ready.{Ready}
-use Rattle.coloured.proofs.Tabled.{drawing}
+use Rattle.rows.proofs.Tabled.{drawing}
 
 module _ (s sizes vars firsts seconds starts uses guards arcs initial : List ℕ) where
   -- what was read

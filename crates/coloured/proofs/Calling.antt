@@ -10,16 +10,16 @@ use Rattle.firing.proofs.Running as running
 use Rattle.firing.proofs.Running.{called}
 use Rattle.net.specs.Net.{Net, flatPlaceCount, sizesOf, inTransition}
 use Rattle.net.specs.Told.{bits}
-use Rattle.net_file.specs.Parts.{readNet}
-use Rattle.coloured.specs.Effect.{transitionAt, bindings}
-use Rattle.coloured.specs.Orders.{orderOf, fireOrder, fireOrders, firstOrder}
-use Rattle.coloured.specs.Numbers.{digits, those, sizesOver, Coloured}
-use Rattle.coloured.specs.Loading.{binding}
-use Rattle.coloured.specs.Ready.{Ready, numbered, searchTold, SearchWithin, bytesOf}
-use Rattle.coloured.specs.declared.order.Order.{Order}
+use Rattle.net_parts.specs.Parts.{readNet}
+use Rattle.bindings.specs.Effect.{transitionAt, bindings}
+use Rattle.bindings.specs.Orders.{orderOf, fireOrder, fireOrders, firstOrder}
+use Rattle.bindings.specs.Numbers.{digits, those, sizesOver, Coloured}
+use Rattle.bindings.specs.Bound.{binding, numbered, bytesOf}
+use Rattle.coloured.specs.Ready.{Ready, searchTold, SearchWithin}
+use Rattle.bindings.specs.declared.order.Order.{Order}
 use Rattle.coloured.specs.declared.engine.Searched.{Searched}
 use Rattle.coloured.specs.declared.engine.Searched.the-variants as searched
-use Rattle.coloured.proofs.Ordering.{limits-coloured, transition-sizes}
+use Rattle.bindings.proofs.Ordering.{limits-coloured, transition-sizes}
 use Rattle.coloured.proofs.Readied.{limited}
 
 -- ---- refused files

@@ -10,17 +10,17 @@ use Rattle.firing.specs.Arcs.{Proper, arcsIn, rowIn, weights}
 use Rattle.firing.specs.Steps.{lacking, Within, EndsWithin}
 use Rattle.firing.specs.declared.Ends.{Ends}
 use Rattle.net.specs.Net.{Net, flatPlaceCount}
-use Rattle.net_file.specs.Parts.{readNet}
+use Rattle.net_parts.specs.Parts.{readNet}
 use Rattle.net_file.specs.Limits.{Limits}
 use Rattle.net_file.proofs.Limits.{limits, short}
-use Rattle.coloured.specs.Effect.{Binding, transitionAt}
-use Rattle.coloured.specs.Drawing.{rowSlots, greatest, room, TakesLoaded, RowLoaded}
-use Rattle.coloured.specs.Loading.{TakesTold}
+use Rattle.bindings.specs.Effect.{Binding, transitionAt}
+use Rattle.rows.specs.Drawing.{rowSlots, greatest, room, TakesLoaded, RowLoaded}
+use Rattle.rows.specs.Loading.{TakesTold}
 use Rattle.coloured.specs.Ready.{Ready, fireBinding}
-use Rattle.coloured.specs.declared.effect.Takes.{Takes}
-use Rattle.coloured.specs.declared.effect.Takes.the-variants as takes
-use Rattle.coloured.proofs.Needing.{room-low}
-use Rattle.coloured.proofs.Effects.{loaded-answer, loaded-fired, takes-lack, none-lacks}
+use Rattle.rows.specs.declared.effect.Takes.{Takes}
+use Rattle.rows.specs.declared.effect.Takes.the-variants as takes
+use Rattle.rows.proofs.Needing.{room-low}
+use Rattle.rows.proofs.Effects.{loaded-answer, loaded-fired, takes-lack, none-lacks}
 
 -- lists of 20,480 slots have the room for every net
 pub most-room : (s : List ℕ) (n : Net) → readNet s ≡ accepted n → room s n ≤ 20480

@@ -10,12 +10,13 @@ use Rattle.firing.specs.Firing.{First, found, nothing, first}
 use Rattle.firing.specs.Loops.{stoppedAt}
 use Rattle.firing.proofs.Running.{Searching, search-begin, search-none, Tried, Stretch, stretch, stopped-in, stopped-out}
 use Rattle.net.specs.Net.{Net, sizesOf}
-use Rattle.coloured.specs.Effect.{transitionAt, bindings}
-use Rattle.coloured.specs.Orders.{orderOf, fireOrder}
-use Rattle.coloured.specs.Numbers.{before}
-use Rattle.coloured.specs.Ready.{Ready, numbered, fireBinding}
-use Rattle.coloured.proofs.Named.{order-names}
-use Rattle.coloured.proofs.Digits.{bindings-at, before-next, before-all}
+use Rattle.bindings.specs.Effect.{transitionAt, bindings}
+use Rattle.bindings.specs.Orders.{orderOf, fireOrder}
+use Rattle.bindings.specs.Numbers.{before}
+use Rattle.coloured.specs.Ready.{Ready, fireBinding}
+use Rattle.bindings.specs.Bound.{numbered}
+use Rattle.bindings.proofs.Named.{order-names}
+use Rattle.bindings.proofs.Digits.{bindings-at, before-next, before-all}
 use Rattle.coloured.proofs.Readied.{limited}
 use Rattle.coloured.proofs.Turning.{names}
 

@@ -7,13 +7,13 @@ use Rattle.reading.specs.Basics.{ℕ, _+_, _*_, Bool, true, false, not, List, n
 use Rattle.firing.specs.Firing.{fired}
 use Rattle.net.specs.Net.{Net, sizesOf}
 use Rattle.net_file.specs.Limits.{Limits}
-use Rattle.coloured.specs.Effect.{Binding, transitionAt}
-use Rattle.coloured.specs.Orders.{fits, named, fireOrder}
-use Rattle.coloured.specs.Loading.{binding}
-use Rattle.coloured.specs.Own.{Owned}
+use Rattle.bindings.specs.Effect.{Binding, transitionAt}
+use Rattle.bindings.specs.Orders.{fits, named, fireOrder}
+use Rattle.bindings.specs.Bound.{binding}
+use Rattle.bindings.specs.Own.{Owned}
 use Rattle.coloured.specs.Ready.{Ready, fireBinding}
-use Rattle.coloured.proofs.Ordering.{named-other, named-past, named-unfit, named-fit, order-colours, order-byte}
-use Rattle.coloured.proofs.Effects.{not-true, not-false}
+use Rattle.bindings.proofs.Ordering.{named-other, named-past, named-unfit, named-fit, order-colours, order-byte}
+use Rattle.bindings.proofs.Clash.{not-true, not-false}
 use Rattle.coloured.proofs.Readied.{limited}
 
 -- by what an order names

@@ -5,15 +5,15 @@ use Rattle.reading.specs.Basics.{ℕ, _+_, List, [], _∷_, map, length, getD, 
 use Rattle.reading.specs.Reading.{accepted}
 use Rattle.firing.specs.Firing.{Fired, fired, fire, First, found, nothing, first}
 use Rattle.net.specs.Net.{Net, sizesOf, inTransition}
-use Rattle.net_file.specs.Parts.{readNet}
+use Rattle.net_parts.specs.Parts.{readNet}
 use Rattle.net.specs.Told.{bits}
-use Rattle.coloured.specs.Effect.{Binding, transitionAt, bindings, effect}
-use Rattle.coloured.specs.Orders.{orderOf, fireOrder}
-use Rattle.coloured.specs.Numbers.{digits}
-use Rattle.coloured.specs.Drawing.{Drawing}
-use Rattle.coloured.specs.Loading.{binding}
-use Rattle.coloured.specs.Own.{Owned}
-use Rattle.coloured.specs.declared.order.Order.{Order}
+use Rattle.bindings.specs.Effect.{Binding, transitionAt, bindings, effect}
+use Rattle.bindings.specs.Orders.{orderOf, fireOrder}
+use Rattle.bindings.specs.Numbers.{digits}
+use Rattle.rows.specs.Drawing.{Drawing}
+use Rattle.bindings.specs.Bound.{numbered}
+use Rattle.bindings.specs.Own.{Owned}
+use Rattle.bindings.specs.declared.order.Order.{Order}
 use Rattle.coloured.specs.declared.engine.Searched.{Searched}
 use Rattle.coloured.specs.declared.engine.Searched.the-variants as searched
 
@@ -25,17 +25,9 @@ pub record Ready (s : List ℕ) (n : Net) (sizes vars own uses guards arcs : Lis
   pub used : (t : ℕ) → t < length (n .transitions) → getD uses t 0 ≡ bits (λ v. inTransition v (transitionAt n t)) 32
   pub transitions-are : length (n .transitions) ≡ transitions
 
--- binding number i of a transition
-abbrev pub numbered : Net → ℕ → ℕ → Binding
-numbered n t i = binding t (digits (sizesOf n (transitionAt n t)) i)
-
 -- a binding fired on the drawing: 2 where it has no effect
 abbrev pub fireBinding : Net → Binding → List ℕ → Fired
 fireBinding n b m = given (effect n b) (fired 2 m) λ w. fire w m
-
--- an order's bytes
-abbrev pub bytesOf : Order → List ℕ
-bytesOf o = 0x60 ∷ o .transition ∷ o .first ∷ o .second ∷ o .third ∷ o .fourth ∷ []
 
 -- the search among all orders: where it stopped
 abbrev pub searchTold : Net → Searched → First (List ℕ)

@@ -3,7 +3,7 @@ use Rattle.reading.specs.Basics.{ℕ, List}
 use Rattle.reading.specs.Reading.{Outcome, accepted, refused}
 use Rattle.firing.specs.Firing.{First, found, nothing}
 use Rattle.firing.specs.Calls.{FireCall}
-use Rattle.coloured.specs.Ready.{bytesOf}
+use Rattle.bindings.specs.Bound.{bytesOf}
 use Rattle.coloured.specs.declared.FireReply.{FireReply}
 use Rattle.coloured.specs.declared.FireReply.the-variants as fire-reply
 use Rattle.coloured.specs.declared.FirstReply.{FirstReply}

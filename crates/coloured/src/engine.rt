@@ -1,14 +1,14 @@
 // Firing bindings, and the search for the first that fires.
-use crate::effect::Takes;
-use crate::effect::load_rest;
-use crate::effect::load_takes;
-use crate::own::bind_order;
-use crate::own::next_binding;
-use crate::own::space_of;
+use bindings::bind_order;
+use bindings::next_binding;
+use bindings::space_of;
 use firing::answer_rest;
 use firing::fire_rest;
 use firing::some_lacks;
 use reading::byte_at;
+use rows::Takes;
+use rows::load_rest;
+use rows::load_takes;
 ghost use mathlib.Core.Path.{_≡_};
 ghost use Prim.Native.Nat.{ℕ, _<_, _+_, _*_, _/_, _≤_};
 ghost use mathlib.Core.List.{List, map};
@@ -18,18 +18,11 @@ ghost use Rattle.reading.specs.Basics.{items, product, below};
 ghost use Rattle.firing.specs.Firing.{fired, first};
 ghost use Rattle.firing.specs.Loops.{Ran, stoppedAt};
 ghost use Rattle.net.specs.Net.{Net, flatPlaceCount, sizesOf};
-ghost use Rattle.coloured.specs.Effect.{transitionAt, bindings};
-ghost use Rattle.coloured.specs.Orders.{fireOrder, orderOf};
-ghost use Rattle.coloured.specs.Drawing.{room, Drawing, Binds};
-ghost use Rattle.coloured.specs.Loading.{binding};
-ghost use Rattle.coloured.specs.Ready.{Ready, numbered, fireBinding, searchTold, SearchWithin};
-
-// A transition's variables, or none past the end.
-pub fn uses_at(uses: &[u32], t: usize) -> u32
-    ensures { λ r. ⌜ r ≡ getD (now (uses .entry)) t 0 ⌝ }
-{
-    if t < uses.len() { uses[t] } else { 0 }
-}
+ghost use Rattle.bindings.specs.Effect.{transitionAt, bindings};
+ghost use Rattle.bindings.specs.Orders.{fireOrder, orderOf};
+ghost use Rattle.rows.specs.Drawing.{room, Drawing};
+ghost use Rattle.bindings.specs.Bound.{Binds, binding, numbered};
+ghost use Rattle.coloured.specs.Ready.{Ready, fireBinding, searchTold, SearchWithin};
 
 // Fires a binding of a transition, whose colours env has. Its takes tell the answer 3 before its puts and hinders are loaded.
 fn fire_bound(

@@ -1,7 +1,6 @@
 // The public calls for C and Rust; include/kwezirambo.h declares them. Each returns a code, and numbers through `first`, `second` and
-// `third`. Code 0 is a refusal: its number and its place. specs/Codes.antt says what code, numbers and lent lists are for each call.
+// `third`. Code 0 is a refusal: its number and its place. Crate codes says, in specs/Codes.antt, what code, numbers and lent lists are for each call.
 mod flat_calls;
-mod give;
 mod net_calls;
 mod unfold_calls;
 

@@ -1,11 +1,12 @@
 // The calls on net files: sizes, and firing on the drawing.
-use crate::give::give;
-use crate::give::order_bytes;
+use codes::give_first_order;
+use codes::give_net_sizes;
+use codes::give_orders_fired;
 ghost use mathlib.Core.Path.{_≡_};
 ghost use Rattle.reading.specs.Basics.{[], _∷_};
 ghost use Rattle.net_file.specs.Calls.{netSizes};
-ghost use Rattle.coloured.specs.Orders.{fireOrders, firstOrder};
-ghost use Rattle.exports.specs.Codes.{returned, fireCode, firstOrderCode, netCode};
+ghost use Rattle.bindings.specs.Orders.{fireOrders, firstOrder};
+ghost use Rattle.codes.specs.Codes.{returned, fireCode, firstOrderCode, netCode};
 
 // Reads a net file. Code 1: how many flat places, transitions and bindings it has.
 #[no_mangle]
@@ -17,20 +18,7 @@ pub extern "C" fn kwz_net_sizes(
 ) -> u8
     ensures { λ r. ⌜ returned r (now (first .exit) ∷ now (second .exit) ∷ now (third .exit) ∷ []) [] ≡ netCode (netSizes (now (net .entry))) ⌝ }
 {
-    match net_file::net_sizes(net) {
-        net_file::NetReply::Counted {
-            places,
-            transitions,
-            bindings,
-        } => {
-            *third = bindings;
-            give(1, places, transitions, first, second)
-        }
-        net_file::NetReply::Refused { number, place } => {
-            *third = 0;
-            give(0, number as usize, place, first, second)
-        }
-    }
+    give_net_sizes(net_file::net_sizes(net), first, second, third)
 }
 
 // Fires a list of orders on the drawing. Code 1: how many were answered.
@@ -46,16 +34,11 @@ pub extern "C" fn kwz_fire_orders(
     ensures { λ r. ⌜ returned r (now (first .exit) ∷ now (second .exit) ∷ []) (now (marking .exit) ∷ now (answers .exit) ∷ [])
         ≡ fireCode (fireOrders (now (net .entry)) (now (marking .entry)) (now (orders .entry)) (now (answers .entry))) ⌝ }
 {
-    match coloured::fire_orders(net, marking, orders, answers) {
-        coloured::FireReply::Answered { count } => give(1, count, 0, first, second),
-        coloured::FireReply::Refused { number, place } => give(
-            0,
-            number as usize,
-            place,
-            first,
-            second,
-        ),
-    }
+    give_orders_fired(
+        coloured::fire_orders(net, marking, orders, answers),
+        first,
+        second,
+    )
 }
 
 // The first order that would fire. Code 1: the order, and how many were tried. Code 2: none, and how many were tried.
@@ -70,21 +53,5 @@ pub extern "C" fn kwz_first_order(
     ensures { λ r. ⌜ returned r (now (first .exit) ∷ now (second .exit) ∷ []) (now (order .exit) ∷ [])
         ≡ firstOrderCode (now (order .entry)) (firstOrder (now (net .entry)) (now (marking .entry))) ⌝ }
 {
-    match coloured::first_order(net, marking) {
-        coloured::FirstReply::Found {
-            order: found,
-            tried,
-        } => {
-            *order = order_bytes(found);
-            give(1, tried, 0, first, second)
-        }
-        coloured::FirstReply::Nothing { tried } => give(2, tried, 0, first, second),
-        coloured::FirstReply::Refused { number, place } => give(
-            0,
-            number as usize,
-            place,
-            first,
-            second,
-        ),
-    }
+    give_first_order(coloured::first_order(net, marking), order, first, second)
 }

@@ -1,10 +1,11 @@
 // The calls from the drawing to the flat net and back.
-use crate::give::give;
-use crate::give::order_bytes;
+use codes::give_images;
+use codes::give_row_order;
+use codes::give_unfolded;
 ghost use mathlib.Core.Path.{_≡_};
 ghost use Rattle.reading.specs.Basics.{[], _∷_};
-ghost use Rattle.unfolding.specs.Unfolding.{imagesCall, orderCall, unfoldCall};
-ghost use Rattle.exports.specs.Codes.{returned, rowOrderCode, writeCode};
+ghost use Rattle.row_numbers.specs.Unfolding.{imagesCall, orderCall, unfoldCall};
+ghost use Rattle.codes.specs.Codes.{returned, rowOrderCode, writeCode};
 
 // Unfolds a net file into a flat file. Code 1: its length.
 #[no_mangle]
@@ -17,16 +18,7 @@ pub extern "C" fn kwz_unfold(
     ensures { λ r. ⌜ returned r (now (first .exit) ∷ now (second .exit) ∷ []) (now (flat .exit) ∷ [])
         ≡ writeCode (unfoldCall (now (net .entry)) (now (flat .entry))) ⌝ }
 {
-    match unfolding::unfold(net, flat) {
-        unfolding::UnfoldReply::Written { length } => give(1, length, 0, first, second),
-        unfolding::UnfoldReply::Refused { number, place } => give(
-            0,
-            number as usize,
-            place,
-            first,
-            second,
-        ),
-    }
+    give_unfolded(unfolding::unfold(net, flat), first, second)
 }
 
 // Writes the images of a list of orders. Code 1: how many were answered.
@@ -41,16 +33,7 @@ pub extern "C" fn kwz_images(
     ensures { λ r. ⌜ returned r (now (first .exit) ∷ now (second .exit) ∷ []) (now (images .exit) ∷ [])
         ≡ writeCode (imagesCall (now (net .entry)) (now (orders .entry)) (now (images .entry))) ⌝ }
 {
-    match unfolding::images(net, orders, images) {
-        unfolding::ImagesReply::Answered { count } => give(1, count, 0, first, second),
-        unfolding::ImagesReply::Refused { number, place } => give(
-            0,
-            number as usize,
-            place,
-            first,
-            second,
-        ),
-    }
+    give_images(images::images(net, orders, images), first, second)
 }
 
 // The order of a row. Code 1: it is written. Code 2: there is no such row.
@@ -65,18 +48,5 @@ pub extern "C" fn kwz_row_order(
     ensures { λ r. ⌜ returned r (now (first .exit) ∷ now (second .exit) ∷ []) (now (order .exit) ∷ [])
         ≡ rowOrderCode (now (order .entry)) (orderCall (now (net .entry)) row) ⌝ }
 {
-    match unfolding::row_order(net, row) {
-        unfolding::OrderReply::Found { order: found } => {
-            *order = order_bytes(found);
-            give(1, 0, 0, first, second)
-        }
-        unfolding::OrderReply::NoRow => give(2, 0, 0, first, second),
-        unfolding::OrderReply::Refused { number, place } => give(
-            0,
-            number as usize,
-            place,
-            first,
-            second,
-        ),
-    }
+    give_row_order(images::row_order(net, row), order, first, second)
 }

@@ -8,10 +8,10 @@ use Rattle.firing.specs.Firing.{First, found, nothing, first}
 use Rattle.firing.specs.Loops.{Ran, stoppedAt}
 use Rattle.firing.proofs.Running as running
 use Rattle.firing.proofs.Running.{called, stopped-in, stopped-out}
-use Rattle.flat.specs.Flat.{Flat, readFlat, fireRow, fireImage, flatSizes, fireImages, firstRow}
-use Rattle.flat.specs.Told.{mostRows, Held, Scanned}
-use Rattle.flat.specs.declared.reader.Scan.{Scan}
-use Rattle.flat.specs.declared.reader.Scan.the-variants.{Net, Refused}
+use Rattle.flat_file.specs.Flat.{Flat, readFlat, fireRow, fireImage, flatSizes, fireImages, firstRow}
+use Rattle.flat_file.specs.Told.{mostRows, Held, Scanned}
+use Rattle.flat_file.specs.declared.reader.Scan.{Scan}
+use Rattle.flat_file.specs.declared.reader.Scan.the-variants.{Net, Refused}
 
 -- how often a function that calls itself again may still do so
 abbrev pub calls : Bool → ℕ

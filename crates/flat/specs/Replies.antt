@@ -3,7 +3,7 @@ use Rattle.reading.specs.Basics.{ℕ, List}
 use Rattle.reading.specs.Reading.{Outcome, accepted, refused}
 use Rattle.firing.specs.Firing.{First, found, nothing}
 use Rattle.firing.specs.Calls.{FireCall}
-use Rattle.flat.specs.Flat.{Sizes}
+use Rattle.flat_file.specs.Flat.{Sizes}
 use Rattle.flat.specs.declared.FireReply.{FireReply}
 use Rattle.flat.specs.declared.FireReply.the-variants as fire-reply
 use Rattle.flat.specs.declared.FirstReply.{FirstReply}

@@ -1,11 +1,9 @@
 // Flat nets: how many places and rows a flat file has, firing images on it, and its first row that fires.
-mod reader;
-
 use firing::answer;
 use firing::move_row;
-use reader::Scan;
-use reader::load_arcs;
-use reader::scan_file;
+use flat_file::Scan;
+use flat_file::load_arcs;
+use flat_file::scan_file;
 use reading::byte_at;
 use reading::long_at;
 ghost use mathlib.Core.Path.{_≡_};
@@ -18,8 +16,8 @@ ghost use Rattle.firing.specs.Firing.{fire, fired, first};
 ghost use Rattle.firing.specs.Loops.{Ran, stoppedAt};
 ghost use Rattle.firing.specs.Arcs as arcs;
 ghost use Rattle.firing.specs.Arcs.{Row};
-ghost use Rattle.flat.specs.Flat.{Flat, fireRow, fireImage, fireImages, firstRow, flatSizes};
-ghost use Rattle.flat.specs.Told.{mostRows, mostArcs, ArcsStand, RowsStand, Held, arcsAt};
+ghost use Rattle.flat_file.specs.Flat.{Flat, fireRow, fireImage, fireImages, firstRow, flatSizes};
+ghost use Rattle.flat_file.specs.Told.{mostRows, mostArcs, ArcsStand, RowsStand, Held, arcsAt};
 ghost use Rattle.flat.specs.Replies.{fireCalled, firstReply, sizesReply};
 
 // How many flat places and rows a flat file has, or the refusal.

@@ -1,17 +1,17 @@
 // The arcs of an arc expression under a binding, appended to two lent lists, one of places and one of weights.
-use crate::merge::slot;
-use crate::sum::sum_terms;
-use crate::terms::list_terms;
 use net::eval_rank;
 use reading::byte_at;
 use reading::word_at;
+use runs::slot;
+use sums::list_terms;
+use sums::sum_terms;
 ghost use mathlib.Core.Path.{_≡_};
 ghost use mathlib.Core.Bool.{true, false};
 ghost use Prim.Native.Nat.{ℕ, _≤_, _<_, _+_};
 ghost use lib.ListN.{length, getD};
 ghost use Rattle.reading.specs.Basics.{byteAt};
-ghost use Rattle.multiset.specs.Terms.{Appended};
-ghost use Rattle.multiset.specs.Loaded.{oneArc, rankArcs, TermsLoaded, ArcLoaded};
+ghost use Rattle.runs.specs.Terms.{Appended};
+ghost use Rattle.sums.specs.Loaded.{oneArc, rankArcs, TermsLoaded, ArcLoaded};
 
 // Stores an arc after so many, if its weight is above 0: how many there are then. Past the end it stores nothing.
 pub fn append(

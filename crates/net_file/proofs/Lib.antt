@@ -1,17 +1,8 @@
 pub mod Places
-pub mod Totals
 pub mod Limits
 pub mod Trees
 pub mod Formed
 pub mod Ranges
-pub mod Spaces
-pub mod Placing
-pub mod Clearing
-pub mod Tokening
-pub mod Arcing
-pub mod Closing
-pub mod Transitioning
-pub mod Passing
 pub mod Whole
 pub mod Examples
 pub mod ReadAlike

@@ -9,15 +9,16 @@ use Rattle.reading.proofs.Commands.{end, other, passes, done, fails, needed-pas
 use Rattle.reading.specs.Reading.{Answer, fine, fault, _andThen_, outcome, accepted, refused, _unless_, checked, command, needed, whole, file}
 use Rattle.net.specs.Net.{Place, single, Transition, Tokens, Net, net, variablesOf, bindingSpace}
 use Rattle.net.specs.Reader.{widthOf}
-use Rattle.net_file.specs.Parts.{setPart, variablePart, placePart, transitionPart, tokensPart, content, readNet}
+use Rattle.net_parts.specs.Parts.{setPart, variablePart, placePart, transitionPart, tokensPart, content, readNet}
 use Rattle.net.specs.Told.{placeOf}
-use Rattle.net_file.specs.Tables.{placesOf, Started, over, TokensRead, TokensTold, TransitionsRead}
-use Rattle.net_file.specs.declared.Part.{Part}
-use Rattle.net_file.specs.declared.Part.the-variants as part
+use Rattle.net_parts.specs.Tables.{placesOf, Started, TokensRead, TokensTold}
+use Rattle.net_transitions.specs.Transitions.{over, TransitionsRead}
+use Rattle.net_parts.specs.declared.Part.{Part}
+use Rattle.net_parts.specs.declared.Part.the-variants as part
 use Rattle.net_file.specs.Held.{opened, closed, NetHolds}
 use Rattle.net.proofs.Shut.{commands}
 use Rattle.net.proofs.Answers.{checked-goes, checked-stops}
-use Rattle.net_file.proofs.Arcing.{place-at}
+use Rattle.net_transitions.proofs.Arcing.{place-at}
 
 -- ---- part after part
 -- what the reading of a file comes down to: what is left of its content, and the last command

@@ -2,7 +2,7 @@
 use Rattle.reading.specs.Basics.{ℕ, List, length}
 use Rattle.reading.specs.Reading.{Outcome, accepted, refused, on}
 use Rattle.net.specs.Net.{Net, flatPlaceCount, bindingSpace}
-use Rattle.net_file.specs.Parts.{readNet}
+use Rattle.net_parts.specs.Parts.{readNet}
 use Rattle.net_file.specs.declared.sizes.NetReply.{NetReply}
 use Rattle.net_file.specs.declared.sizes.NetReply.the-variants as net-reply
 

@@ -4,11 +4,12 @@ use Prim.Native.Nat.{_≤_, _<_}
 use Rattle.reading.specs.Basics.{ℕ, List, [], _∷_, length, getD, take, eqb, byteAt}
 use Rattle.reading.specs.Reading.{Answer, fine, fault, _andThen_, accepted, refused, _unless_, checked, command, needed}
 use Rattle.net.specs.Net.{Net, net, placeAt, bindingSpace}
-use Rattle.net_file.specs.Parts.{readNet}
+use Rattle.net_parts.specs.Parts.{readNet}
 use Rattle.net.specs.Told.{placeOf}
-use Rattle.net_file.specs.Tables.{placesOf, Started, Holds, countOf, TransitionsHold}
-use Rattle.net_file.specs.declared.Part.{Part}
-use Rattle.net_file.specs.declared.Part.the-variants as part
+use Rattle.net_parts.specs.Tables.{placesOf, Started, Holds, countOf}
+use Rattle.net_transitions.specs.Transitions.{TransitionsHold}
+use Rattle.net_parts.specs.declared.Part.{Part}
+use Rattle.net_parts.specs.declared.Part.the-variants as part
 use Rattle.net_file.specs.declared.file.NetRead.{NetRead}
 use Rattle.net_file.specs.declared.file.NetRead.the-variants as net-read
 

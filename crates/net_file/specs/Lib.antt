@@ -1,8 +1,5 @@
-pub mod Parts
-pub mod Steps
 pub mod Heads
 pub mod Limits
-pub mod Tables
 pub mod Formed
 pub mod Held
 pub mod Examples

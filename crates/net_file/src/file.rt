@@ -1,18 +1,18 @@
 // The whole net file, part after part, into lent tables.
-use crate::Part;
-use crate::place::read_places;
-use crate::read_sets;
-use crate::read_variables;
-use crate::token::read_tokens;
-use crate::transitions::read_transitions;
 use net::after;
+use net_parts::Part;
+use net_parts::read_places;
+use net_parts::read_sets;
+use net_parts::read_tokens;
+use net_parts::read_variables;
+use net_transitions::read_transitions;
 ghost use mathlib.Core.Path.{_≡_};
 ghost use Prim.Native.Nat.{ℕ};
 ghost use lib.ListN.{length};
 ghost use Rattle.reading.specs.Reading.{Answer};
 ghost use Rattle.net.specs.Net.{Net};
-ghost use Rattle.net_file.specs.declared.Part.the-variants as part;
-ghost use Rattle.net_file.specs.Steps.{Bare};
+ghost use Rattle.net_parts.specs.declared.Part.the-variants as part;
+ghost use Rattle.net_parts.specs.Steps.{Bare};
 ghost use Rattle.net_file.specs.Held.{opened, openTold, closed, closeTold, refusal, NetTold};
 
 // A part that ends at a fault.

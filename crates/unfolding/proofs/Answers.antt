@@ -8,18 +8,18 @@ use Rattle.reading.specs.Basics.{ℕ, Bool, true, false, List, [], _∷_, map, 
 use Rattle.reading.proofs.Lists.{All, end, also, in-all, at-map, below-at, getD-at}
 use Rattle.reading.proofs.Items.{items-joined, of-six}
 use Rattle.firing.specs.Firing.{Weights, fired, lacks, hindered, moved, spills, fire, run}
-use Rattle.firing.specs.Arcs.{row, weights}
+use Rattle.firing.specs.Arcs.{row, weights, rowOf}
 use Rattle.firing.proofs.Agree.{fire-same, fire-length}
-use Rattle.flat.specs.Flat.{fireRow, fireImage}
+use Rattle.flat_file.specs.Flat.{fireRow, fireImage}
 use Rattle.net.specs.Net.{Net, flatPlaceCount}
 use Rattle.net_file.specs.Limits.{Limits}
-use Rattle.coloured.specs.Effect.{Binding, effect}
-use Rattle.coloured.specs.Orders.{named, fireOrder}
-use Rattle.firing.specs.Arcs.{rowOf}
-use Rattle.unfolding.specs.Unfolding.{Rowed, rows, unfolded, rowNumber, image, images}
+use Rattle.bindings.specs.Effect.{Binding, effect}
+use Rattle.bindings.specs.Orders.{named, fireOrder}
+use Rattle.row_numbers.specs.Unfolding.{Rowed, rows, unfolded, rowNumber, image, images}
 use Rattle.unfolding.specs.Demand3.{Marking, asRow, ListsAgree}
 use Rattle.firing.proofs.Weighted.{row-agrees}
-use Rattle.unfolding.proofs.Rows.{Stands, without, within, noRow, rows-few, stands}
+use Rattle.unfolding.proofs.Standing.{Stands, without, within, stands}
+use Rattle.row_numbers.proofs.Rows.{noRow, rows-few}
 
 -- an image carries its number
 pub image-back : (i : ℕ) → longAt (image i) 1 ≡ i

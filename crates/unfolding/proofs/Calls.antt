@@ -10,13 +10,13 @@ use Rattle.reading.proofs.Lists.{length-from, map-map}
 use Rattle.reading.proofs.Keeps.{held}
 use Rattle.firing.specs.Firing.{Fired, run, ending}
 use Rattle.firing.specs.Calls.{FireCall, fireChecks, fireCall}
-use Rattle.flat.specs.Flat.{fireImage, fireImages}
+use Rattle.flat_file.specs.Flat.{fireImage, fireImages}
 use Rattle.net.specs.Net.{Net, flatPlaceCount}
-use Rattle.net_file.specs.Parts.{readNet}
+use Rattle.net_parts.specs.Parts.{readNet}
 use Rattle.net_file.specs.Limits.{Limits}
 use Rattle.net_file.proofs.Limits.{limits}
-use Rattle.coloured.specs.Orders.{fireOrder, fireOrders}
-use Rattle.unfolding.specs.Unfolding.{unfolded, flatFile, rowNumber, image, images, WriteCall, writing, unfoldCall, imagesCall}
+use Rattle.bindings.specs.Orders.{fireOrder, fireOrders}
+use Rattle.row_numbers.specs.Unfolding.{unfolded, flatFile, rowNumber, image, images, WriteCall, writing, unfoldCall, imagesCall}
 use Rattle.unfolding.specs.Demand3.{twoAsOne, asRow, asRows, FireCallsAgree}
 use Rattle.unfolding.proofs.Answers.{lists-agree}
 use Rattle.unfolding.proofs.Likeness.{place-count, alike}

@@ -5,9 +5,9 @@ use native.Mathlib.Omega.{arith}
 use borrow.Author.Tests.{lt-ltb, le-ltb}
 use lib.ListN.{length-append}
 use Rattle.reading.specs.Basics.{ℕ, zero, suc, _+_, _-_, _/_, _%_, List, [], _∷_, _++_, length, Bool, true, false, ltb, if_then_else_}
-use Rattle.unfolding.specs.Unfolding.{decimal, line}
-use Rattle.unfolding.specs.Out.{Appended}
-use Rattle.unfolding.proofs.Appending.{append-none, append-then}
+use Rattle.row_numbers.specs.Unfolding.{decimal, line}
+use Rattle.flat_file.specs.Out.{Appended}
+use Rattle.flat_file.proofs.Appending.{append-none, append-then}
 
 -- the last digit
 abbrev pub digit : ℕ → List ℕ

@@ -8,16 +8,16 @@ use Rattle.reading.specs.Reading.{accepted, refused, on, _unless_, failing}
 use Rattle.reading.proofs.Lists.{In, here, there}
 use Rattle.firing.specs.Firing.{Weights, Fired, First, found, nothing, oneMore, first}
 use Rattle.firing.specs.Calls.{firstCall}
-use Rattle.flat.specs.Flat.{Flat, readFlat, fireRow, fireImage, firstRow}
+use Rattle.flat_file.specs.Flat.{Flat, readFlat, fireRow, fireImage, firstRow}
 use Rattle.net.specs.Net.{Net, flatPlaceCount}
-use Rattle.net_file.specs.Parts.{readNet}
+use Rattle.net_parts.specs.Parts.{readNet}
 use Rattle.net_file.proofs.Limits.{limits}
-use Rattle.coloured.specs.Effect.{Binding, bindings, effect}
-use Rattle.coloured.specs.Orders.{orderOf, fireOrder, firstOrder}
-use Rattle.coloured.proofs.Named.{order-names}
-use Rattle.unfolding.specs.Unfolding.{Rowed, rows, unfolded, flatFile, orderOfRow, image, unfoldCall, orderCall}
+use Rattle.bindings.specs.Effect.{Binding, bindings, effect}
+use Rattle.bindings.specs.Orders.{orderOf, fireOrder, firstOrder}
+use Rattle.bindings.proofs.Named.{order-names}
+use Rattle.row_numbers.specs.Unfolding.{Rowed, rows, unfolded, flatFile, orderOfRow, image, unfoldCall, orderCall}
 use Rattle.unfolding.specs.Demand3.{Marking, FirstAlike, both-found, both-nothing, both-refused, FirstCallsAgree}
-use Rattle.unfolding.proofs.Rows.{rowed, rowedIf, rowed-is}
+use Rattle.row_numbers.proofs.Rows.{rowed, rowedIf, rowed-is}
 use Rattle.unfolding.proofs.Answers.{image-back, row-fires}
 use Rattle.unfolding.proofs.Likeness.{place-count, row-count, alike}
 use Rattle.unfolding.proofs.Calls.{writing-went, front}

@@ -9,11 +9,11 @@ use lib.Seq.{take-suc, take-length}
 use Rattle.reading.specs.Basics.{ℕ, zero, suc, _+_, List, [], _∷_, _++_, map, flatMap, length, getD, take, given, with, numbersFrom, below, sum}
 use Rattle.reading.proofs.Lists.{map-map, map-same, of-from}
 use Rattle.net.specs.Net.{Net, coloursOf, placeAt, flatPlaceCount, tokensOn}
-use Rattle.net_file.proofs.Spaces.{below-next}
-use Rattle.coloured.specs.Effect.{FlatPlace, flatPlaces}
-use Rattle.coloured.specs.Drawing.{startOf}
-use Rattle.coloured.proofs.Split.{flat-append, start-next, start-low}
-use Rattle.unfolding.specs.Unfolding.{unfolded, initialAt}
+use Rattle.net_transitions.proofs.Spaces.{below-next}
+use Rattle.bindings.specs.Effect.{FlatPlace, flatPlaces}
+use Rattle.rows.specs.Drawing.{startOf}
+use Rattle.rows.proofs.Split.{flat-append, start-next, start-low}
+use Rattle.row_numbers.specs.Unfolding.{unfolded, initialAt}
 
 -- so many elements more
 take-on : (l : List ℕ) (a c : ℕ) → a + c ≤ length l → take (a + c) l ≡ take a l ++ map (λ r. getD l (a + r) 0) (below c)

@@ -7,21 +7,21 @@ use lib.ListN.{length-map}
 use Rattle.reading.specs.Basics.{ℕ, Bool, true, false, List, [], _∷_, map, flatMap, Option, none, some, Option·map, length, getD, getElem?, ltb, eqb, if_then_else_, given, items, longAt}
 use Rattle.reading.proofs.Lists.{All, end, also, all-in, in-all, at-below, below-at, at-map, all-map, getD-at, map-flat, flatMap-same, every-in, in-every}
 use Rattle.reading.proofs.Items.{items-joined, of-six, joined-sixes}
-use Rattle.firing.specs.Arcs.{row}
-use Rattle.flat.specs.Flat.{fireImage}
-use Rattle.flat.specs.Flat as flat
-use Rattle.flat.proofs.RoundTrip.{round-trip}
+use Rattle.firing.specs.Arcs.{row, rowOf}
+use Rattle.flat_file.specs.Flat.{fireImage}
+use Rattle.flat_file.specs.Flat as flat
+use Rattle.flat_file.proofs.RoundTrip.{round-trip}
 use Rattle.net.specs.Net.{Net, flatPlaceCount}
 use Rattle.net_file.specs.Limits.{Limits}
 use Rattle.net_file.proofs.Limits.{limits}
-use Rattle.coloured.specs.Effect.{flatPlaces}
-use Rattle.coloured.specs.Orders.{fireOrder}
-use Rattle.coloured.proofs.FlatPlaces.{flat-places}
-use Rattle.firing.specs.Arcs.{rowOf}
-use Rattle.unfolding.specs.Unfolding.{Rowed, rows, initialAt, unfolded, rowNumber, orderOfRow, image, images}
+use Rattle.bindings.specs.Effect.{flatPlaces}
+use Rattle.bindings.specs.Orders.{fireOrder}
+use Rattle.rows.proofs.FlatPlaces.{flat-places}
+use Rattle.row_numbers.specs.Unfolding.{Rowed, rows, initialAt, unfolded, rowNumber, orderOfRow, image, images}
 use Rattle.unfolding.specs.Demand3.{Orders, guardHolds, RowsHaveOrders, WayBack, SomeFires, Alike, Demand3}
 use Rattle.firing.proofs.Weighted.{row-proper}
-use Rattle.unfolding.proofs.Rows.{Stands, without, within, rows-few, stands, row-order, number-of-order, order-of-number}
+use Rattle.unfolding.proofs.Standing.{Stands, without, within, stands}
+use Rattle.row_numbers.proofs.Rows.{rows-few, row-order, number-of-order, order-of-number}
 use Rattle.unfolding.proofs.Answers.{image-back, order-answered, row-fires, lists-agree}
 
 -- ---- the flat net keeps to the flat file's limits

@@ -7,29 +7,29 @@ use lib.ListN.{length-append}
 use lib.Seq.{length-take-le}
 use Rattle.reading.specs.Basics.{ℕ, _+_, _*_, _/_, Bool, true, false, not, List, [], _∷_, _++_, flatMap, length, getD, take, leb, below, over}
 use Rattle.reading.specs.Reading.{Outcome, accepted, refused, failing}
-use Rattle.flat.specs.Flat.{rowBytes, writeFlat}
-use Rattle.flat.proofs.Written.{placeBytes, length-places}
+use Rattle.flat_file.specs.Flat.{rowBytes, writeFlat}
+use Rattle.flat_file.proofs.Written.{placeBytes, length-places}
 use Rattle.net.specs.Net.{Net, inTransition}
 use Rattle.net.specs.Told.{bits}
-use Rattle.net_file.specs.Parts.{readNet}
+use Rattle.net_parts.specs.Parts.{readNet}
 use Rattle.net_file.specs.Held.{NetHeld}
 use Rattle.net_file.specs.Limits.{Limits}
 use Rattle.net_file.specs.Formed.{Formed}
-use Rattle.coloured.specs.Effect.{transitionAt}
-use Rattle.coloured.specs.Packed.{shapeIn, Packed}
-use Rattle.coloured.specs.Own.{Owned}
-use Rattle.coloured.specs.Slots.{NetSlotted}
+use Rattle.bindings.specs.Effect.{transitionAt}
+use Rattle.rows.specs.Packed.{shapeIn, Packed}
+use Rattle.bindings.specs.Own.{Owned}
+use Rattle.rows.specs.Slots.{NetSlotted}
 use Rattle.coloured.proofs.Accepted.{ready}
-use Rattle.coloured.proofs.Effects.{not-true, not-false}
+use Rattle.bindings.proofs.Clash.{not-true, not-false}
 use Rattle.coloured.proofs.Readied.{small-room}
-use Rattle.unfolding.specs.Unfolding.{unfolded, flatFile, WriteCall, unfoldCall, line, program}
-use Rattle.unfolding.specs.Walked.{Tables}
-use Rattle.unfolding.specs.Pieces.{transitionBytes, Ruled, Small, Tabled}
-use Rattle.unfolding.specs.Marks.{Marked, Counted}
-use Rattle.unfolding.specs.Out.{Appended}
-use Rattle.unfolding.proofs.Appending.{append-then, append-all, append-count, front}
+use Rattle.row_numbers.specs.Unfolding.{unfolded, flatFile, WriteCall, unfoldCall, line, program}
+use Rattle.row_numbers.specs.Walked.{Tables}
+use Rattle.row_bytes.specs.Pieces.{transitionBytes, Ruled, Small, Tabled}
+use Rattle.row_numbers.specs.Marks.{Marked, Counted}
+use Rattle.flat_file.specs.Out.{Appended}
+use Rattle.flat_file.proofs.Appending.{append-then, append-all, append-count, front}
 use Rattle.unfolding.proofs.Decimals.{line-length}
-use Rattle.unfolding.proofs.Pieces.{rows-bytes, tables-ready}
+use Rattle.row_bytes.proofs.Pieces.{rows-bytes, tables-ready}
 use Rattle.unfolding.proofs.Initial.{initial-counted}
 
 -- ---- the call

@@ -4,15 +4,15 @@ use Rattle.reading.specs.Basics.{ℕ, List, [], _∷_, _++_, map, flatMap, filt
 use Rattle.reading.specs.Reading.{accepted, refused, on, failing, obey, standing, needed, repeat, file}
 use Rattle.firing.specs.Firing.{fire, run, ending, First, found, nothing, first}
 use Rattle.firing.specs.Calls.{fireCall, firstCall}
-use Rattle.flat.specs.Flat.{writeFlat}
+use Rattle.flat_file.specs.Flat.{writeFlat}
 use Rattle.net.specs.Net.{constant, Expression, one, all, minus, net, setOf, ceiling, inColour, inGuard, inExpression, variablesOf, bindingSpace}
 use Rattle.net_file.specs.Examples.{twoGauges}
 use Rattle.net.specs.Reader.{widthOf, readColour, readGuard, readExpression, readGuardIf}
-use Rattle.net_file.specs.Parts.{setPart, variablePart, placePart, arcPart, transitionPart, tokensPart, readNet}
+use Rattle.net_parts.specs.Parts.{setPart, variablePart, placePart, arcPart, transitionPart, tokensPart, readNet}
 use Rattle.net.specs.Values.{colour, holds, weight}
-use Rattle.coloured.specs.Effect.{choices, bindings, standsFor, flatPlaces, effect}
-use Rattle.coloured.specs.Orders.{fits, named, fireOrder, fireOrders, firstOrder}
-use Rattle.unfolding.specs.Unfolding.{rows, unfolded, rowNumber, image, images, imagesCall, decimal, program}
+use Rattle.bindings.specs.Effect.{choices, bindings, standsFor, flatPlaces, effect}
+use Rattle.bindings.specs.Orders.{fits, named, fireOrder, fireOrders, firstOrder}
+use Rattle.row_numbers.specs.Unfolding.{rows, unfolded, rowNumber, image, images, imagesCall, decimal, program}
 
 pub data Case : Type 0 where
   unfolds : (net flat : List ℕ) → Case

@@ -5,12 +5,12 @@ use Rattle.reading.specs.Basics.{Bool, true, false, List, map, flatMap, some, �
 use Rattle.reading.specs.Reading.{Outcome, accepted, refused, on}
 use Rattle.firing.specs.Firing.{Fired, fired, run, First, found, nothing}
 use Rattle.firing.specs.Calls.{FireCall}
-use Rattle.flat.specs.Flat.{Flat, readFlat, fireImage, fireImages, firstRow}
+use Rattle.flat_file.specs.Flat.{Flat, readFlat, fireImage, fireImages, firstRow}
 use Rattle.net.specs.Net.{Net, flatPlaceCount}
-use Rattle.net_file.specs.Parts.{readNet}
-use Rattle.coloured.specs.Effect.{effect}
-use Rattle.coloured.specs.Orders.{named, fireOrder, fireOrders, firstOrder}
-use Rattle.unfolding.specs.Unfolding.{unfolded, flatFile, rowNumber, orderOfRow, image, images, unfoldCall, imagesCall, orderCall}
+use Rattle.net_parts.specs.Parts.{readNet}
+use Rattle.bindings.specs.Effect.{effect}
+use Rattle.bindings.specs.Orders.{named, fireOrder, fireOrders, firstOrder}
+use Rattle.row_numbers.specs.Unfolding.{unfolded, flatFile, rowNumber, orderOfRow, image, images, unfoldCall, imagesCall, orderCall}
 
 -- a marking of a net: one count for each flat place
 abbrev pub Marking : Net → List ℕ → Type 0

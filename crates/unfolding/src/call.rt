@@ -1,22 +1,23 @@
 // The call that unfolds a net file into a flat file.
-use crate::body::mark_all;
-use crate::body::write_all;
-use crate::fit::fits;
-use crate::write::write_end;
-use crate::write::write_head;
-use crate::write::write_places;
+use bindings::list_variables;
 use coloured::is_small;
-use coloured::list_variables;
-use coloured::most_slots;
-use coloured::pack_arcs;
+use flat_file::write_end;
+use flat_file::write_head;
+use flat_file::write_places;
 use net_file::NetRead;
 use net_file::read_net;
+use row_bytes::fits;
+use row_bytes::write_all;
+use row_numbers::front;
+use row_numbers::mark_all;
+use rows::most_slots;
+use rows::pack_arcs;
 ghost use mathlib.Core.Path.{_≡_};
 ghost use Prim.Native.Nat.{_≤_, _+_, _*_, _/_};
-ghost use lib.ListN.{length, take};
-ghost use Rattle.unfolding.specs.Unfolding.{unfoldCall};
-ghost use Rattle.unfolding.specs.Marks.{Blank};
-ghost use Rattle.unfolding.specs.Pieces.{Roomy, Small, Tabled};
+ghost use lib.ListN.{length};
+ghost use Rattle.row_numbers.specs.Unfolding.{unfoldCall};
+ghost use Rattle.row_numbers.specs.Marks.{Blank};
+ghost use Rattle.row_bytes.specs.Pieces.{Roomy, Small, Tabled};
 ghost use Rattle.unfolding.specs.Replies.{unfoldCalled};
 
 // The flat file's length in bytes, or why it was not written.
@@ -225,13 +226,6 @@ fn write_file(
         out,
         true,
     )
-}
-
-// The first `n` of a list; all of it where there are fewer.
-pub fn front(l: &[u8], n: usize) -> &[u8]
-    ensures { λ r. ⌜ now r ≡ take n (now (l .entry)) ⌝ }
-{
-    if n <= l.len() { &l[..n] } else { l }
 }
 
 // Unfolds a net file: the flat file over the front of `out`, and its length; a refusal changes nothing.

@@ -5,7 +5,7 @@ use crate::text::write_line;
 ghost use mathlib.Core.Path.{_≡_};
 ghost use Prim.Native.Nat.{_≤_};
 ghost use lib.ListN.{length, take};
-ghost use Rattle.unfolding.specs.Unfolding.{program};
+ghost use Rattle.row_numbers.specs.Unfolding.{program};
 
 // The flat file of a net file, or the line of its refusal; it gives the number of bytes.
 pub fn write_reply(net: &[u8], out: &mut [u8]) -> usize

@@ -1,13 +1,13 @@
 // Writes the program's line for a refusal into a lent buffer.
-use crate::write::put_byte;
-use crate::write::put_bytes;
+use flat_file::put_byte;
+use flat_file::put_bytes;
 ghost use mathlib.Core.Path.{_≡_};
 ghost use mathlib.Core.List.{[], _∷_};
 ghost use Prim.Native.Nat.{_+_, _%_, _≤_};
 ghost use lib.ListN.{length};
 ghost use Rattle.reading.specs.Basics.{over};
-ghost use Rattle.unfolding.specs.Unfolding.{decimal, line};
-ghost use Rattle.unfolding.specs.Out.{Appended};
+ghost use Rattle.row_numbers.specs.Unfolding.{decimal, line};
+ghost use Rattle.flat_file.specs.Out.{Appended};
 
 // The last digit of a number.
 fn put_digit(n: usize, out: &mut [u8], at: usize) -> usize

@@ -1,8 +1,8 @@
 use borrow.Author.Needs.{needs}
 use native.Mathlib.Omega.{arith}
 use denote.Ref.{now}
-use Rattle.coloured.specs.Loading.{binding}
-use Rattle.coloured.proofs.Needing.{row-room}
+use Rattle.bindings.specs.Bound.{binding}
+use Rattle.rows.proofs.Needing.{row-room}
 use Rattle.coloured.proofs.Readied.{the-takes, none-fires, lack-fires, row-fires}
 use Rattle.coloured.proofs.engine.fire_bound.Statement.{statement}
 use Rattle.coloured.proofs.engine.fire_bound.Tie as tie

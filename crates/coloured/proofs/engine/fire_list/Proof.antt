@@ -6,8 +6,8 @@ use Prim.Native.Nat.{ℕ, _≤_, _<_}
 use Rattle.reading.specs.Basics.{List, _-_, length, items}
 use Rattle.firing.proofs.Running.{Running, run-begin, run-item, run-items-end}
 use Rattle.net.specs.Net.{Net, flatPlaceCount}
-use Rattle.coloured.specs.Orders.{fireOrder}
-use Rattle.coloured.specs.Drawing.{room}
+use Rattle.bindings.specs.Orders.{fireOrder}
+use Rattle.rows.specs.Drawing.{room}
 use Rattle.coloured.specs.Ready.{Ready}
 use Rattle.coloured.proofs.engine.fire_list.Statement.{statement}
 use Rattle.coloured.proofs.engine.fire_list.Tie as tie

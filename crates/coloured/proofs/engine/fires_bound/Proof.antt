@@ -3,8 +3,8 @@ use native.Mathlib.Omega.{arith}
 use denote.Ref.{now}
 use mathlib.Core.Path.{ap}
 use lib.Dec.{eqb}
-use Rattle.coloured.specs.Loading.{binding}
-use Rattle.coloured.proofs.Needing.{row-room}
+use Rattle.bindings.specs.Bound.{binding}
+use Rattle.rows.proofs.Needing.{row-room}
 use Rattle.coloured.proofs.Readied.{the-takes, none-fires, lack-fires, row-answers}
 use Rattle.coloured.proofs.engine.fires_bound.Statement.{statement}
 use Rattle.coloured.proofs.engine.fires_bound.Tie as tie

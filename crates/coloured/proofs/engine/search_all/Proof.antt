@@ -5,7 +5,7 @@ use mathlib.Core.Path.{_≡_, refl}
 use Prim.Native.Nat.{ℕ, _≤_, _<_}
 use Rattle.reading.specs.Basics.{List, _-_, _*_, length}
 use Rattle.net.specs.Net.{Net, flatPlaceCount}
-use Rattle.coloured.specs.Drawing.{room}
+use Rattle.rows.specs.Drawing.{room}
 use Rattle.coloured.specs.Ready.{Ready}
 use Rattle.coloured.proofs.Readied.{limited}
 use Rattle.coloured.proofs.Searching.{Seeking, seek-begin, seek-found, seek-next, seek-none}

@@ -6,10 +6,11 @@ use Rattle.reading.specs.Basics.{List, _-_, length, eqb, below, product}
 use Rattle.firing.proofs.Running.{Searching, search-begin, below-step, below-found, below-none, stopped-in, stopped-out}
 use Rattle.net.specs.Net.{Net, flatPlaceCount, sizesOf}
 use Rattle.net_file.proofs.Formed.{formed}
-use Rattle.coloured.specs.Effect.{transitionAt}
-use Rattle.coloured.specs.Drawing.{room, Binds}
-use Rattle.coloured.specs.Ready.{Ready, numbered, fireBinding}
-use Rattle.coloured.proofs.Owning.{first-binds}
+use Rattle.bindings.specs.Effect.{transitionAt}
+use Rattle.rows.specs.Drawing.{room}
+use Rattle.bindings.specs.Bound.{Binds, numbered}
+use Rattle.coloured.specs.Ready.{Ready, fireBinding}
+use Rattle.bindings.proofs.Owning.{first-binds}
 use Rattle.coloured.proofs.Readied.{limited}
 use Rattle.coloured.proofs.engine.search_bindings.Statement.{statement}
 use Rattle.coloured.proofs.engine.search_bindings.Tie as tie

@@ -5,7 +5,7 @@ use mathlib.Core.Path.{sym, _∙_}
 use Prim.Native.Nat.{_<_}
 use lib.ListN.{length}
 use Rattle.net_file.proofs.Formed.{formed}
-use Rattle.coloured.proofs.Effects.{not-false}
+use Rattle.bindings.proofs.Clash.{not-false}
 use Rattle.coloured.proofs.Readied.{limited}
 use Rattle.coloured.proofs.Turning.{turn-other, turn-past, turn-none, turn-at}
 use Rattle.coloured.proofs.engine.turn.Statement.{statement}

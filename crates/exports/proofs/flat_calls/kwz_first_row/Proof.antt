@@ -1,8 +1,6 @@
 use borrow.Author.Needs.{needs}
-use mathlib.Core.Path.{sym, ap, _∙_}
-use Rattle.reading.specs.Basics.{[], _∷_}
-use Rattle.flat.specs.Replies.{firstReply}
-use Rattle.exports.specs.Codes.{firstRowCode}
+use mathlib.Core.Path.{ap, _∙_}
+use Rattle.codes.specs.Codes.{firstRowCode}
 use Rattle.exports.proofs.flat_calls.kwz_first_row.Statement.{statement}
 use Rattle.exports.proofs.flat_calls.kwz_first_row.Tie as tie
 
@@ -11,13 +9,5 @@ kwz-first-row-spec =
     tie.close
     (tie.spec
     (λ c κs. search needs)
-    (λ c. search needs)
     (λ c κs. search needs)
-    (λ c. search needs)
-    (λ c κs. search needs)
-    (λ c. search needs)
-    (λ c. search needs)
-    (λ c κs. search needs)
-    (λ c. c .give .ensures [] [] ∙ ap (λ r. firstRowCode (firstReply r)) (sym (c .before .before .before .before .row .given .1)) ∙ ap firstRowCode (c .before .before .before .before .before .before .first-row .ensures))
-    (λ c. c .give2 .ensures [] [] ∙ ap (λ r. firstRowCode (firstReply r)) (sym (c .before .before .before .before .tried .given .1)) ∙ ap firstRowCode (c .before .before .before .before .before .before .first-row .ensures))
-    (λ c. c .give3 .ensures [] [] ∙ ap (λ r. firstRowCode (firstReply r)) (sym (c .before .before .before .before .number .given .1)) ∙ ap firstRowCode (c .before .before .before .before .before .before .first-row .ensures)))
+    (λ c. c .give-row .ensures ∙ ap firstRowCode (c .before .before .before .first-row .ensures)))

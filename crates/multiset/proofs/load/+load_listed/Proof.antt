@@ -9,7 +9,7 @@ use Rattle.net.specs.Net.{Place, Net, net}
 use Rattle.net.specs.Reader.{readExpression}
 use Rattle.net.specs.Evaluated.{placeBy}
 use Rattle.multiset.proofs.Counted.{listed-none, listed-loads}
-use Rattle.multiset.proofs.Summing.{listed-same, sum-listed, sum-over}
+use Rattle.sums.proofs.Summing.{listed-same, sum-listed, sum-over}
 use Prim.Native.Nat.{ℕ, _+_, _<_}
 use borrow.Fn.Kinds.{In}
 use borrow.Fn.PlainCycle.{Measures, is, falls, and}
@@ -17,8 +17,8 @@ use Rattle.multiset.proofs.load.load_listed.Reads as load-listed
 use Rattle.multiset.proofs.load.load_listed.Kinds as load-listed-kinds
 use Rattle.multiset.proofs.load.+load_listed.Lts-load_listed as load-listed-lts
 use Rattle.multiset.proofs.load.load_terms.Reads as load-terms-reads
-use Rattle.multiset.proofs.sum.sum_terms.Reads as sum-terms-reads
-use Rattle.multiset.proofs.terms.list_terms.Reads as list-terms-reads
+use Rattle.sums.proofs.sum_terms.Reads as sum-terms-reads
+use Rattle.sums.proofs.list_terms.Reads as list-terms-reads
 use Rattle.reading.proofs.byte_at.Reads as byte-at-reads
 use Rattle.multiset.proofs.load.+load_listed.{statement}
 use Rattle.multiset.proofs.load.+load_listed.Tie.{close}

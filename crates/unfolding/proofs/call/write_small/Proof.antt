@@ -1,6 +1,6 @@
 use borrow.Author.Needs.{needs}
 use native.Mathlib.Omega.{arith}
-use Rattle.unfolding.proofs.Marking.{blank-words}
+use Rattle.row_numbers.proofs.Marking.{blank-words}
 use Rattle.unfolding.proofs.call.write_small.Statement.{statement}
 use Rattle.unfolding.proofs.call.write_small.Tie as tie
 

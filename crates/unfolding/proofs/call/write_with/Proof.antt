@@ -1,6 +1,6 @@
 use borrow.Author.Needs.{needs}
 use native.Mathlib.Omega.{arith}
-use Rattle.unfolding.proofs.Appending.{next-places}
+use Rattle.flat_file.proofs.Appending.{next-places}
 use Rattle.unfolding.proofs.Unfolds.{file-written, has-space, call-short, call-whole, ruled-marked}
 use Rattle.unfolding.proofs.call.write_with.Statement.{statement}
 use Rattle.unfolding.proofs.call.write_with.Tie as tie

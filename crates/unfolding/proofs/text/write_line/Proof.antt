@@ -1,5 +1,5 @@
 use native.Mathlib.Omega.{arith}
-use Rattle.unfolding.proofs.Appending.{append-then, append-all, append-count}
+use Rattle.flat_file.proofs.Appending.{append-then, append-all, append-count}
 use Rattle.unfolding.proofs.Decimals.{next-decimal}
 use borrow.Author.Needs.{needs}
 use Rattle.unfolding.proofs.text.write_line.Statement.{statement}

@@ -1,0 +1,3 @@
+pub mod Imaging
+pub mod Replying
+pub mod Accepted

@@ -1,0 +1,4 @@
+pub mod Totals
+pub mod Placing
+pub mod Clearing
+pub mod Tokening

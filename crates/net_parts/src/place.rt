@@ -1,0 +1,70 @@
+// The place part: each place's sets and its first flat place go into lent tables.
+use crate::Part;
+use crate::PlaceStep;
+use crate::place_at;
+ghost use mathlib.Core.Path.{_≡_};
+ghost use mathlib.Core.List.{List, []};
+ghost use Prim.Native.Nat.{ℕ, _≤_, _<_};
+ghost use lib.ListN.{length};
+ghost use Rattle.reading.specs.Reading.{whole};
+ghost use Rattle.net.specs.Net.{net};
+ghost use Rattle.net_parts.specs.Parts.{placePart};
+ghost use Rattle.net_parts.specs.Tables.{placesRead, PlacesHeld};
+
+// The place part, over so many sets; its total is the colours of all places together.
+pub fn read_places(
+    s: &[u8],
+    sets: &[u8],
+    firsts: &mut [u8],
+    seconds: &mut [u8],
+    starts: &mut [usize],
+    start: usize,
+) -> Part
+    requires { ⌜ length (now sets) ≤ 16 ⌝ }
+    requires { ⌜ length (now firsts) ≡ 32 ⌝ }
+    requires { ⌜ length (now seconds) ≡ 32 ⌝ }
+    requires { ⌜ length (now starts) ≡ 33 ⌝ }
+    ensures is { λ r. ⌜ ((variables : List ℕ) → placesRead (now (firsts .exit)) (now (seconds .exit)) r
+        ≡ whole (now (s .entry)) (placePart (now (s .entry)) (net (now (sets .entry)) variables [] [] [])) [] start) ⌝ }
+    ensures held { λ r. ⌜ PlacesHeld (now (sets .entry)) (now (firsts .exit)) (now (seconds .exit)) (now (starts .exit)) r ⌝ }
+{
+    let mut count: usize = 0;
+    let mut total: usize = 0;
+    let mut at = start;
+    starts[0] = 0;
+    loop {
+        match place_at(s, sets, count, total, at) {
+            PlaceStep::Done => {
+                return Part::Whole(count, total, at);
+            }
+            PlaceStep::Stop { number, place } => {
+                return Part::Fault { number, place };
+            }
+            PlaceStep::One {
+                set,
+                total: more,
+                next,
+            } => {
+                firsts[count] = set;
+                seconds[count] = 255;
+                starts[count + 1] = more;
+                count += 1;
+                total = more;
+                at = next;
+            }
+            PlaceStep::Two {
+                first,
+                second,
+                total: more,
+                next,
+            } => {
+                firsts[count] = first;
+                seconds[count] = second;
+                starts[count + 1] = more;
+                count += 1;
+                total = more;
+                at = next;
+            }
+        }
+    }
+}

@@ -1,0 +1,126 @@
+// The tokens part: the initial count of each flat place goes into a lent table.
+use crate::Part;
+use crate::clear::clear_bytes;
+use crate::clear::clear_words;
+use net::after;
+use reading::word_at;
+ghost use mathlib.Core.Path.{_≡_};
+ghost use mathlib.Core.List.{List, []};
+ghost use Prim.Native.Nat.{ℕ, _≤_, _<_};
+ghost use lib.ListN.{length};
+ghost use Rattle.net.specs.Net.{Net, Tokens};
+ghost use Rattle.net_parts.specs.Parts.{tokensPart};
+ghost use Rattle.net_parts.specs.Steps.{Bare};
+ghost use Rattle.net_parts.specs.Tables.{Rising, Started, Holds, flag, tokenStep, TokenRoom, TokensTold};
+
+// One step of the tokens part: a place, a rank, their count, and the flat place that they are.
+pub enum TokenStep {
+    Done,
+    More {
+        place: usize,
+        rank: usize,
+        count: u16,
+        flat: usize,
+        next: usize,
+    },
+    Stop {
+        number: u8,
+        place: usize,
+    },
+}
+
+// A fault's number and place.
+fn stop(number: u8, place: usize) -> TokenStep
+    ensures { λ r. ⌜ r ≡ TokenStep.Stop number place ⌝ }
+{
+    TokenStep::Stop { number, place }
+}
+
+// The tokens command at a place; a flat place that has had its command is marked by 1.
+fn token_at(
+    s: &[u8],
+    starts: &[usize],
+    places: usize,
+    total: usize,
+    named: &[u8],
+    at: usize,
+) -> TokenStep
+    requires { ⌜ Rising (now starts) places total ⌝ }
+    requires { ⌜ total ≤ length (now named) ⌝ }
+    ensures is { λ r. ⌜ ((n : Net) (tokens : List Tokens) → Started n (n .places) (now (starts .entry)) places total
+        → Holds n tokens flag (now (starts .entry)) (now (named .entry)) → tokensPart (now (s .entry)) n tokens at ≡ tokenStep tokens r) ⌝ }
+    ensures room { λ r. ⌜ TokenRoom (now (starts .entry)) (now (named .entry)) (length (now (s .entry))) places at r ⌝ }
+{
+    if s.len() <= at {
+        return TokenStep::Done;
+    }
+    if s[at] == 0x19 {
+        let next = after(s, at);
+        if s.len() < next {
+            return stop(2, s.len());
+        }
+        let p = s[at + 1] as usize;
+        let rank = word_at(s, at + 2);
+        if places <= p {
+            return stop(5, at);
+        }
+        let flat = starts[p] + rank;
+        if starts[p + 1] <= flat {
+            return stop(5, at);
+        }
+        if 0 < named[flat] {
+            return stop(9, at);
+        }
+        return TokenStep::More {
+            place: p,
+            rank,
+            count: word_at(s, at + 4) as u16,
+            flat,
+            next,
+        };
+    }
+    TokenStep::Done
+}
+
+// The tokens part, over places whose flat places begin so; named is for the reading alone.
+pub fn read_tokens(
+    s: &[u8],
+    starts: &[usize],
+    places: usize,
+    total: usize,
+    initial: &mut [u16],
+    named: &mut [u8],
+    start: usize,
+) -> Part
+    requires { ⌜ Rising (now starts) places total ⌝ }
+    requires { ⌜ length (now initial) ≡ 4096 ⌝ }
+    requires { ⌜ length (now named) ≡ 4096 ⌝ }
+    ensures bare { λ r. ⌜ Bare r ⌝ }
+    ensures told { λ r. ⌜ ((n : Net) → Started n (n .places) (now (starts .entry)) places total
+        → TokensTold (now (s .entry)) n start (now (starts .entry)) (now (initial .exit)) r) ⌝ }
+{
+    clear_words(initial, total);
+    clear_bytes(named, total);
+    let mut at = start;
+    loop {
+        match token_at(s, starts, places, total, named, at) {
+            TokenStep::Done => {
+                return Part::Whole(0, 0, at);
+            }
+            TokenStep::Stop { number, place } => {
+                return Part::Fault { number, place };
+            }
+            TokenStep::More {
+                place: _,
+                rank: _,
+                count,
+                flat,
+                next,
+            } => {
+                initial[flat] = count;
+                named[flat] = 1;
+                at = next;
+            }
+        }
+    }
+}

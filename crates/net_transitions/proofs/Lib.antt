@@ -1,0 +1,5 @@
+pub mod Spaces
+pub mod Arcing
+pub mod Closing
+pub mod Transitioning
+pub mod Passing

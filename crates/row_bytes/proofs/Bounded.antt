@@ -1,0 +1,57 @@
+-- The bytes of the rows, where no row of a transition has more arcs than so many; and the loop that adds the bounds up. Assumes nothing.
+use mathlib.Core.Path.{refl}
+use Prim.Native.Nat.{_≤_, _<_}
+use native.Mathlib.Omega.{arith}
+use Rattle.reading.specs.Basics.{ℕ, _+_, _*_, List, flatMap, length, getD, below, product}
+use Rattle.firing.specs.Arcs.{rowOf}
+use Rattle.flat_file.proofs.Written.{length-row}
+use Rattle.net.specs.Net.{sizesOf, flatPlaceCount}
+use Rattle.bindings.specs.Effect.{transitionAt}
+use Rattle.rows.specs.Most.{MostRow}
+use Rattle.row_bytes.specs.Pieces.{transitionBytes, Ruled}
+use Rattle.row_numbers.specs.Walked.{entries}
+use Rattle.row_numbers.specs.Marks.{Counted}
+use Rattle.row_numbers.proofs.Marking.{marks-few, effects-most}
+use Rattle.row_bytes.proofs.Pieces.{Measuring, measure-begins, measure-goes, measure-ends, tables-ready}
+use Rattle.row_bytes.proofs.Steadied.{rows-told}
+
+-- ---- what the tables tell
+module _ {s sizes vars own guards arcs marks rows : List ℕ} {transitions : ℕ} (ruled : Ruled s sizes vars own guards arcs marks transitions) (counted : Counted (ruled .net) rows transitions)
+    {t : ℕ} (lt : t < transitions) where
+  -- a transition has few rows
+  pub rows-few : getD rows t 0 ≤ 65536
+  rows-few =
+      let many = product (sizesOf (ruled .net) (transitionAt (ruled .net) t)) in
+      omega (arith, counted .row t lt, effects-most (ruled .net) t many, marks-few (tables-ready (ruled .ready)) {many = many} {base = entries (ruled .net) guards t} lt refl refl)
+
+  -- and they take no more bytes than so many of the longest
+  pub transition-most : {most : ℕ} → MostRow s sizes vars arcs t most → length (transitionBytes (ruled .net) t) ≤ getD rows t 0 * (1 + 5 * most)
+  unfolding transitionBytes
+  transition-most told =
+      rw (counted .row t lt) (rows-told _≤_ (omega arith) (λ a b c d p q. omega arith) (ruled .net) t refl (λ i w inside e. omega (
+        arith,
+        length-row (rowOf (flatPlaceCount (ruled .net)) w),
+        told (ruled .net) guards (ruled .ready .read) (ruled .ready .drawing) (omega (arith, ruled .ready .transitions-are)) i w inside e,
+      )))
+
+-- ---- all of them
+-- a total that is no less than the lengths of the pieces so far
+pub record Bounding (f : ℕ → List ℕ) (many total i : ℕ) : Type 0 where
+  pub exact : ℕ
+  pub measured : Measuring f many 0 exact i
+  pub above : exact ≤ total
+
+module _ (f : ℕ → List ℕ) (many : ℕ) where
+  pub bound-begins : Bounding f many 0 0
+  bound-begins = record { exact = 0; measured = measure-begins f many 0; above = omega arith }
+
+  module _ {total i : ℕ} (here : Bounding f many total i) where
+    pub bound-goes : i < many → {more : ℕ} → length (f i) ≤ more → Bounding f many (total + more) (i + 1)
+    bound-goes h le = record {
+      exact = here .exact + length (f i);
+      measured = measure-goes f many 0 (here .measured) h refl;
+      above = omega (arith, here .above);
+    }
+
+    pub bound-ends : many ≤ i → length (flatMap f (below many)) ≤ total
+    bound-ends h = omega (arith, here .above, measure-ends f many 0 (here .measured) h)

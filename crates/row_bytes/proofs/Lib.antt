@@ -1,0 +1,3 @@
+pub mod Pieces
+pub mod Steadied
+pub mod Bounded

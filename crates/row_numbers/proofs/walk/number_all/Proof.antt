@@ -1,0 +1,70 @@
+use borrow.Author.Needs.{needs}
+use native.Mathlib.Omega.{arith}
+use mathlib.Core.Path.{_≡_, refl, _∙_}
+use mathlib.Core.List.{List}
+use mathlib.Core.Logic.{⊎-elim}
+use Prim.Native.Nat.{ℕ, _≤_, _*_, _-_}
+use lib.ListN.{length, length-set}
+use Rattle.net.specs.Net.{Net}
+use Rattle.row_numbers.specs.Walked.{entries, Tables}
+use Rattle.row_numbers.proofs.Tabled.{Numbered, number-begins, number-follows, number-goes, number-room, number-ends}
+use Rattle.row_numbers.proofs.walk.number_all.Statement.{statement}
+use Rattle.row_numbers.proofs.walk.number_all.Tie as tie
+
+abbrev Inv-loop : tie.InvT-loop
+Inv-loop s sizes vars own guards transitions starts₀ numbers₀ base₀ count₀ t₀ starts numbers base count t =
+    (t ≤ transitions) × (base ≤ t * 4228250625) × (count ≤ t * 4228250625) × (length starts ≡ length starts₀) × (length numbers ≡ length numbers₀)
+    × ((n : Net) (uses : List ℕ) → Tables s n sizes vars own uses guards transitions → entries n guards transitions ≤ length numbers₀ → Numbered n guards starts numbers t base count)
+
+abbrev μ-loop : tie.MeasureT-loop
+μ-loop s sizes vars own guards transitions starts₀ numbers₀ base₀ count₀ t₀ starts numbers base count t = transitions - t
+
+pub number-all-spec : {M : Type 1} → statement M
+number-all-spec =
+    tie.close
+    (tie.spec
+    Inv-loop
+    μ-loop
+    (λ c. (omega arith, omega arith, omega arith, refl, refl, λ n uses tables enough. number-begins n _ _ _))
+    (λ c κs. omega arith)
+    (λ c. search needs)
+    (λ c. search needs)
+    (λ c. search needs)
+    (λ c. search needs)
+    (λ c. omega (arith, c .before .before .space-of .ensures .1))
+    (λ c. search needs)
+    (λ c. search needs)
+    (λ c. search needs)
+    (λ c. search needs)
+    (λ c κs. (omega arith, (omega arith, (omega (arith, c .before .before .before .before .space-of .ensures .1), omega (arith, c .before .before .before .before .space-of .ensures .1)))))
+    (λ c. omega (arith, c .before .before .before .before .before .before .before .space-of .ensures .1))
+    (λ c. omega arith)
+    (λ c. omega arith)
+    (λ c. ⊎-elim
+    (λ w. rw (w .1, w .2, w .3, w .4) (
+      omega arith,
+      omega arith,
+      omega (arith, c .before .before .space-of .ensures .1),
+      length-set (c .before .before .before .before .loop .starts) (c .before .before .before .before .loop .t) (c .before .before .before .before .loop .count) ∙ c .before .before .before .before .loop .inv .3,
+      c .before .before .before .before .loop .inv .4,
+      λ n uses tables enough.
+          let listed = tables .each (c .before .before .before .before .loop .t) (c .before .before .before .loop-test .taken) in
+          number-follows n (c .before .before .before .before .before .before .before .before .before .before .before .args .guards .now) (c .before .before .before .before .loop .inv .5 n uses tables enough) (omega arith) listed (w .0 .taken) (c .before .before .space-of .ensures .0 n (listed .owned) (listed .limits) (listed .stands)),
+    ))
+    (λ w. rw (w .6, w .7, w .8, w .9) (
+      omega arith,
+      omega (arith, c .before .before .space-of .ensures .1),
+      omega (arith, c .before .before .space-of .ensures .1, w .3 .ensures .1 .0),
+      length-set (c .before .before .before .before .loop .starts) (c .before .before .before .before .loop .t) (c .before .before .before .before .loop .base) ∙ c .before .before .before .before .loop .inv .3,
+      w .3 .kept .1 .1 .1 .1 .1 .1 .1 .1 .1 .0 ∙ c .before .before .before .before .loop .inv .4,
+      λ n uses tables enough.
+          let listed = tables .each (c .before .before .before .before .loop .t) (c .before .before .before .loop-test .taken) in
+          let was = c .before .before .before .before .loop .inv .5 n uses tables enough in
+          let is = c .before .before .space-of .ensures .0 n (listed .owned) (listed .limits) (listed .stands) in
+          number-goes n (c .before .before .before .before .before .before .before .before .before .before .before .args .guards .now) was (listed .stands) (omega arith) (omega (arith, w .0 .left)) is
+          (w .3 .ensures .0 n listed is (was .rows) (omega (arith, c .before .before .before .before .loop .inv .4, number-room n (c .before .before .before .before .before .before .before .before .before .before .before .args .guards .now) was (c .before .before .before .loop-test .taken) (omega (arith, w .0 .left)) is enough))) (w .3 .ensures .1 .1),
+    ))
+    (c .if1 .came))
+    (λ c. search needs)
+    (λ c. search needs)
+    (λ c. λ n uses tables enough. number-ends n (c .before .before .before .before .before .before .before .before .args .guards .now) (c .before .loop .inv .5 n uses tables enough) (omega arith)))

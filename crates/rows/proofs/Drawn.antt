@@ -1,0 +1,262 @@
+-- What the tables of a net give the code that loads an effect: one entry of the packed table, one kind. Assumes nothing.
+use mathlib.Core.Path.{_≡_, refl, sym, ap, subst, fun-ext, _∙_}
+use Prim.Native.Nat.{_≤_, _<_}
+use native.Mathlib.Omega.{arith}
+use borrow.Author.Tests.{eq-eqb, ne-eqb, ltb-true, ltb-false}
+use lib.ListN.{List·getD-eq-default}
+use lib.Seq.{take-all}
+use Rattle.reading.specs.Basics.{ℕ, _+_, _-_, _*_, _/_, _%_, Bool, true, false, List, [], _++_, flatMap, Option, none, some, Option·map, length, getD, take, ltb, eqb, if_then_else_, byteAt}
+use Rattle.reading.specs.Reading.{fine}
+use Rattle.firing.specs.Arcs.{Arc}
+use Rattle.net.specs.Net as net
+use Rattle.net.specs.Net.{Expression, Place, single, pair, Net, net, coloursOf, placeAt, flatPlaceCount, arcOn}
+use Rattle.net.specs.Reader.{readExpression}
+use Rattle.net.specs.Values.{weight}
+use Rattle.net.specs.Evaluated.{bound, placeBy, isPair}
+use Rattle.net_transitions.specs.Transitions.{Slot}
+use Rattle.net.proofs.Alike.{weight-alike}
+use Rattle.bindings.specs.Effect.{transitionAt, arcWeight}
+use Rattle.rows.specs.Packed.{shapeOf, entryOf, holding, entriesOf, RowPacked}
+use Rattle.runs.specs.Terms.{Appended}
+use Rattle.sums.specs.Loaded.{rankArcs, ArcLoaded}
+use Rattle.sums.specs.Slots.{expressionSlots, slotsFor}
+use Rattle.multiset.proofs.Slots.{slots-told}
+use Rattle.runs.proofs.Appending.{append-none, append-join}
+use Rattle.rows.specs.Drawing.{placeSlots, slotsBelow, kindSlots, startOf, placeArcs, kindArcs, Drawing}
+use Rattle.rows.proofs.Needing.{slots-next, slots-rise, kind-arcs}
+use Rattle.rows.specs.Loading.{KindLoaded}
+use Rattle.rows.proofs.Split.{colours-some, start-next, start-low, kind-more, kind-few, place-none}
+use Rattle.rows.proofs.Packing.{HoldingAt, holding-at, holding-with, holding-few, holding-give, entries-many, entry-at}
+
+-- a place by whether it is a pair
+pub place-by : (q : Place) → (first : ℕ) × (second : ℕ) × (placeBy (isPair q) first second ≡ q)
+place-by (single a) = (a, 0, refl)
+place-by (pair a b) = (a, b, refl)
+
+-- what an entry tells, taken apart
+entry-told : (entry slot start count : ℕ) (paired : Bool) → entry ≡ entryOf slot (shapeOf start count paired) → start + count ≤ 4096
+    → (entry / 134217728 ≡ slot) × (entry / 16384 % 8192 ≡ start) × (entry / 2 % 8192 ≡ count) × (eqb (entry % 2) 1 ≡ paired)
+entry-told entry slot start count paired e h = go paired e
+  where
+    -- what stands before the last bit
+    front : (bit : ℕ) → bit ≤ 1 → entry ≡ slot * 134217728 + (start * 16384 + count * 2 + bit) → (entry / 134217728 ≡ slot) × (entry / 16384 % 8192 ≡ start) × (entry / 2 % 8192 ≡ count)
+    front bit small q =
+        let by : entry / 16384 ≡ slot * 8192 + start = omega arith in
+        let half : entry / 2 ≡ (slot * 8192 + start) * 8192 + count = omega arith in
+        (omega arith, omega (arith, by), omega (arith, half))
+
+    go : (b : Bool) → entry ≡ entryOf slot (shapeOf start count b) → (entry / 134217728 ≡ slot) × (entry / 16384 % 8192 ≡ start) × (entry / 2 % 8192 ≡ count) × (eqb (entry % 2) 1 ≡ b)
+    go true q = let f = front 1 (omega arith) q in (f .0, f .1, f .2, eq-eqb (entry % 2) 1 (omega arith))
+    go false q = let f = front 0 (omega arith) q in (f .0, f .1, f .2, ne-eqb (entry % 2) 1 (λ odd. omega arith))
+
+-- the same arcs from equal parts
+rank-same : (start start' count count' : ℕ) (w w' : ℕ → ℕ) → start ≡ start' → count ≡ count' → ((r : ℕ) → w r ≡ w' r) → rankArcs start count w ≡ rankArcs start' count' w'
+rank-same start start' count count' w w' e f h = ap (λ x. rankArcs x count w) e ∙ ap (λ x. rankArcs start' x w) f ∙ ap (rankArcs start' count') (fun-ext h)
+
+-- ---- one row of the packed table
+module _ {s : List ℕ} {n : Net} {sizes vars guards arcs : List ℕ} (value : ℕ → ℕ) (d : Drawing s n sizes vars guards arcs)
+    {t k base : ℕ} (ht : t < length (n .transitions)) (hk : k < 3) (hb : base ≡ t * 96 + k * 32) where
+  -- the arcs that a place gives
+  abbrev gives : ℕ → List Arc
+  gives = placeArcs n (transitionAt n t) value (0x16 + k)
+
+  -- its slot
+  pub slot : (p : ℕ) → p < length (n .places)
+      → Slot (readExpression s (net sizes vars (n .places) [] []) (placeAt n p) 16) (Option·map (λ a. a .expression) (arcOn (transitionAt n t .arcs) (0x16 + k) p)) (getD (d .slots) (base + p) 0)
+  slot p h = let e : base + p ≡ t * 96 + (k * 32 + p) = omega arith in rw e (d .arc t k p ht hk (omega arith))
+
+  -- the row's places that hold an arc, 32 at most
+  abbrev row : List ℕ
+  row = holding (d .slots) base (length (n .places))
+
+  pub row-few : length row ≤ 32
+  row-few = omega (arith, holding-few (d .slots) base (length (n .places)), d .limits .places)
+
+  -- the code's entry number i
+  row-at : (i : ℕ) → i < 32 → i ≤ length row → getD arcs (base + i) 0 ≡ getD (entriesOf (d .shape) (d .slots) base (length (n .places))) i 0
+  row-at i h far = subst (λ b. RowPacked (d .shape) (d .slots) (length (n .places)) b arcs) (sym hb) (d .packed .row t k ht hk) .entries i h far
+
+  -- it is 0 behind the last, and only there
+  pub entry-past : (i entry : ℕ) → i < 32 → i ≤ length row → entry ≡ getD arcs (base + i) 0 → entry < 1 → length row ≤ i
+  entry-past i entry h far e free = go (ltb i (length row)) refl
+    where
+      go : (b : Bool) → ltb i (length row) ≡ b → length row ≤ i
+      go true q =
+          let there = ltb-true i (length row) q in
+          let at = holding-at (d .slots) base (length (n .places)) i there in
+          absurd (omega (arith, row-at i h far, entry-at (d .slots) base (d .shape) (length (n .places)) i there at, at .held))
+      go false q = ltb-false i (length row) q
+
+  pub entry-there : (i entry : ℕ) → i < 32 → i ≤ length row → entry ≡ getD arcs (base + i) 0 → 1 ≤ entry → i < length row
+  entry-there i entry h far e has = go (ltb i (length row)) refl
+    where
+      go : (b : Bool) → ltb i (length row) ≡ b → i < length row
+      go true q = ltb-true i (length row) q
+      go false q =
+          let past = ltb-false i (length row) q in
+          let all : length (entriesOf (d .shape) (d .slots) base (length (n .places))) ≤ i = omega (arith, entries-many (d .slots) base (d .shape) (length (n .places))) in
+          absurd (omega (arith, row-at i h far, List·getD-eq-default (entriesOf (d .shape) (d .slots) base (length (n .places))) 0 all))
+
+  -- the row's places below a number give their arcs
+  pub row-gives : (m : ℕ) → m ≤ length (n .places) → flatMap gives (holding (d .slots) base m) ≡ kindArcs n (transitionAt n t) value (0x16 + k) m
+  row-gives m le = holding-give (d .slots) base gives m (λ p h free. go p (arcOn (transitionAt n t .arcs) (0x16 + k) p) refl (slot p (omega arith)) free)
+    where
+      go : (p : ℕ) (o : Option net.Arc) → arcOn (transitionAt n t .arcs) (0x16 + k) p ≡ o
+          → Slot (readExpression s (net sizes vars (n .places) [] []) (placeAt n p) 16) (Option·map (λ a. a .expression) o) (getD (d .slots) (base + p) 0)
+          → getD (d .slots) (base + p) 0 < 1 → gives p ≡ []
+      go p none q sl free = place-none n (transitionAt n t) value (0x16 + k) p q
+      go p (some a) q sl free = absurd (omega (arith, sl .0))
+
+  -- entry number i: its place's shape and where the expression stands; with it, the arcs of that place follow those of the places before it
+  pub record Entered (i entry : ℕ) : Type 0 where
+    pub place : ℕ
+    pub inside : place < length (n .places)
+    pub held : 0 < getD (d .slots) (base + place) 0
+    pub stands-at : entry / 134217728 ≡ getD (d .slots) (base + place) 0
+    pub starts-at : entry / 16384 % 8192 ≡ startOf n place
+    pub ranks : entry / 2 % 8192 ≡ coloursOf n (placeAt n place)
+    pub paired : eqb (entry % 2) 1 ≡ isPair (placeAt n place)
+    pub below : take i row ≡ holding (d .slots) base place
+    pub upto : take (i + 1) row ≡ holding (d .slots) base (place + 1)
+    pub before : flatMap gives (take i row) ≡ kindArcs n (transitionAt n t) value (0x16 + k) place
+    pub with-it : flatMap gives (take (i + 1) row) ≡ kindArcs n (transitionAt n t) value (0x16 + k) place ++ gives place
+
+  pub entered : (i entry : ℕ) → i < 32 → i ≤ length row → entry ≡ getD arcs (base + i) 0 → 1 ≤ entry → Entered i entry
+  entered i entry h far e has =
+      record {
+        place = at .place;
+        inside = at .inside;
+        held = at .held;
+        stands-at = told .0;
+        starts-at = told .1;
+        ranks = told .2;
+        paired = told .3;
+        below = at .before;
+        upto = holding-with (d .slots) base there at;
+        before = ap (flatMap gives) (at .before) ∙ row-gives (at .place) (omega (arith, at .inside));
+        with-it = ap (flatMap gives) (holding-with (d .slots) base there at) ∙ row-gives (at .place + 1) (omega (arith, at .inside)) ∙ kind-more n (transitionAt n t) value (0x16 + k) (at .place);
+      }
+    where
+      there : i < length row
+      there = entry-there i entry h far e has
+
+      at : HoldingAt (d .slots) base (length (n .places)) i
+      at = holding-at (d .slots) base (length (n .places)) i there
+
+      is : entry ≡ entryOf (getD (d .slots) (base + at .place) 0) (shapeOf (startOf n (at .place)) (coloursOf n (placeAt n (at .place))) (isPair (placeAt n (at .place))))
+      is = e ∙ row-at i h far ∙ entry-at (d .slots) base (d .shape) (length (n .places)) i there at
+          ∙ ap (entryOf (getD (d .slots) (base + at .place) 0)) (d .shaped (at .place) (at .inside))
+
+      told : (entry / 134217728 ≡ getD (d .slots) (base + at .place) 0) × (entry / 16384 % 8192 ≡ startOf n (at .place))
+          × (entry / 2 % 8192 ≡ coloursOf n (placeAt n (at .place))) × (eqb (entry % 2) 1 ≡ isPair (placeAt n (at .place)))
+      told = entry-told entry (getD (d .slots) (base + at .place) 0) (startOf n (at .place)) (coloursOf n (placeAt n (at .place))) (isPair (placeAt n (at .place))) is
+          (omega (arith, start-next n (at .place) (at .inside), start-low n (at .place + 1), d .limits .flat-places))
+
+  -- an expression on a place gives the place's arcs
+  pub arcs-given : (p : ℕ) (a : net.Arc) → arcOn (transitionAt n t .arcs) (0x16 + k) p ≡ some a
+      → rankArcs (startOf n p) (coloursOf n (placeAt n p)) (λ rank. weight n value rank (a .expression)) ≡ gives p
+  arcs-given p a q =
+      rank-same (startOf n p) (startOf n p) (coloursOf n (placeAt n p)) (coloursOf n (placeAt n p)) (λ rank. weight n value rank (a .expression))
+      (λ rank. arcWeight n (transitionAt n t) value (0x16 + k) (record { place = p; rank = rank })) refl refl (λ rank. rw q refl)
+
+-- one entry more was loaded
+module _ {s : List ℕ} {n : Net} {sizes vars guards arcs : List ℕ} (env : List ℕ) (d : Drawing s n sizes vars guards arcs)
+    {t k base : ℕ} (ht : t < length (n .transitions)) (hk : k < 3) (hb : base ≡ t * 96 + k * 32) where
+  abbrev over : Net
+  over = net sizes vars (n .places) [] []
+
+  -- the expression of an arc on a place was
+  place-loads : (entry p : ℕ) (e : Expression) {places amounts places' amounts' : List ℕ} {used r next : ℕ} → entry / 16384 % 8192 ≡ startOf n p
+      → entry / 2 % 8192 ≡ coloursOf n (placeAt n p) → eqb (entry % 2) 1 ≡ isPair (placeAt n p)
+      → ArcLoaded s sizes vars env (eqb (entry % 2) 1) (entry / 16384 % 8192) (entry / 2 % 8192) (entry / 134217728) places amounts used places' amounts' r
+      → readExpression s over (placeAt n p) 16 (entry / 134217728) ≡ fine e next
+      → used + expressionSlots (coloursOf n (placeAt n p)) e + length s / 2 ≤ length places → used + expressionSlots (coloursOf n (placeAt n p)) e + length s / 2 ≤ length amounts
+      → Appended (rankArcs (startOf n p) (coloursOf n (placeAt n p)) (λ rank. weight n (bound env) rank e)) places amounts used places' amounts' r
+  place-loads entry p e {places} {amounts} {places'} {amounts'} {used} {r} {next} begins many paired loaded reads x y =
+      let by = place-by (placeAt n p) in
+      subst (λ l. Appended l places amounts used places' amounts' r)
+      (rank-same (entry / 16384 % 8192) (startOf n p) (entry / 2 % 8192) (coloursOf n (placeAt n p)) (λ rank. weight over (bound env) rank e) (λ rank. weight n (bound env) rank e) begins many
+      (λ rank. weight-alike over n (sym (d .sets)) (sym (d .variables)) (bound env) rank e))
+      (loaded (n .places) (by .0) (by .1) next e
+      (ap (λ b. readExpression s over (placeBy b (by .0) (by .1)) 16 (entry / 134217728)) paired ∙ ap (λ q. readExpression s over q 16 (entry / 134217728)) (by .2) ∙ reads)
+      (omega (arith, few)) (omega (arith, few)))
+    where
+      few : slotsFor s (entry / 134217728) (entry / 2 % 8192) ≡ expressionSlots (coloursOf n (placeAt n p)) e
+      few = slots-told s over (placeAt n p) (entry / 134217728) (entry / 2 % 8192) reads ∙ ap (λ c. expressionSlots c e) many
+
+  pub row-loads : (i entry : ℕ) → i < 32 → i ≤ length (holding (d .slots) base (length (n .places))) → entry ≡ getD arcs (base + i) 0 → 1 ≤ entry
+      → {places₀ amounts₀ places amounts places' amounts' : List ℕ} {used end end' : ℕ}
+      → Appended (flatMap (placeArcs n (transitionAt n t) (bound env) (0x16 + k)) (take i (holding (d .slots) base (length (n .places))))) places₀ amounts₀ used places amounts end
+      → ArcLoaded s sizes vars env (eqb (entry % 2) 1) (entry / 16384 % 8192) (entry / 2 % 8192) (entry / 134217728) places amounts end places' amounts' end'
+      → used + kindSlots n (transitionAt n t) (0x16 + k) + length s / 2 ≤ length places₀ → used + kindSlots n (transitionAt n t) (0x16 + k) + length s / 2 ≤ length amounts₀
+      → Appended (flatMap (placeArcs n (transitionAt n t) (bound env) (0x16 + k)) (take (i + 1) (holding (d .slots) base (length (n .places))))) places₀ amounts₀ used places' amounts' end'
+  row-loads i entry h far e has {places₀} {amounts₀} {places} {amounts} {places'} {amounts'} {used} {end} {end'} so-far loaded x y =
+      subst (λ l. Appended l places₀ amounts₀ used places' amounts' end') (sym (en .with-it)) (append-join before (here (arcOn (transitionAt n t .arcs) (0x16 + k) p) refl (slot (bound env) d ht hk hb p (en .inside))))
+    where
+      en : Entered (bound env) d ht hk hb i entry
+      en = entered (bound env) d ht hk hb i entry h far e has
+
+      p : ℕ
+      p = en .place
+
+      before : Appended (kindArcs n (transitionAt n t) (bound env) (0x16 + k) p) places₀ amounts₀ used places amounts end
+      before = subst (λ l. Appended l places₀ amounts₀ used places amounts end) (en .before) so-far
+
+      room : end + placeSlots n (transitionAt n t) (0x16 + k) p ≤ used + kindSlots n (transitionAt n t) (0x16 + k)
+      room =
+          let e : p + 1 + (length (n .places) - (p + 1)) ≡ length (n .places) = omega (arith, en .inside) in
+          let rest = subst (λ q. slotsBelow n (transitionAt n t) (0x16 + k) (p + 1) ≤ slotsBelow n (transitionAt n t) (0x16 + k) q) e (slots-rise n (transitionAt n t) (0x16 + k) (p + 1) (length (n .places) - (p + 1))) in
+          omega (arith, before .end, kind-arcs n (transitionAt n t) (0x16 + k) (bound env) p, slots-next n (transitionAt n t) (0x16 + k) p, rest)
+
+      here : (o : Option net.Arc) → arcOn (transitionAt n t .arcs) (0x16 + k) p ≡ o
+          → Slot (readExpression s over (placeAt n p) 16) (Option·map (λ a. a .expression) o) (getD (d .slots) (base + p) 0)
+          → Appended (placeArcs n (transitionAt n t) (bound env) (0x16 + k) p) places amounts end places' amounts' end'
+      here none q sl = absurd (omega (arith, en .held))
+      here (some a) q sl =
+          let needs : placeSlots n (transitionAt n t) (0x16 + k) p ≡ expressionSlots (coloursOf n (placeAt n p)) (a .expression) = rw q refl in
+          subst (λ l. Appended l places amounts end places' amounts' end') (arcs-given (bound env) d ht hk hb p a q)
+          (place-loads entry p (a .expression) (en .starts-at) (en .ranks) (en .paired) loaded (ap (readExpression s over (placeAt n p) 16) (en .stands-at) ∙ sl .1 .reads) (omega (arith, needs, room, before .size)) (omega (arith, needs, room, before .sizes)))
+
+-- ---- one kind, entry after entry
+-- so many entries of a row were loaded
+pub record KindTo (n : Net) (t k : ℕ) (env slots : List ℕ) (base : ℕ) (places₀ amounts₀ : List ℕ) (used : ℕ) (places amounts : List ℕ) (end i : ℕ) : Type 0 where
+  pub far : i ≤ length (holding slots base (length (n .places)))
+  pub so-far : Appended (flatMap (placeArcs n (transitionAt n t) (bound env) (0x16 + k)) (take i (holding slots base (length (n .places))))) places₀ amounts₀ used places amounts end
+
+pub record KindLoading (s sizes vars env arcs : List ℕ) (base : ℕ) (places₀ amounts₀ : List ℕ) (used : ℕ) (places amounts : List ℕ) (end i : ℕ) : Type 0 where
+  pub each : (n : Net) (guards : List ℕ) (t k : ℕ) (d : Drawing s n sizes vars guards arcs) → t < length (n .transitions) → k < 3 → base ≡ t * 96 + k * 32
+      → used + kindSlots n (transitionAt n t) (0x16 + k) + length s / 2 ≤ length places₀ → used + kindSlots n (transitionAt n t) (0x16 + k) + length s / 2 ≤ length amounts₀
+      → KindTo n t k env (d .slots) base places₀ amounts₀ used places amounts end i
+
+module _ {s sizes vars env arcs : List ℕ} {base : ℕ} {places₀ amounts₀ : List ℕ} {used : ℕ} where
+  -- no entry, one more entry, all entries
+  pub kind-begins : KindLoading s sizes vars env arcs base places₀ amounts₀ used places₀ amounts₀ used 0
+  unfolding flatMap
+  kind-begins = record { each = λ n guards t k d ht hk hb x y. record { far = omega arith; so-far = append-none places₀ amounts₀ used } }
+
+  module _ {places amounts : List ℕ} {end i : ℕ} (l : KindLoading s sizes vars env arcs base places₀ amounts₀ used places amounts end i) where
+    pub kind-goes : {places' amounts' : List ℕ} {entry end' : ℕ} → i < 32 → entry ≡ getD arcs (base + i) 0 → 1 ≤ entry
+        → ArcLoaded s sizes vars env (eqb (entry % 2) 1) (entry / 16384 % 8192) (entry / 2 % 8192) (entry / 134217728) places amounts end places' amounts' end'
+        → KindLoading s sizes vars env arcs base places₀ amounts₀ used places' amounts' end' (i + 1)
+    kind-goes {entry = entry} h e has loaded = record {
+      each = λ n guards t k d ht hk hb x y.
+          let before = l .each n guards t k d ht hk hb x y in
+          let there = entry-there (bound env) d ht hk hb i entry h (before .far) e has in
+          record { far = omega arith; so-far = row-loads env d ht hk hb i entry h (before .far) e has (before .so-far) loaded x y };
+    }
+
+    -- none is left
+    all : {n : Net} {guards : List ℕ} {t k : ℕ} (d : Drawing s n sizes vars guards arcs) → t < length (n .transitions) → k < 3 → base ≡ t * 96 + k * 32
+        → KindTo n t k env (d .slots) base places₀ amounts₀ used places amounts end i → length (holding (d .slots) base (length (n .places))) ≤ i
+        → Appended (kindArcs n (transitionAt n t) (bound env) (0x16 + k) (length (n .places))) places₀ amounts₀ used places amounts end
+    all {n} {t = t} {k = k} d ht hk hb to past =
+        subst (λ l. Appended l places₀ amounts₀ used places amounts end)
+        (ap (flatMap (placeArcs n (transitionAt n t) (bound env) (0x16 + k))) (take-all i (holding (d .slots) base (length (n .places))) past) ∙ row-gives (bound env) d ht hk hb (length (n .places)) (omega arith)) (to .so-far)
+
+    pub kind-stops : {entry : ℕ} → i < 32 → entry ≡ getD arcs (base + i) 0 → entry < 1 → KindLoaded s sizes vars env arcs base places₀ amounts₀ used places amounts end
+    kind-stops {entry} h e free n guards t k d ht hk hb x y =
+        let to = l .each n guards t k d ht hk hb x y in
+        all d ht hk hb to (entry-past (bound env) d ht hk hb i entry h (to .far) e free)
+
+    pub kind-ends : 32 ≤ i → KindLoaded s sizes vars env arcs base places₀ amounts₀ used places amounts end
+    kind-ends g n guards t k d ht hk hb x y = all d ht hk hb (l .each n guards t k d ht hk hb x y) (omega (arith, row-few (bound env) d ht hk hb))

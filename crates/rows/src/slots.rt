@@ -1,0 +1,73 @@
+// How many slots the rows of a net need in the lent lists.
+use reading::byte_at;
+ghost use mathlib.Core.Path.{_≡_};
+ghost use Prim.Native.Nat.{ℕ, _≤_, _<_};
+ghost use Rattle.sums.specs.Slots.{slotsFor};
+ghost use Rattle.rows.specs.Slots.{KindSlotted, RowSlotted, NetSlotted};
+
+// The slots for the expression at a place of the file, over so many ranks.
+fn slots_for(s: &[u8], at: usize, count: usize) -> usize
+    ensures is { λ r. ⌜ r ≡ slotsFor (now (s .entry)) at count ⌝ }
+    ensures small { λ r. ⌜ r ≤ count ⌝ }
+{
+    if byte_at(s, at) == 0x40 {
+        return if 1 <= count { 1 } else { count };
+    }
+    count
+}
+
+// For the arcs of a kind, entry after entry of its row in the packed table, up to the first 0.
+fn kind_slots(s: &[u8], arcs: &[u64; 3072], base: usize) -> usize
+    requires { ⌜ base ≤ 3040 ⌝ }
+    ensures is { λ r. ⌜ KindSlotted (now (s .entry)) (now (arcs .entry)) base r ⌝ }
+    ensures small { λ r. ⌜ r ≤ 262144 ⌝ }
+{
+    let mut total: usize = 0;
+    let mut i: usize = 0;
+    while i < 32 {
+        let entry = arcs[base + i] as usize;
+        if entry < 1 {
+            return total;
+        }
+        total += slots_for(s, entry / 134217728, entry / 2 % 8192);
+        i += 1;
+    }
+    total
+}
+
+// For the rows of a transition.
+fn row_slots(s: &[u8], arcs: &[u64; 3072], t: usize) -> usize
+    requires { ⌜ t < 32 ⌝ }
+    ensures is { λ r. ⌜ RowSlotted (now (s .entry)) (now (arcs .entry)) t r ⌝ }
+    ensures small { λ r. ⌜ r ≤ 786432 ⌝ }
+{
+    let base = t * 96;
+    let takes = kind_slots(s, arcs, base);
+    let puts = kind_slots(s, arcs, base + 32);
+    let hinders = kind_slots(s, arcs, base + 64);
+    takes + puts + hinders
+}
+
+// The greater of two numbers.
+fn greater(a: usize, b: usize) -> usize
+    ensures first { λ r. ⌜ a ≤ r ⌝ }
+    ensures second { λ r. ⌜ b ≤ r ⌝ }
+    ensures least { λ r. ⌜ ((most : ℕ) → a ≤ most → b ≤ most → r ≤ most) ⌝ }
+{
+    if a < b { b } else { a }
+}
+
+// For the rows of any of so many transitions.
+pub fn most_slots(s: &[u8], arcs: &[u64; 3072], transitions: usize) -> usize
+    requires { ⌜ transitions ≤ 32 ⌝ }
+    ensures is { λ r. ⌜ NetSlotted (now (s .entry)) (now (arcs .entry)) transitions r ⌝ }
+    ensures small { λ r. ⌜ r ≤ 786432 ⌝ }
+{
+    let mut most: usize = 0;
+    let mut t: usize = 0;
+    while t < transitions {
+        most = greater(most, row_slots(s, arcs, t));
+        t += 1;
+    }
+    most
+}
