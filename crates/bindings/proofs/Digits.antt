@@ -12,7 +12,7 @@ use Rattle.reading.proofs.Lists.{map-same, map-getD, of-from}
 use Rattle.net_parts.proofs.Totals.{sum-with}
 use Rattle.net.specs.Net.{always, Transition, Net, sizesOf, bindingSpace}
 use Rattle.bindings.specs.Effect.{transitionAt, choices, bindings}
-use Rattle.bindings.specs.Numbers.{digits, number, before}
+use Rattle.bindings.specs.internal.Numbers.{digits, number, before}
 use Rattle.bindings.proofs.Bindings.{Fit, none, more, same-each, choices-length, bound, bindingsOf, bindings-length}
 
 -- ---- one size more at the end

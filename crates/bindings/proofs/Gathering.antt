@@ -6,10 +6,10 @@ use native.Mathlib.Nat.{div-one, div-div-eq-div-mul, mul-comm}
 use lib.Seq.{take-take}
 use Rattle.reading.specs.Basics.{ℕ, suc, _+_, _*_, _/_, _%_, Bool, true, false, List, [], _∷_, _++_, map, length, take, if_then_else_, keep, numbersFrom, below, product}
 use Rattle.net.specs.Net.{Net}
-use Rattle.net.specs.Told.{bits, member, sizeIn}
+use Rattle.net.specs.internal.ReaderEnums.{bits, member, sizeIn}
 use Rattle.net_transitions.proofs.Spaces.{keep-bits}
 use Rattle.bindings.specs.Orders.{orderOf}
-use Rattle.bindings.specs.Numbers.{digits, those, sizesOver, Coloured}
+use Rattle.bindings.specs.internal.Numbers.{digits, those, sizesOver, Coloured}
 use Rattle.bindings.specs.declared.order.Gathered.{Gathered}
 
 -- the sizes of those variables from v on, of n, that pass a test

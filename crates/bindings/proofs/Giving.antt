@@ -14,8 +14,8 @@ use Rattle.net.specs.Net.{Net}
 use Rattle.net_file.specs.Limits.{Limits}
 use Rattle.net_file.specs.Formed.{Formed}
 use Rattle.bindings.specs.Orders.{fits}
-use Rattle.bindings.specs.Bound.{Binds, binding}
-use Rattle.bindings.specs.Own.{Owned, slotSize, Given}
+use Rattle.bindings.specs.internal.Bindings.{Binds, binding}
+use Rattle.bindings.specs.internal.TransitionVariables.{Owned, slotSize, Given}
 use Rattle.bindings.proofs.Owning.{coloursIn, theirs, theirSizes, theirs-apart, sizes-are, held-binds, Held, few-theirs, by-slot}
 use Rattle.bindings.proofs.Walking.{set-held}
 

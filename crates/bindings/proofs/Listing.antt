@@ -12,12 +12,12 @@ use lib.Pow.{pow-pos}
 use Rattle.reading.specs.Basics.{ℕ, zero, suc, _+_, _*_, _/_, _%_, Bool, true, false, List, [], _∷_, map, length, getD, ltb, eqb, if_then_else_, with, below, numbersFrom, keep}
 use Rattle.reading.proofs.Lists.{In, at-in, at-below, getD-at as getD-in}
 use Rattle.net.specs.Net.{Net, always, variablesOf, inTransition}
-use Rattle.net.specs.Told.{bits, member}
+use Rattle.net.specs.internal.ReaderEnums.{bits, member}
 use Rattle.net_file.specs.Limits.{Limits}
 use Rattle.net_file.specs.Formed.{Formed}
 use Rattle.net_transitions.proofs.Spaces.{past, keep-bits, below-next, count-grows}
 use Rattle.bindings.specs.Effect.{transitionAt}
-use Rattle.bindings.specs.Own.{ownOf, Owned, Cleared, Put, Listed}
+use Rattle.bindings.specs.internal.TransitionVariables.{ownOf, Owned, Cleared, Put, Listed}
 use Rattle.bindings.proofs.Clash.{clash}
 use Rattle.bindings.proofs.Used.{used-below}
 

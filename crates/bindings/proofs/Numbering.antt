@@ -9,10 +9,10 @@ use lib.ListN.{length-drop, List·getD-eq-default, drop-of-length-le}
 use lib.Seq.{length-take-le, getD-take, getD-drop, drop-drop, take-nil, drop-cons}
 use Rattle.reading.specs.Basics.{ℕ, zero, suc, _+_, _*_, Bool, true, false, _&&_, List, [], _∷_, map, length, take, drop, eqb, ltb, if_then_else_, numbersFrom, below, keep, every, product, byteAt}
 use Rattle.net.specs.Net.{Net}
-use Rattle.net.specs.Told.{bits, member, sizeIn}
+use Rattle.net.specs.internal.ReaderEnums.{bits, member, sizeIn}
 use Rattle.net_transitions.proofs.Spaces.{keep-bits}
 use Rattle.bindings.specs.Orders.{fits}
-use Rattle.bindings.specs.Numbers.{number, those, sizesOver, numberOf}
+use Rattle.bindings.specs.internal.Numbers.{number, those, sizesOver, numberOf}
 use Rattle.bindings.specs.declared.binding.Numbered.{Numbered}
 use Rattle.bindings.specs.declared.binding.Numbered.the-variants.{At, Nothing}
 

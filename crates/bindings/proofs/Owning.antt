@@ -14,9 +14,9 @@ use Rattle.net.specs.Net.{Net, always, sizeOf, sizesOf, variablesOf, inTransiti
 use Rattle.net_file.specs.Limits.{Limits}
 use Rattle.net_file.specs.Formed.{Formed}
 use Rattle.bindings.specs.Effect.{transitionAt, standsFor}
-use Rattle.bindings.specs.Numbers.{digits}
-use Rattle.bindings.specs.Bound.{Binds, binding, numbered}
-use Rattle.bindings.specs.Own.{ownOf, Owned, slotVariable, slotSize}
+use Rattle.bindings.specs.internal.Numbers.{digits}
+use Rattle.bindings.specs.internal.Bindings.{Binds, binding, numbered}
+use Rattle.bindings.specs.internal.TransitionVariables.{ownOf, Owned, slotVariable, slotSize}
 use Rattle.bindings.proofs.Digits.{product-with}
 use Rattle.bindings.proofs.Used.{used-below}
 use Rattle.bindings.proofs.Clash.{clash}

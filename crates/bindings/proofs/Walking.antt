@@ -12,9 +12,9 @@ use Rattle.reading.proofs.Lists.{here, Apart, alone, new, map-same}
 use Rattle.net.specs.Net.{Net}
 use Rattle.net_file.specs.Limits.{Limits}
 use Rattle.net_file.specs.Formed.{Formed}
-use Rattle.bindings.specs.Numbers.{digits, number}
-use Rattle.bindings.specs.Bound.{Binds, binding, numbered}
-use Rattle.bindings.specs.Own.{Owned, slotVariable, slotSize, Turned, Skipped}
+use Rattle.bindings.specs.internal.Numbers.{digits, number}
+use Rattle.bindings.specs.internal.Bindings.{Binds, binding, numbered}
+use Rattle.bindings.specs.internal.TransitionVariables.{Owned, slotVariable, slotSize, Turned, Skipped}
 use Rattle.bindings.proofs.Bindings.{Fit, none, more, fit-length}
 use Rattle.bindings.proofs.Digits.{digits-length, digits-fit, digits-number, number-digits}
 use Rattle.bindings.proofs.Clash.{clash}

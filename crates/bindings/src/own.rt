@@ -6,13 +6,13 @@ ghost use Prim.Native.Nat.{ℕ, _≤_, _<_, _+_, _%_};
 ghost use lib.ListN.{length, getD, take, drop};
 ghost use Rattle.reading.specs.Basics.{product};
 ghost use Rattle.net.specs.Net.{Net, sizesOf, inTransition};
-ghost use Rattle.net.specs.Told.{bits};
+ghost use Rattle.net.specs.internal.ReaderEnums.{bits};
 ghost use Rattle.net_file.specs.Limits.{Limits};
 ghost use Rattle.net_file.specs.Formed.{Formed};
 ghost use Rattle.bindings.specs.Effect.{transitionAt};
 ghost use Rattle.bindings.specs.Orders.{fits};
-ghost use Rattle.bindings.specs.Bound.{Binds, binding, numbered};
-ghost use Rattle.bindings.specs.Own.{Owned, slotSize, Turned, Skipped, Given, entryOf, Cleared, Put, Listed};
+ghost use Rattle.bindings.specs.internal.Bindings.{Binds, binding, numbered};
+ghost use Rattle.bindings.specs.internal.TransitionVariables.{Owned, slotSize, Turned, Skipped, Given, entryOf, Cleared, Put, Listed};
 
 // A transition's variables, or none past the end.
 pub fn uses_at(uses: &[u32], t: usize) -> u32

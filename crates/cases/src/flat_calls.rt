@@ -1,4 +1,5 @@
 // The calls of the flat side: each reads its buffers, and runs on exactly their lengths.
+use crate::input::file_buffer;
 use crate::input::read_bytes;
 use crate::input::read_counts;
 use crate::text::say;
@@ -8,7 +9,7 @@ use crate::text::say_number;
 use crate::text::say_refused;
 
 pub fn sizes_case() {
-    let mut file = [0u8; 131072];
+    let mut file = file_buffer();
     let n = read_bytes(&mut file);
     match flat::flat_sizes(&file[..n]) {
         flat::SizesReply::Counted { places, rows } => {
@@ -23,7 +24,7 @@ pub fn sizes_case() {
 }
 
 pub fn first_case() {
-    let mut file = [0u8; 131072];
+    let mut file = file_buffer();
     let n = read_bytes(&mut file);
     let mut marking = [0u16; 8192];
     let m = read_counts(&mut marking);
@@ -45,7 +46,7 @@ pub fn first_case() {
 }
 
 pub fn fire_case() {
-    let mut file = [0u8; 131072];
+    let mut file = file_buffer();
     let n = read_bytes(&mut file);
     let mut marking = [0u16; 8192];
     let m = read_counts(&mut marking);

@@ -1,7 +1,16 @@
 // Reading the parts of a case from standard input.
 use libc::STDIN_FILENO;
+ghost use mathlib.Core.Path.{_≡_};
 ghost use Prim.Native.Nat.{_<_};
+ghost use lib.ListN.{length};
 ghost use Rattle.io.specs.Counts.{Counts};
+
+// A buffer for a file, or for what a call writes.
+pub fn file_buffer() -> [u8; 131072]
+    ensures { λ r. ⌜ 131072 ≡ length r ⌝ }
+{
+    [0u8; 131072]
+}
 
 // The number of the next call, 0 at the input's end.
 pub fn read_call() -> u8 {

@@ -1,4 +1,5 @@
 // The calls on net files: each reads its buffers, and runs on exactly their lengths.
+use crate::input::file_buffer;
 use crate::input::read_bytes;
 use crate::input::read_counts;
 use crate::input::read_row;
@@ -10,9 +11,9 @@ use crate::text::say_number;
 use crate::text::say_refused;
 
 pub fn unfold_case() {
-    let mut file = [0u8; 131072];
+    let mut file = file_buffer();
     let n = read_bytes(&mut file);
-    let mut out = [0u8; 131072];
+    let mut out = file_buffer();
     let o = read_bytes(&mut out);
     unfold(&file[..n], &mut out[..o]);
 }
@@ -26,7 +27,7 @@ fn unfold(file: &[u8], out: &mut [u8]) {
 }
 
 pub fn images_case() {
-    let mut file = [0u8; 131072];
+    let mut file = file_buffer();
     let n = read_bytes(&mut file);
     let mut orders = io::large_buffer();
     let k = read_bytes(&mut orders);
@@ -59,7 +60,7 @@ fn say_order(name: &[u8], o: bindings::Order) {
 }
 
 pub fn order_case() {
-    let mut file = [0u8; 131072];
+    let mut file = file_buffer();
     let n = read_bytes(&mut file);
     let row = read_row();
     match images::row_order(&file[..n], row) {
@@ -73,7 +74,7 @@ pub fn order_case() {
 }
 
 pub fn orders_case() {
-    let mut file = [0u8; 131072];
+    let mut file = file_buffer();
     let n = read_bytes(&mut file);
     let mut marking = [0u16; 8192];
     let m = read_counts(&mut marking);
@@ -99,22 +100,22 @@ fn fire(file: &[u8], marking: &mut [u16], orders: &[u8], answers: &mut [u8]) {
 }
 
 pub fn first_order_case() {
-    let mut file = [0u8; 131072];
+    let mut file = file_buffer();
     let n = read_bytes(&mut file);
     let mut marking = [0u16; 8192];
     let m = read_counts(&mut marking);
-    match coloured::first_order(&file[..n], &marking[..m]) {
-        coloured::FirstReply::Found { order, tried } => {
+    match search::first_order(&file[..n], &marking[..m]) {
+        search::FirstReply::Found { order, tried } => {
             say_order(b"found ", order);
             say_line(b" tried ", tried);
         }
-        coloured::FirstReply::Nothing { tried } => say_line(b"nothing tried ", tried),
-        coloured::FirstReply::Refused { number, place } => say_refused(number, place),
+        search::FirstReply::Nothing { tried } => say_line(b"nothing tried ", tried),
+        search::FirstReply::Refused { number, place } => say_refused(number, place),
     }
 }
 
 pub fn net_sizes_case() {
-    let mut file = [0u8; 131072];
+    let mut file = file_buffer();
     let n = read_bytes(&mut file);
     match net_file::net_sizes(&file[..n]) {
         net_file::NetReply::Counted {

@@ -2,7 +2,7 @@
 use bindings::Order;
 ghost use mathlib.Core.Path.{_≡_};
 ghost use Rattle.reading.specs.Basics.{ℕ, List, _∷_};
-ghost use Rattle.bindings.specs.Bound.{bytesOf};
+ghost use Rattle.bindings.specs.Replies.{bytesOf};
 ghost use Rattle.codes.specs.Codes.{returned};
 
 // A code, and two numbers behind the lent ones.

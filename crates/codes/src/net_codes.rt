@@ -2,12 +2,13 @@
 use crate::give::give;
 use crate::give::order_bytes;
 use coloured::FireReply;
-use coloured::FirstReply;
 use net_file::NetReply;
+use search::FirstReply;
 ghost use mathlib.Core.Path.{_≡_};
 ghost use Rattle.reading.specs.Basics.{ℕ, List, [], _∷_};
-ghost use Rattle.net_file.specs.Calls.{netReply};
-ghost use Rattle.coloured.specs.Replies.{fireCalled, firstReply};
+ghost use Rattle.net_file.specs.Replies.{netReply};
+ghost use Rattle.coloured.specs.Replies.{fireCalled};
+ghost use Rattle.search.specs.Replies.{firstReply};
 ghost use Rattle.codes.specs.Codes.{returned, fireCode, firstOrderCode, netCode};
 
 // Code 1: how many flat places, transitions and bindings a net file has.

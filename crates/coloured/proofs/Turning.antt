@@ -3,27 +3,18 @@ use mathlib.Core.Path.{_≡_, sym, ap, subst, _∙_}
 use Prim.Native.Nat.{_≤_, _<_}
 use native.Mathlib.Omega.{arith}
 use native.Mathlib.Nat.{add-zero}
-use Rattle.reading.specs.Basics.{ℕ, _+_, _*_, Bool, true, false, not, List, none, some, length, take, drop, byteAt}
+use Rattle.reading.specs.Basics.{ℕ, _+_, _*_, Bool, true, false, not, List, length, take, drop, byteAt}
 use Rattle.firing.specs.Firing.{fired}
 use Rattle.net.specs.Net.{Net, sizesOf}
 use Rattle.net_file.specs.Limits.{Limits}
-use Rattle.bindings.specs.Effect.{Binding, transitionAt}
-use Rattle.bindings.specs.Orders.{fits, named, fireOrder}
-use Rattle.bindings.specs.Bound.{binding}
-use Rattle.bindings.specs.Own.{Owned}
-use Rattle.coloured.specs.Ready.{Ready, fireBinding}
+use Rattle.bindings.specs.Effect.{transitionAt}
+use Rattle.bindings.specs.Orders.{fits, fireOrder}
+use Rattle.bindings.specs.internal.Bindings.{binding}
+use Rattle.bindings.specs.internal.TransitionVariables.{Owned}
+use Rattle.rows.specs.internal.Prepared.{Prepared, fireBinding}
 use Rattle.bindings.proofs.Ordering.{named-other, named-past, named-unfit, named-fit, order-colours, order-byte}
 use Rattle.bindings.proofs.Clash.{not-true, not-false}
-use Rattle.coloured.proofs.Readied.{limited}
-
--- by what an order names
-no-name : (n : Net) (order m : List ℕ) → named n order ≡ none → fired 1 m ≡ fireOrder n order m
-unfolding fireOrder
-no-name n order m e = rw e
-
-pub names : (n : Net) (order m : List ℕ) {b : Binding} → named n order ≡ some b → fireBinding n b m ≡ fireOrder n order m
-unfolding fireOrder
-names n order m e = rw e
+use Rattle.rows.proofs.Prepared.{limited, no-name, names}
 
 module _ (n : Net) (orders m : List ℕ) (i : ℕ) where
   abbrev order : List ℕ
@@ -39,7 +30,7 @@ module _ (n : Net) (orders m : List ℕ) (i : ℕ) where
   pub turn-past : length (n .transitions) ≤ byteAt orders (i * 6 + 1) → fired 1 m ≡ fireOrder n order m
   turn-past le = no-name n order m (named-past n order (subst (λ t. length (n .transitions) ≤ t) (sym (order-byte orders (i * 6) 1 (omega arith))) le))
 
-module _ {s : List ℕ} {n : Net} {sizes vars own uses guards arcs : List ℕ} {transitions : ℕ} (ready : Ready s n sizes vars own uses guards arcs transitions)
+module _ {s : List ℕ} {n : Net} {sizes vars own uses guards arcs : List ℕ} {transitions : ℕ} (ready : Prepared s n sizes vars own uses guards arcs transitions)
     (orders m : List ℕ) (i t : ℕ) (opens : byteAt orders (i * 6) ≡ 0x60) (second : t ≡ byteAt orders (i * 6 + 1)) (lt : t < transitions) {r : Bool}
     (told : (k : Net) → Owned k own → Limits k → t < length (k .transitions) → r ≡ fits (sizesOf k (transitionAt k t)) (take 4 (drop (i * 6 + 2) orders))) where
   pub inside : t < length (n .transitions)

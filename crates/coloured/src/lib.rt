@@ -1,42 +1,27 @@
-// Firing on the drawing: lists of orders, and the first order that would fire. The meanings of this crate stand in specs/.
+// The drawing's engine: fires lists of orders on a net file.
 mod engine;
 
-use bindings::Order;
 use bindings::list_variables;
-use bindings::order_at;
-use bindings::uses_at;
-use engine::Searched;
 use engine::fire_list;
-use engine::search_all;
 use net_file::NetRead;
 use net_file::read_net;
+use rows::is_small;
 use rows::most_slots;
 use rows::pack_arcs;
 ghost use mathlib.Core.Path.{_≡_};
 ghost use mathlib.Core.List.{List};
-ghost use Prim.Native.Nat.{ℕ, _≤_, _+_, _*_, _/_};
+ghost use Prim.Native.Nat.{ℕ, _≤_};
 ghost use lib.ListN.{length};
-ghost use lib.Dec.{leb};
 ghost use Rattle.net.specs.Net.{Net, flatPlaceCount};
-ghost use Rattle.rows.specs.Drawing.{room};
-ghost use Rattle.bindings.specs.Orders.{fireOrders, firstOrder};
-ghost use Rattle.coloured.specs.Ready.{Ready};
-ghost use Rattle.coloured.specs.Replies.{fireCalled, firstReply};
+ghost use Rattle.rows.specs.internal.Drawing.{room};
+ghost use Rattle.rows.specs.internal.Prepared.{Prepared};
+ghost use Rattle.bindings.specs.Orders.{fireOrders};
+ghost use Rattle.coloured.specs.Replies.{fireCalled};
 
 // What firing a list gives: how many orders were answered, or the refusal.
 pub enum FireReply {
     Answered { count: usize },
     Refused { number: u8, place: usize },
-}
-
-// Whether lists of 1,024 slots have the room for rows that need so many, with a file of so many bytes.
-pub fn is_small(slots: usize, len: usize) -> bool
-    ensures { λ r. ⌜ r ≡ leb (slots + len / 2) 1024 ⌝ }
-{
-    if 1024 < slots {
-        return false;
-    }
-    slots + len / 2 <= 1024
 }
 
 // Fires a list of orders on a net that has been read, with lists lent for a row's arcs.
@@ -56,7 +41,7 @@ fn fire_with(
     amounts: &mut [u16],
 ) -> FireReply
     requires { ⌜ transitions ≤ 32 ⌝ }
-    ensures { λ r. ⌜ ((n : Net) (uses : List ℕ) → Ready (now (s .entry)) n (now (sizes .entry)) (now (vars .entry)) (now (own .entry)) uses (now (guards .entry)) (now (arcs .entry)) transitions
+    ensures { λ r. ⌜ ((n : Net) (uses : List ℕ) → Prepared (now (s .entry)) n (now (sizes .entry)) (now (vars .entry)) (now (own .entry)) uses (now (guards .entry)) (now (arcs .entry)) transitions
         → flatPlaceCount n ≡ total → room (now (s .entry)) n ≤ length (now (places .entry)) → room (now (s .entry)) n ≤ length (now (amounts .entry))
         → fireCalled r (now (marking .exit)) (now (answers .exit)) ≡ fireOrders (now (s .entry)) (now (marking .entry)) (now (orders .entry)) (now (answers .entry))) ⌝ }
 {
@@ -112,7 +97,7 @@ fn fire_small(
     answers: &mut [u8],
 ) -> FireReply
     requires { ⌜ transitions ≤ 32 ⌝ }
-    ensures { λ r. ⌜ ((n : Net) (uses : List ℕ) → Ready (now (s .entry)) n (now (sizes .entry)) (now (vars .entry)) (now (own .entry)) uses (now (guards .entry)) (now (arcs .entry)) transitions
+    ensures { λ r. ⌜ ((n : Net) (uses : List ℕ) → Prepared (now (s .entry)) n (now (sizes .entry)) (now (vars .entry)) (now (own .entry)) uses (now (guards .entry)) (now (arcs .entry)) transitions
         → flatPlaceCount n ≡ total → room (now (s .entry)) n ≤ 1024
         → fireCalled r (now (marking .exit)) (now (answers .exit)) ≡ fireOrders (now (s .entry)) (now (marking .entry)) (now (orders .entry)) (now (answers .entry))) ⌝ }
 {
@@ -152,7 +137,7 @@ fn fire_large(
     again: bool,
 ) -> FireReply
     requires { ⌜ transitions ≤ 32 ⌝ }
-    ensures { λ r. ⌜ ((n : Net) (uses : List ℕ) → Ready (now (s .entry)) n (now (sizes .entry)) (now (vars .entry)) (now (own .entry)) uses (now (guards .entry)) (now (arcs .entry)) transitions
+    ensures { λ r. ⌜ ((n : Net) (uses : List ℕ) → Prepared (now (s .entry)) n (now (sizes .entry)) (now (vars .entry)) (now (own .entry)) uses (now (guards .entry)) (now (arcs .entry)) transitions
         → flatPlaceCount n ≡ total
         → fireCalled r (now (marking .exit)) (now (answers .exit)) ≡ fireOrders (now (s .entry)) (now (marking .entry)) (now (orders .entry)) (now (answers .entry))) ⌝ }
 {
@@ -208,7 +193,7 @@ fn fire_on(
     answers: &mut [u8],
 ) -> FireReply
     requires { ⌜ transitions ≤ 32 ⌝ }
-    ensures { λ r. ⌜ ((n : Net) (uses : List ℕ) → Ready (now (s .entry)) n (now (sizes .entry)) (now (vars .entry)) (now (own .entry)) uses (now (guards .entry)) (now (arcs .entry)) transitions
+    ensures { λ r. ⌜ ((n : Net) (uses : List ℕ) → Prepared (now (s .entry)) n (now (sizes .entry)) (now (vars .entry)) (now (own .entry)) uses (now (guards .entry)) (now (arcs .entry)) transitions
         → flatPlaceCount n ≡ total
         → fireCalled r (now (marking .exit)) (now (answers .exit)) ≡ fireOrders (now (s .entry)) (now (marking .entry)) (now (orders .entry)) (now (answers .entry))) ⌝ }
 {
@@ -298,255 +283,6 @@ pub fn fire_orders(net: &[u8], marking: &mut [u16], orders: &[u8], answers: &mut
                 marking,
                 orders,
                 answers,
-            )
-        }
-    }
-}
-
-// The first order that would be answered 0, or none; with how many bindings were tried. Or the refusal.
-pub enum FirstReply {
-    Found { order: Order, tried: usize },
-    Nothing { tried: usize },
-    Refused { number: u8, place: usize },
-}
-
-// The first order that would fire on a net that has been read, with lists lent for a row's arcs.
-fn first_with(
-    s: &[u8],
-    sizes: &[u8],
-    vars: &[u8],
-    own: &[u16; 128],
-    uses: &[u32],
-    guards: &[u16; 32],
-    arcs: &[u64; 3072],
-    transitions: usize,
-    total: usize,
-    marking: &[u16],
-    places: &mut [u16],
-    amounts: &mut [u16],
-) -> FirstReply
-    requires { ⌜ transitions ≤ 32 ⌝ }
-    ensures { λ r. ⌜ ((n : Net) → Ready (now (s .entry)) n (now (sizes .entry)) (now (vars .entry)) (now (own .entry)) (now (uses .entry)) (now (guards .entry)) (now (arcs .entry)) transitions
-        → flatPlaceCount n ≡ total → room (now (s .entry)) n ≤ length (now (places .entry)) → room (now (s .entry)) n ≤ length (now (amounts .entry))
-        → firstReply r ≡ firstOrder (now (s .entry)) (now (marking .entry))) ⌝ }
-{
-    if marking.len() != total {
-        return FirstReply::Refused {
-            number: 12,
-            place: 0,
-        };
-    }
-    match search_all(
-        s,
-        sizes,
-        vars,
-        own,
-        guards,
-        arcs,
-        transitions,
-        marking,
-        places,
-        amounts,
-    ) {
-        Searched::Nothing { tried } => FirstReply::Nothing { tried },
-        Searched::At { t, index, tried } => FirstReply::Found {
-            order: order_at(uses_at(uses, t), sizes, vars, (t % 256) as u8, index),
-            tried,
-        },
-    }
-}
-
-// With small lists, where the rows have room in them.
-fn first_small(
-    s: &[u8],
-    sizes: &[u8],
-    vars: &[u8],
-    own: &[u16; 128],
-    uses: &[u32],
-    guards: &[u16; 32],
-    arcs: &[u64; 3072],
-    transitions: usize,
-    total: usize,
-    marking: &[u16],
-) -> FirstReply
-    requires { ⌜ transitions ≤ 32 ⌝ }
-    ensures { λ r. ⌜ ((n : Net) → Ready (now (s .entry)) n (now (sizes .entry)) (now (vars .entry)) (now (own .entry)) (now (uses .entry)) (now (guards .entry)) (now (arcs .entry)) transitions
-        → flatPlaceCount n ≡ total → room (now (s .entry)) n ≤ 1024
-        → firstReply r ≡ firstOrder (now (s .entry)) (now (marking .entry))) ⌝ }
-{
-    let mut places = [0u16; 1024];
-    let mut amounts = [0u16; 1024];
-    first_with(
-        s,
-        sizes,
-        vars,
-        own,
-        uses,
-        guards,
-        arcs,
-        transitions,
-        total,
-        marking,
-        &mut places,
-        &mut amounts,
-    )
-}
-
-// With lists that have room for every net. It can call itself, though no net's file is empty: so the compiler keeps it
-// apart, and its lists lie in no other function's frame.
-fn first_large(
-    s: &[u8],
-    sizes: &[u8],
-    vars: &[u8],
-    own: &[u16; 128],
-    uses: &[u32],
-    guards: &[u16; 32],
-    arcs: &[u64; 3072],
-    transitions: usize,
-    total: usize,
-    marking: &[u16],
-    again: bool,
-) -> FirstReply
-    requires { ⌜ transitions ≤ 32 ⌝ }
-    ensures { λ r. ⌜ ((n : Net) → Ready (now (s .entry)) n (now (sizes .entry)) (now (vars .entry)) (now (own .entry)) (now (uses .entry)) (now (guards .entry)) (now (arcs .entry)) transitions
-        → flatPlaceCount n ≡ total
-        → firstReply r ≡ firstOrder (now (s .entry)) (now (marking .entry))) ⌝ }
-{
-    if s.len() < 1 {
-        if again {
-            return first_large(
-                s,
-                sizes,
-                vars,
-                own,
-                uses,
-                guards,
-                arcs,
-                transitions,
-                total,
-                marking,
-                false,
-            );
-        }
-    }
-    let mut places = [0u16; 20480];
-    let mut amounts = [0u16; 20480];
-    first_with(
-        s,
-        sizes,
-        vars,
-        own,
-        uses,
-        guards,
-        arcs,
-        transitions,
-        total,
-        marking,
-        &mut places,
-        &mut amounts,
-    )
-}
-
-// The first order that would fire on a net that has been read.
-fn first_on(
-    s: &[u8],
-    sizes: &[u8],
-    vars: &[u8],
-    own: &[u16; 128],
-    uses: &[u32],
-    guards: &[u16; 32],
-    arcs: &[u64; 3072],
-    transitions: usize,
-    total: usize,
-    marking: &[u16],
-) -> FirstReply
-    requires { ⌜ transitions ≤ 32 ⌝ }
-    ensures { λ r. ⌜ ((n : Net) → Ready (now (s .entry)) n (now (sizes .entry)) (now (vars .entry)) (now (own .entry)) (now (uses .entry)) (now (guards .entry)) (now (arcs .entry)) transitions
-        → flatPlaceCount n ≡ total
-        → firstReply r ≡ firstOrder (now (s .entry)) (now (marking .entry))) ⌝ }
-{
-    if is_small(most_slots(s, arcs, transitions), s.len()) {
-        return first_small(
-            s,
-            sizes,
-            vars,
-            own,
-            uses,
-            guards,
-            arcs,
-            transitions,
-            total,
-            marking,
-        );
-    }
-    first_large(
-        s,
-        sizes,
-        vars,
-        own,
-        uses,
-        guards,
-        arcs,
-        transitions,
-        total,
-        marking,
-        true,
-    )
-}
-
-// The first order that would be answered 0 on a net file and a marking.
-pub fn first_order(net: &[u8], marking: &[u16]) -> FirstReply
-    ensures { λ r. ⌜ firstReply r ≡ firstOrder (now (net .entry)) (now (marking .entry)) ⌝ }
-{
-    let mut sizes = [0u8; 16];
-    let mut vars = [0u8; 32];
-    let mut firsts = [0u8; 32];
-    let mut seconds = [0u8; 32];
-    let mut starts = [0usize; 33];
-    let mut uses = [0u32; 32];
-    let mut guards = [0u16; 32];
-    let mut arcs = [0u16; 3072];
-    let mut initial = [0u16; 4096];
-    let mut named = [0u8; 4096];
-    match read_net(
-        net,
-        &mut sizes,
-        &mut vars,
-        &mut firsts,
-        &mut seconds,
-        &mut starts,
-        &mut uses,
-        &mut guards,
-        &mut arcs,
-        &mut initial,
-        &mut named,
-    ) {
-        NetRead::Refused { number, place } => FirstReply::Refused { number, place },
-        NetRead::Whole {
-            sets,
-            variables,
-            places,
-            total,
-            transitions,
-            space: _,
-        } => {
-            let mut packed = [0u64; 3072];
-            pack_arcs(&arcs, places, transitions, &seconds, &starts, &mut packed);
-            let used = &sizes[..sets];
-            let variable_sets = &vars[..variables];
-            let mut own = [0u16; 128];
-            list_variables(&uses, used, variable_sets, transitions, &mut own);
-            first_on(
-                net,
-                used,
-                variable_sets,
-                &own,
-                &uses,
-                &guards,
-                &packed,
-                transitions,
-                total,
-                marking,
             )
         }
     }

@@ -53,5 +53,5 @@ pub extern "C" fn kwz_first_order(
     ensures { λ r. ⌜ returned r (now (first .exit) ∷ now (second .exit) ∷ []) (now (order .exit) ∷ [])
         ≡ firstOrderCode (now (order .entry)) (firstOrder (now (net .entry)) (now (marking .entry))) ⌝ }
 {
-    give_first_order(coloured::first_order(net, marking), order, first, second)
+    give_first_order(search::first_order(net, marking), order, first, second)
 }

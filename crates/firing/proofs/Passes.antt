@@ -6,8 +6,9 @@ use native.Mathlib.Decide.{decLt}
 use borrow.Author.Needs.{zero≤}
 use borrow.Author.Tests.{lt-ltb, le-ltb, leb-true, leb-false}
 use Rattle.reading.specs.Basics.{ℕ, zero, suc, _+_, _-_, _<_, Bool, true, false, _&&_, List, _∷_, length, getD, ltb, leb, find, any}
-use Rattle.firing.specs.Arcs.{Arc, Rising, none, more, weightIn, arcsIn}
-use Rattle.firing.specs.Steps.{Within, EndsWithin, told, arcAt, spilling, changedBy, changed, Sought}
+use Rattle.firing.specs.Arcs.{Arc, Rising, none, more, weightIn}
+use Rattle.firing.specs.internal.RowLists.{arcsIn}
+use Rattle.firing.specs.internal.Steps.{Within, EndsWithin, told, arcAt, spilling, changedBy, changed, Sought}
 use Rattle.firing.proofs.Rows.{arcs-more, arcs-none, weight-hit, weight-skip, weight-below}
 
 -- the first of rising arcs, and the rest

@@ -4,8 +4,9 @@ use native.Mathlib.Omega.{arith}
 use Prim.Native.Nat.{_≤_}
 use borrow.Author.Tests.{eq-eqb, ne-eqb, eqb-true, eqb-false}
 use Rattle.reading.specs.Basics.{ℕ, suc, _+_, _-_, _<_, Bool, true, false, List, [], _∷_, eqb, find, numbersFrom}
-use Rattle.firing.specs.Arcs.{Arc, Rising, none, more, weightIn, arcsIn}
-use Rattle.firing.specs.Steps.{arcAt}
+use Rattle.firing.specs.Arcs.{Arc, Rising, none, more, weightIn}
+use Rattle.firing.specs.internal.RowLists.{arcsIn}
+use Rattle.firing.specs.internal.Steps.{arcAt}
 
 -- ---- the weight at a place
 pub weight-hit : (a : Arc) (l : List Arc) (p : ℕ) → a .place ≡ p → weightIn (a ∷ l) p ≡ a .weight

@@ -9,7 +9,7 @@ use lib.Seq.{getD-set-same, getD-set-other, ext-getD}
 use Rattle.reading.specs.Basics.{ℕ, zero, suc, _+_, _-_, _<_, Bool, true, false, _&&_, _||_, find, List, [], _∷_, map, length, getD, ltb, leb, eqb, if_then_else_, any, below, numbersFrom}
 use Rattle.firing.specs.Firing.{Weights, fired, lacks, hindered, moved, spills, fire}
 use Rattle.firing.specs.Arcs.{Arc, Row, Rising, none, more, Proper, weightIn, weights}
-use Rattle.firing.specs.Steps.{lacking, hindering, spilling, changed, added}
+use Rattle.firing.specs.internal.Steps.{lacking, hindering, spilling, changed, added}
 use Rattle.firing.proofs.Rows.{In, here, there, in-inside, in-weight, weight-in, weight-hit, weight-skip}
 
 -- ---- tests that agree

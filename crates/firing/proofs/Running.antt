@@ -11,7 +11,7 @@ use Rattle.reading.specs.Basics.{ℕ, zero, suc, _+_, _*_, _/_, _%_, Bool, true
 use Rattle.reading.specs.Reading.{Outcome, accepted, refused, failing}
 use Rattle.firing.specs.Firing.{Fired, fired, run, ending, First, found, nothing, oneMore, first}
 use Rattle.firing.specs.Calls.{FireCall, fireCall, firstCall}
-use Rattle.firing.specs.Loops.{Ran, stoppedAt}
+use Rattle.firing.specs.internal.Loops.{Ran, stoppedAt}
 
 -- ---- lists
 -- the first i and the one after them

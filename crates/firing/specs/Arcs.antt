@@ -1,6 +1,6 @@
 -- Weights written as arcs: a row has those above 0, by kind and rising flat place.
 use Prim.Native.Nat.{_≤_, _<_}
-use Rattle.reading.specs.Basics.{ℕ, _+_, _-_, List, [], _∷_, map, getD, ltb, eqb, given, find, keep, numbersFrom, below}
+use Rattle.reading.specs.Basics.{ℕ, _+_, List, [], _∷_, map, ltb, eqb, given, find, keep, below}
 use Rattle.firing.specs.Firing.{Weights}
 
 -- an arc of a row: a flat place, and the weight there
@@ -44,12 +44,3 @@ pub record Proper (n : ℕ) (r : Row) : Type 0 where
   pub takes : Rising n 0 (r .takes)
   pub puts : Rising n 0 (r .puts)
   pub hinders : Rising n 0 (r .hinders)
-
--- ---- rows in lent lists
--- the arcs number a to b - 1 of two lent lists, one of places and one of weights
-unfoldable pub arcsIn : List ℕ → List ℕ → ℕ → ℕ → List Arc
-arcsIn places weights a b = map (λ i. record { place = getD places i 0; weight = getD weights i 0 }) (numbersFrom a (b - a))
-
--- the row whose takes, puts and hinders stand there one after the other, each kind up to its end
-abbrev pub rowIn : List ℕ → List ℕ → ℕ → ℕ → ℕ → Row
-rowIn places weights takes puts hinders = row (arcsIn places weights 0 takes) (arcsIn places weights takes puts) (arcsIn places weights puts hinders)

@@ -1,5 +1,6 @@
+-- The meaning.
 pub mod Firing
 pub mod Arcs
 pub mod Calls
-pub mod Steps
-pub mod Loops
+-- What the code's own tables, lists and enums stand for.
+pub mod internal

@@ -6,8 +6,9 @@ ghost use mathlib.Core.List.{List};
 ghost use lib.ListN.{length, getD, set};
 ghost use Rattle.reading.specs.Basics.{any};
 ghost use Rattle.firing.specs.Firing.{fire, fired};
-ghost use Rattle.firing.specs.Arcs.{weights, Rising, Proper, weightIn, arcsIn, rowIn};
-ghost use Rattle.firing.specs.Steps.{Within, EndsWithin, told, arcAt, lacking, hindering, Sought, spilling, changedBy, changed, added};
+ghost use Rattle.firing.specs.Arcs.{weights, Rising, Proper, weightIn};
+ghost use Rattle.firing.specs.internal.RowLists.{arcsIn, rowIn};
+ghost use Rattle.firing.specs.internal.Steps.{Within, EndsWithin, told, arcAt, lacking, hindering, Sought, spilling, changedBy, changed, added};
 
 // Where a row's takes, puts and hinders end in the lent lists; each kind starts where the one before it ends.
 pub struct Ends {

@@ -5,11 +5,11 @@ use native.Mathlib.Omega.{arith}
 use Rattle.reading.specs.Basics.{ℕ, _+_, _/_, _%_, Bool, if_then_else_, List, length, eqb, below, items}
 use Rattle.reading.specs.Reading.{accepted, refused}
 use Rattle.firing.specs.Firing.{First, found, nothing, first}
-use Rattle.firing.specs.Loops.{Ran, stoppedAt}
+use Rattle.firing.specs.internal.Loops.{Ran, stoppedAt}
 use Rattle.firing.proofs.Running as running
 use Rattle.firing.proofs.Running.{called, stopped-in, stopped-out}
 use Rattle.flat_file.specs.Flat.{Flat, readFlat, fireRow, fireImage, flatSizes, fireImages, firstRow}
-use Rattle.flat_file.specs.Told.{mostRows, Held, Scanned}
+use Rattle.flat_file.specs.internal.ReaderEnums.{mostRows, Held, Scanned}
 use Rattle.flat_file.specs.declared.reader.Scan.{Scan}
 use Rattle.flat_file.specs.declared.reader.Scan.the-variants.{Net, Refused}
 

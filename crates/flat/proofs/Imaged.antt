@@ -10,7 +10,7 @@ use Rattle.firing.specs.Firing.{Fired, fire, fired}
 use Rattle.firing.specs.Arcs.{Row, row, weights}
 use Rattle.firing.proofs.Running.{item, item-byte, item-long}
 use Rattle.flat_file.specs.Flat.{Flat, fireRow, fireImage}
-use Rattle.flat_file.specs.Told.{Held, arcsAt}
+use Rattle.flat_file.specs.internal.ReaderEnums.{Held, arcsAt}
 
 module _ (f : Flat) (images m : List ℕ) (i : ℕ) where
   first-byte : byteAt (item 5 images i) 0 ≡ byteAt images (i * 5)

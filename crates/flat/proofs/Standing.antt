@@ -5,7 +5,7 @@ use native.Mathlib.Omega.{arith}
 use Rattle.reading.specs.Basics.{ℕ, List, length}
 use Rattle.firing.specs.Arcs.{Row, Proper}
 use Rattle.flat_file.specs.Flat.{Flat}
-use Rattle.flat_file.specs.Told.{RowsStand, Held}
+use Rattle.flat_file.specs.internal.ReaderEnums.{RowsStand, Held}
 
 -- what holds of the row in the lent lists where it is proper, holds of the one that stands there
 pub by-row : (P : Row → Type 0) {n : ℕ} {loaded row : Row} → (loaded ≡ row) × Proper n row → (Proper n loaded → P loaded) → P row

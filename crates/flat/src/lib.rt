@@ -13,11 +13,11 @@ ghost use lib.Dec.{eqb};
 ghost use Rattle.reading.specs.Basics.{below, items};
 ghost use Rattle.reading.specs.Reading.{fine};
 ghost use Rattle.firing.specs.Firing.{fire, fired, first};
-ghost use Rattle.firing.specs.Loops.{Ran, stoppedAt};
+ghost use Rattle.firing.specs.internal.Loops.{Ran, stoppedAt};
 ghost use Rattle.firing.specs.Arcs as arcs;
 ghost use Rattle.firing.specs.Arcs.{Row};
 ghost use Rattle.flat_file.specs.Flat.{Flat, fireRow, fireImage, fireImages, firstRow, flatSizes};
-ghost use Rattle.flat_file.specs.Told.{mostRows, mostArcs, ArcsStand, RowsStand, Held, arcsAt};
+ghost use Rattle.flat_file.specs.internal.ReaderEnums.{mostRows, mostArcs, ArcsStand, RowsStand, Held, arcsAt};
 ghost use Rattle.flat.specs.Replies.{fireCalled, firstReply, sizesReply};
 
 // How many flat places and rows a flat file has, or the refusal.

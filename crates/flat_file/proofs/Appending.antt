@@ -8,12 +8,12 @@ use native.Mathlib.Numerals.{add-one}
 use lib.ListN.{set, length-append, length-drop, length-map, length-take}
 use lib.Seq.{drop-cons, take-append-seam, getD-take, length-take-le}
 use Rattle.reading.specs.Basics.{ℕ, zero, suc, _+_, _*_, _-_, List, [], _∷_, _++_, flatMap, length, getD, take, drop, over, numbersFrom}
-use Rattle.firing.specs.Arcs.{arcsIn, rowIn}
-use Rattle.firing.specs.Steps.{arcAt}
+use Rattle.firing.specs.internal.RowLists.{arcsIn, rowIn}
+use Rattle.firing.specs.internal.Steps.{arcAt}
 use Rattle.firing.proofs.Running.{over-set}
 use Rattle.flat_file.specs.Flat.{arcBytes, rowBytes}
 use Rattle.flat_file.proofs.Written.{placeBytes, length-places, length-row, length-arcs}
-use Rattle.flat_file.specs.Out.{Appended}
+use Rattle.flat_file.specs.internal.Output.{Appended}
 
 -- nothing
 pub append-none : (out : List ℕ) (at : ℕ) → Appended out out at at []

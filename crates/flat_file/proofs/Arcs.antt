@@ -10,10 +10,11 @@ use Rattle.reading.specs.Basics.{ℕ, zero, suc, _+_, _-_, _*_, _&&_, true, fal
 use Rattle.reading.specs.Reading.{fine, fault, _unless_, obey}
 use Rattle.reading.proofs.Commands.{Fails, fails, later, passes, done, other, end, both-hold, first-fails, second-fails, standing-at, standing-none, obey-cut, obey-fails, obey-goes}
 use Rattle.reading.proofs.Parts.{Reading, begins, goes-on, ends, stops}
-use Rattle.firing.specs.Arcs.{Arc, Row, row, Rising, Proper, arcsIn, rowIn}
-use Rattle.firing.specs.Steps.{EndsWithin}
+use Rattle.firing.specs.Arcs.{Arc, Row, row, Rising, Proper}
+use Rattle.firing.specs.internal.RowLists.{arcsIn, rowIn}
+use Rattle.firing.specs.internal.Steps.{EndsWithin}
 use Rattle.flat_file.specs.Flat.{arcCommand, arcPart}
-use Rattle.flat_file.specs.Told.{ArcHere, mostArcs, inOrder, added, key, Least, arc, arcStep, ArcRoom, arcsAt, ArcsStand, laterEnd}
+use Rattle.flat_file.specs.internal.ReaderEnums.{ArcHere, mostArcs, inOrder, added, key, Least, arc, arcStep, ArcRoom, arcsAt, ArcsStand, laterEnd}
 use Rattle.flat_file.specs.declared.reader.ArcStep.{ArcStep}
 use Rattle.flat_file.specs.declared.reader.ArcStep.the-variants as arc-step
 use Rattle.flat_file.proofs.Rows.{in-order, least-added, proper-added, row-added, arcs-count, few-arcs, one-more, arcCount}

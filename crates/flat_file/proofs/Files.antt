@@ -12,7 +12,7 @@ use Rattle.reading.proofs.Commands.{passes, done, fails, passing, failed, other
 use Rattle.reading.proofs.Parts.{Reading, begins, goes-on, ends, stops}
 use Rattle.firing.specs.Arcs.{Row, row}
 use Rattle.flat_file.specs.Flat.{Flat, placePart, arcPart, rowPart, readFlat}
-use Rattle.flat_file.specs.Told.{stepTold, StepRoom, PlacesHeld, arcsAt, Stands, RowsHeld, opening, closing, partTold, Counts, scanOf, Held, Scanned}
+use Rattle.flat_file.specs.internal.ReaderEnums.{stepTold, StepRoom, PlacesHeld, arcsAt, Stands, RowsHeld, opening, closing, partTold, Counts, scanOf, Held, Scanned}
 use Rattle.flat_file.specs.declared.reader.Part.{Part}
 use Rattle.flat_file.specs.declared.reader.Part.the-variants as part
 use Rattle.flat_file.specs.declared.reader.Step.{Step}

@@ -1,3 +1,4 @@
+-- The meaning.
 pub mod Flat
-pub mod Told
-pub mod Out
+-- What the code's own tables, lists and enums stand for.
+pub mod internal

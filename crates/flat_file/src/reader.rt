@@ -6,10 +6,11 @@ ghost use Prim.Native.Nat.{ℕ, _<_, _≤_, _+_};
 ghost use lib.ListN.{length, set};
 ghost use Rattle.reading.specs.Basics.{with, byteAt, wordAt};
 ghost use Rattle.reading.specs.Reading.{Answer, fine, under, whole};
-ghost use Rattle.firing.specs.Arcs.{Row, row, rowIn, Proper};
-ghost use Rattle.firing.specs.Steps.{EndsWithin};
+ghost use Rattle.firing.specs.Arcs.{Row, row, Proper};
+ghost use Rattle.firing.specs.internal.RowLists.{rowIn};
+ghost use Rattle.firing.specs.internal.Steps.{EndsWithin};
 ghost use Rattle.flat_file.specs.Flat.{Flat, placePart, arcPart, rowPart};
-ghost use Rattle.flat_file.specs.Told.{mostArcs, ArcHere, Least, arcStep, ArcRoom, laterEnd, arcsAt, ArcsPassed, ArcsStand, stepTold, StepRoom, PlacesRead, rowEnd, RowsRead, opening, closing, partTold, PartWithin, Counts, scanOf, Scanned};
+ghost use Rattle.flat_file.specs.internal.ReaderEnums.{mostArcs, ArcHere, Least, arcStep, ArcRoom, laterEnd, arcsAt, ArcsPassed, ArcsStand, stepTold, StepRoom, PlacesRead, rowEnd, RowsRead, opening, closing, partTold, PartWithin, Counts, scanOf, Scanned};
 
 // The u16 that stands whole at a place.
 fn word_in(s: &[u8], at: usize) -> usize

@@ -4,9 +4,9 @@ ghost use mathlib.Core.List.{[], _∷_};
 ghost use Prim.Native.Nat.{_+_, _*_, _-_, _≤_};
 ghost use lib.ListN.{length, getD, take};
 ghost use Rattle.reading.specs.Basics.{flatMap, word};
-ghost use Rattle.firing.specs.Arcs.{arcsIn, rowIn};
+ghost use Rattle.firing.specs.internal.RowLists.{arcsIn, rowIn};
 ghost use Rattle.flat_file.specs.Flat.{arcBytes, rowBytes};
-ghost use Rattle.flat_file.specs.Out.{Appended};
+ghost use Rattle.flat_file.specs.internal.Output.{Appended};
 
 // An element, or 0 past the end.
 fn entry(l: &[u16], i: usize) -> u16

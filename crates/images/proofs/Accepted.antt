@@ -5,16 +5,16 @@ use native.Mathlib.Omega.{arith}
 use Rattle.reading.specs.Basics.{ℕ, List, length, getD, take}
 use Rattle.reading.specs.Reading.{accepted, refused}
 use Rattle.net.specs.Net.{Net, inTransition}
-use Rattle.net.specs.Told.{bits}
+use Rattle.net.specs.internal.ReaderEnums.{bits}
 use Rattle.net_parts.specs.Parts.{readNet}
 use Rattle.net_file.specs.Limits.{Limits}
 use Rattle.net_file.specs.Formed.{Formed}
 use Rattle.net_file.proofs.Limits.{limits}
 use Rattle.net_file.proofs.Formed.{formed}
 use Rattle.bindings.specs.Effect.{transitionAt}
-use Rattle.bindings.specs.Own.{Owned}
-use Rattle.row_numbers.specs.Walked.{Tables}
-use Rattle.net_file.specs.Held.{NetHolds, NetHeld, NetTold}
+use Rattle.bindings.specs.internal.TransitionVariables.{Owned}
+use Rattle.row_numbers.specs.internal.Walked.{Tables}
+use Rattle.net_file.specs.internal.NetTables.{NetHolds, NetHeld, NetTold}
 use Rattle.net_file.specs.declared.file.NetRead.{NetRead}
 use Rattle.net_file.specs.declared.file.NetRead.the-variants.{Whole, Refused}
 

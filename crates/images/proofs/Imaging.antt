@@ -12,13 +12,13 @@ use Rattle.reading.proofs.Lists.{getD-at}
 use Rattle.firing.proofs.Running.{item-at, length-items}
 use Rattle.net.specs.Net.{Net, variablesOf, sizesOf, inTransition}
 use Rattle.bindings.specs.Effect.{transitionAt}
-use Rattle.bindings.specs.Numbers.{those, sizesOver, numberOf}
+use Rattle.bindings.specs.internal.Numbers.{those, sizesOver, numberOf}
 use Rattle.bindings.specs.declared.binding.Numbered.{Numbered}
 use Rattle.bindings.specs.declared.binding.Numbered.the-variants.{At, Nothing}
 use Rattle.bindings.proofs.Ordering.{numbered-at, named-other, named-past, named-nothing, named-at, order-colours, order-byte}
 use Rattle.row_numbers.specs.Unfolding.{rowNumber, image, images}
-use Rattle.row_numbers.specs.Walked.{orderAt, Starts, Tables}
-use Rattle.flat_file.specs.Out.{Appended}
+use Rattle.row_numbers.specs.internal.Walked.{orderAt, Starts, Tables}
+use Rattle.flat_file.specs.internal.Output.{Appended}
 use Rattle.row_numbers.proofs.Rows.{noRow}
 use Rattle.row_numbers.proofs.Walking.{unnamed-number, named-number}
 use Rattle.flat_file.proofs.Appending.{Going, go-on, go-end, append-all}

@@ -8,10 +8,10 @@ use Rattle.net.specs.Net.{Net, variablesOf, inTransition}
 use Rattle.net_parts.specs.Parts.{readNet}
 use Rattle.bindings.specs.Effect.{transitionAt}
 use Rattle.bindings.specs.Orders.{orderOf}
-use Rattle.bindings.specs.Numbers.{digits, those, sizesOver}
+use Rattle.bindings.specs.internal.Numbers.{digits, those, sizesOver}
 use Rattle.row_numbers.specs.Unfolding.{WriteCall, images, imagesCall, orderCall}
-use Rattle.row_numbers.specs.Walked.{LocatedTold, LocatedRoom}
-use Rattle.bindings.specs.Bound.{bytesOf}
+use Rattle.row_numbers.specs.internal.Walked.{LocatedTold, LocatedRoom}
+use Rattle.bindings.specs.Replies.{bytesOf}
 use Rattle.bindings.specs.declared.order.Order.{Order}
 use Rattle.row_numbers.specs.declared.seek.Located.{Located}
 use Rattle.row_numbers.specs.declared.seek.Located.the-variants.{At, Nowhere}

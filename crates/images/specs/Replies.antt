@@ -2,7 +2,7 @@
 use Rattle.reading.specs.Basics.{ℕ, List, Option, none, some}
 use Rattle.reading.specs.Reading.{Outcome, accepted, refused}
 use Rattle.row_numbers.specs.Unfolding.{WriteCall}
-use Rattle.bindings.specs.Bound.{bytesOf}
+use Rattle.bindings.specs.Replies.{bytesOf}
 use Rattle.images.specs.declared.ImagesReply.{ImagesReply}
 use Rattle.images.specs.declared.ImagesReply.the-variants as images-reply
 use Rattle.images.specs.declared.OrderReply.{OrderReply}

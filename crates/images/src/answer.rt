@@ -11,8 +11,8 @@ ghost use lib.ListN.{length, getD, take, drop};
 ghost use Rattle.reading.specs.Basics.{over};
 ghost use Rattle.net.specs.Net.{Net};
 ghost use Rattle.row_numbers.specs.Unfolding.{rowNumber, image, images};
-ghost use Rattle.flat_file.specs.Out.{Appended};
-ghost use Rattle.row_numbers.specs.Walked.{Starts, Tables};
+ghost use Rattle.flat_file.specs.internal.Output.{Appended};
+ghost use Rattle.row_numbers.specs.internal.Walked.{Starts, Tables};
 
 // The image that carries a row number.
 fn write_image(row: u32, out: &mut [u8], at: usize) -> usize

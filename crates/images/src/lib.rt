@@ -21,7 +21,7 @@ ghost use Rattle.net.specs.Net.{Net};
 ghost use Rattle.net_parts.specs.Parts.{readNet};
 ghost use Rattle.row_numbers.specs.Unfolding as meant;
 ghost use Rattle.row_numbers.specs.Unfolding.{imagesCall, orderCall};
-ghost use Rattle.row_numbers.specs.Walked.{entries, Tables};
+ghost use Rattle.row_numbers.specs.internal.Walked.{entries, Tables};
 ghost use Rattle.images.specs.Replies.{imagesCalled, orderReply};
 
 // How many orders were answered, or the refusal.

@@ -1,5 +1,5 @@
 // The arcs of an arc expression under a binding, appended to two lent lists, one of places and one of weights.
-use net::eval_rank;
+use evaluation::eval_rank;
 use reading::byte_at;
 use reading::word_at;
 use runs::slot;
@@ -10,8 +10,8 @@ ghost use mathlib.Core.Bool.{true, false};
 ghost use Prim.Native.Nat.{ℕ, _≤_, _<_, _+_};
 ghost use lib.ListN.{length, getD};
 ghost use Rattle.reading.specs.Basics.{byteAt};
-ghost use Rattle.runs.specs.Terms.{Appended};
-ghost use Rattle.sums.specs.Loaded.{oneArc, rankArcs, TermsLoaded, ArcLoaded};
+ghost use Rattle.runs.specs.internal.Terms.{Appended};
+ghost use Rattle.sums.specs.internal.Loaded.{oneArc, rankArcs, TermsLoaded, ArcLoaded};
 
 // Stores an arc after so many, if its weight is above 0: how many there are then. Past the end it stores nothing.
 pub fn append(

@@ -1,6 +1,6 @@
 // How many arcs an arc expression gives at most, whatever the binding: by recursion over its bytes. The file and the tables are handed on by address.
 // Nothing is asked of the bytes: where they hold a tree, what comes out is the tree's.
-use net::eval_rank;
+use evaluation::eval_rank;
 ghost use mathlib.Core.Path.{_≡_};
 ghost use mathlib.Core.List.{List, []};
 ghost use Prim.Native.Nat.{ℕ, _≤_, _<_, _+_, _^_};
@@ -9,8 +9,9 @@ ghost use Rattle.reading.specs.Basics.{byteAt};
 ghost use Rattle.reading.specs.Reading.{fine};
 ghost use Rattle.net.specs.Net.{net, Place, Expression};
 ghost use Rattle.net.specs.Reader.{readExpression, twoOf, capped};
-ghost use Rattle.net.specs.Evaluated.{placeBy, joins};
-ghost use Rattle.multiset.specs.Most.{lesser, most, mostJoined, MostTold};
+ghost use Rattle.evaluation.specs.internal.Evaluated.{placeBy};
+ghost use Rattle.net.specs.internal.ReaderEnums.{joins};
+ghost use Rattle.multiset.specs.internal.Most.{lesser, most, mostJoined, MostTold};
 
 // The most arcs of an expression, and the place after it.
 pub struct Most {

@@ -8,8 +8,9 @@ use Rattle.reading.specs.Basics.{ℕ, _+_, _/_, List, [], _∷_, Option, some, 
 use Rattle.reading.specs.Reading.{fine, fault, command}
 use Rattle.reading.proofs.Commands.{done, end, known, past, needed-past, needed-stray, needs-cut, needs-goes}
 use Rattle.net.specs.Reader.{widthOf}
-use Rattle.net.specs.Evaluated.{widthTold}
-use Rattle.net_file.specs.Heads.{headAt, placeAfter, nextPlace, headTold}
+use Rattle.net.specs.internal.ReaderEnums.{widthTold}
+use Rattle.net_file.specs.Heads.{headAt, placeAfter, nextPlace}
+use Rattle.net_file.specs.Replies.{headTold}
 use Rattle.net_file.specs.declared.head.Head.{Head}
 use Rattle.net_file.specs.declared.head.Head.the-variants.{Command, Fault}
 use Rattle.net.proofs.Shut.{commands}

@@ -8,7 +8,7 @@ use borrow.Author.Tests.{ltb-true, leb-true, eqb-true, eqb-false}
 use Rattle.reading.specs.Basics.{ℕ, _+_, _-_, _*_, Bool, true, false, _&&_, length, ltb, leb, eqb, every, if_then_else_}
 use Rattle.reading.proofs.Lists.{In, all-in, every-in}
 use Rattle.reading.proofs.Gives.{both-first, both-second}
-use Rattle.net.proofs.Weights.{weight-le}
+use Rattle.evaluation.proofs.Weights.{weight-le}
 use Rattle.net.specs.Net.{Colour, variable, constant, successor, predecessor, Expression, one, two, all, plus, minus, times, Place, single, pair, Arc, Transition, Net, sizeOf, coloursOf, setOf, ceiling}
 use Rattle.net.specs.Values.{colour, pairRank, weight}
 use Rattle.net_file.specs.Limits.{Limits}

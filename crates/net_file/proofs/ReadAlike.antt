@@ -4,7 +4,7 @@ use Rattle.reading.specs.Basics.{ℕ, zero, suc, _+_, _*_, _&&_, List, [], _∷
 use Rattle.reading.specs.Reading.{Answer, fine, fault, _andThen_, under, _unless_, checked, Command, needed}
 use Rattle.net.specs.Net.{Colour, variable, constant, successor, predecessor, Guard, always, opposite, both, either, equal, less, Expression, one, two, all, times, plus, minus, Place, single, pair, Transition, Tokens, Net, net, placeAt, arcOn, setOf, variablesOf}
 use Rattle.net.specs.Reader.{opening, twoOf, capped, colourCommands, readColour, readGuard, readExpression}
-use Rattle.net_transitions.specs.Transitions.{Slot, TransitionsHold}
+use Rattle.net_transitions.specs.internal.TransitionTables.{Slot, TransitionsHold}
 
 module _ (s sets variables : List ℕ) (p q : List Place) (t u : List Transition) (k l : List Tokens) where
   set-alike : (c : Colour) → setOf (net sets variables p t k) c ≡ setOf (net sets variables q u l) c

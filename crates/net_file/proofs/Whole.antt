@@ -10,12 +10,12 @@ use Rattle.reading.specs.Reading.{Answer, fine, fault, _andThen_, outcome, acce
 use Rattle.net.specs.Net.{Place, single, Transition, Tokens, Net, net, variablesOf, bindingSpace}
 use Rattle.net.specs.Reader.{widthOf}
 use Rattle.net_parts.specs.Parts.{setPart, variablePart, placePart, transitionPart, tokensPart, content, readNet}
-use Rattle.net.specs.Told.{placeOf}
-use Rattle.net_parts.specs.Tables.{placesOf, Started, TokensRead, TokensTold}
-use Rattle.net_transitions.specs.Transitions.{over, TransitionsRead}
+use Rattle.net.specs.internal.ReaderEnums.{placeOf}
+use Rattle.net_parts.specs.internal.Tables.{placesOf, Started, TokensRead, TokensTold}
+use Rattle.net_transitions.specs.internal.TransitionTables.{over, TransitionsRead}
 use Rattle.net_parts.specs.declared.Part.{Part}
 use Rattle.net_parts.specs.declared.Part.the-variants as part
-use Rattle.net_file.specs.Held.{opened, closed, NetHolds}
+use Rattle.net_file.specs.internal.NetTables.{opened, closed, NetHolds}
 use Rattle.net.proofs.Shut.{commands}
 use Rattle.net.proofs.Answers.{checked-goes, checked-stops}
 use Rattle.net_transitions.proofs.Arcing.{place-at}

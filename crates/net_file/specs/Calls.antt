@@ -3,8 +3,6 @@ use Rattle.reading.specs.Basics.{ℕ, List, length}
 use Rattle.reading.specs.Reading.{Outcome, accepted, refused, on}
 use Rattle.net.specs.Net.{Net, flatPlaceCount, bindingSpace}
 use Rattle.net_parts.specs.Parts.{readNet}
-use Rattle.net_file.specs.declared.sizes.NetReply.{NetReply}
-use Rattle.net_file.specs.declared.sizes.NetReply.the-variants as net-reply
 
 pub record NetSizes : Type 0 where
   pub places : ℕ
@@ -13,8 +11,3 @@ pub record NetSizes : Type 0 where
 
 unfoldable pub netSizes : List ℕ → Outcome NetSizes
 netSizes s = on (readNet s) refused λ n. accepted (record { places = flatPlaceCount n; transitions = length (n .transitions); bindings = bindingSpace n (n .transitions) })
-
--- what the reply's cases say
-abbrev pub netReply : NetReply → Outcome NetSizes
-netReply (net-reply.Counted places transitions bindings) = accepted (record { places = places; transitions = transitions; bindings = bindings })
-netReply (net-reply.Refused number place) = refused number place

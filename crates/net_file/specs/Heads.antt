@@ -2,8 +2,6 @@
 use Rattle.reading.specs.Basics.{ℕ, List, [], _∷_, given, byteAt}
 use Rattle.reading.specs.Reading.{Answer, fine, fault, command, needed}
 use Rattle.net.specs.Reader.{widthOf}
-use Rattle.net_file.specs.declared.head.Head.{Head}
-use Rattle.net_file.specs.declared.head.Head.the-variants as head
 
 -- its byte, and the place after its operands; a byte that is no command is stray (3), and where the file ends there or within the operands it is cut off (2)
 unfoldable pub headAt : List ℕ → ℕ → Answer ℕ
@@ -18,8 +16,3 @@ placeAfter at (fault number place) = at
 
 abbrev pub nextPlace : List ℕ → ℕ → ℕ
 nextPlace s at = placeAfter at (headAt s at)
-
--- what the cases of the code's enum say
-abbrev pub headTold : Head → Answer ℕ
-headTold (head.Command byte next) = fine byte next
-headTold (head.Fault number place) = fault number place

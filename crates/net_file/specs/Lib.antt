@@ -1,6 +1,9 @@
+-- The meaning.
+pub mod Calls
 pub mod Heads
 pub mod Limits
 pub mod Formed
-pub mod Held
 pub mod Examples
-pub mod Calls
+pub mod Replies
+-- What the code's own tables, lists and enums stand for.
+pub mod internal

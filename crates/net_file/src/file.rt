@@ -12,8 +12,8 @@ ghost use lib.ListN.{length};
 ghost use Rattle.reading.specs.Reading.{Answer};
 ghost use Rattle.net.specs.Net.{Net};
 ghost use Rattle.net_parts.specs.declared.Part.the-variants as part;
-ghost use Rattle.net_parts.specs.Steps.{Bare};
-ghost use Rattle.net_file.specs.Held.{opened, openTold, closed, closeTold, refusal, NetTold};
+ghost use Rattle.net_parts.specs.internal.Steps.{Bare};
+ghost use Rattle.net_file.specs.internal.NetTables.{opened, openTold, closed, closeTold, refusal, NetTold};
 
 // A part that ends at a fault.
 fn stopped(number: u8, place: usize) -> Part

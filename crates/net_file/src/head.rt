@@ -1,7 +1,8 @@
 // The command of a net file at a place.
 use net::width;
 ghost use mathlib.Core.Path.{_≡_};
-ghost use Rattle.net_file.specs.Heads.{headAt, headTold, nextPlace};
+ghost use Rattle.net_file.specs.Heads.{headAt, nextPlace};
+ghost use Rattle.net_file.specs.Replies.{headTold};
 
 // A command's byte and the place after its operands; or the fault.
 pub enum Head {

@@ -5,8 +5,9 @@ use crate::head::next_at;
 use crate::sizes::NetReply;
 use crate::sizes::sizes_of;
 ghost use mathlib.Core.Path.{_≡_};
-ghost use Rattle.net_file.specs.Calls.{netReply, netSizes};
-ghost use Rattle.net_file.specs.Heads.{headAt, headTold, nextPlace};
+ghost use Rattle.net_file.specs.Replies.{netReply, headTold};
+ghost use Rattle.net_file.specs.Calls.{netSizes};
+ghost use Rattle.net_file.specs.Heads.{headAt, nextPlace};
 
 pub struct Reader<'a> {
     pub bytes: &'a [u8],

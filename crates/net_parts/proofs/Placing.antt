@@ -13,9 +13,9 @@ use Rattle.reading.specs.Reading.{fine, fault, whole}
 use Rattle.reading.proofs.Parts.{Reading, begins, goes-on, ends, stops}
 use Rattle.net.specs.Net.{Place, pair, Net, net, coloursOf}
 use Rattle.net_parts.specs.Parts.{placePart}
-use Rattle.net.specs.Told.{placeOf}
-use Rattle.net_parts.specs.Steps.{placeStep}
-use Rattle.net_parts.specs.Tables.{placesOf, startOf, PlaceRoom, Started}
+use Rattle.net.specs.internal.ReaderEnums.{placeOf}
+use Rattle.net_parts.specs.internal.Steps.{placeStep}
+use Rattle.net_parts.specs.internal.Tables.{placesOf, startOf, PlaceRoom, Started}
 use Rattle.net_parts.specs.declared.PlaceStep.{PlaceStep}
 use Rattle.net_parts.specs.declared.PlaceStep.the-variants.{Done, One, Two, Stop}
 use Rattle.net_parts.proofs.Totals.{sum-with}

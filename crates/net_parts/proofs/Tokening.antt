@@ -14,7 +14,7 @@ use Rattle.reading.proofs.Parts.{Reading, begins, goes-on, ends, stops}
 use Rattle.net.specs.Net.{Place, single, Tokens, Net, coloursOf, placeAt, tokensOn}
 use Rattle.net.specs.Reader.{widthOf}
 use Rattle.net_parts.specs.Parts.{tokensPart}
-use Rattle.net_parts.specs.Tables.{startOf, Started, Rising, flatAt, countOf, flag, Holds, tokenStep, TokenRoom, TokensRead}
+use Rattle.net_parts.specs.internal.Tables.{startOf, Started, Rising, flatAt, countOf, flag, Holds, tokenStep, TokenRoom, TokensRead}
 use Rattle.net_parts.specs.declared.token.TokenStep.{TokenStep}
 use Rattle.net_parts.specs.declared.token.TokenStep.the-variants.{Done, More, Stop}
 use Rattle.net.proofs.Shut.{commands}

@@ -1,3 +1,4 @@
+-- The meaning.
 pub mod Parts
-pub mod Steps
-pub mod Tables
+-- What the code's own tables, lists and enums stand for.
+pub mod internal

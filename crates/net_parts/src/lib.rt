@@ -16,8 +16,8 @@ ghost use Rattle.reading.specs.Basics.{sum, byteAt};
 ghost use Rattle.reading.specs.Reading.{whole};
 ghost use Rattle.net.specs.Net.{net, Place, coloursOf};
 ghost use Rattle.net_parts.specs.Parts.{setPart, variablePart, placePart};
-ghost use Rattle.net_parts.specs.Steps.{setStep, setsRead, Room, RoomFor, Few, placeStep};
-ghost use Rattle.net_parts.specs.Tables.{PlaceRoom};
+ghost use Rattle.net_parts.specs.internal.Steps.{setStep, setsRead, Room, RoomFor, Few, placeStep};
+ghost use Rattle.net_parts.specs.internal.Tables.{PlaceRoom};
 
 // One step of the set part.
 pub enum SetStep {

@@ -9,7 +9,7 @@ ghost use lib.ListN.{length};
 ghost use Rattle.reading.specs.Reading.{whole};
 ghost use Rattle.net.specs.Net.{net};
 ghost use Rattle.net_parts.specs.Parts.{placePart};
-ghost use Rattle.net_parts.specs.Tables.{placesRead, PlacesHeld};
+ghost use Rattle.net_parts.specs.internal.Tables.{placesRead, PlacesHeld};
 
 // The place part, over so many sets; its total is the colours of all places together.
 pub fn read_places(

@@ -10,8 +10,8 @@ ghost use Prim.Native.Nat.{ℕ, _≤_, _<_};
 ghost use lib.ListN.{length};
 ghost use Rattle.net.specs.Net.{Net, Tokens};
 ghost use Rattle.net_parts.specs.Parts.{tokensPart};
-ghost use Rattle.net_parts.specs.Steps.{Bare};
-ghost use Rattle.net_parts.specs.Tables.{Rising, Started, Holds, flag, tokenStep, TokenRoom, TokensTold};
+ghost use Rattle.net_parts.specs.internal.Steps.{Bare};
+ghost use Rattle.net_parts.specs.internal.Tables.{Rising, Started, Holds, flag, tokenStep, TokenRoom, TokensTold};
 
 // One step of the tokens part: a place, a rank, their count, and the flat place that they are.
 pub enum TokenStep {

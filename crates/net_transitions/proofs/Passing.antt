@@ -11,7 +11,7 @@ use Rattle.reading.specs.Reading.{fault, whole}
 use Rattle.reading.proofs.Parts.{Reading, begins, goes-on, ends, stops}
 use Rattle.net.specs.Net.{always, Transition, Net, bindingSpace}
 use Rattle.net_parts.specs.Parts.{transitionPart}
-use Rattle.net_transitions.specs.Transitions.{TransitionHolds, TransitionRead, TransitionTold, TransitionRoom, TransitionFew, TransitionsHold, TransitionsRead}
+use Rattle.net_transitions.specs.internal.TransitionTables.{TransitionHolds, TransitionRead, TransitionTold, TransitionRoom, TransitionFew, TransitionsHold, TransitionsRead}
 use Rattle.net_transitions.specs.declared.transition.TransitionStep.{TransitionStep}
 use Rattle.net_transitions.specs.declared.transition.TransitionStep.the-variants.{Done, More, Stop}
 use Rattle.net_transitions.proofs.Transitioning.{row-same}

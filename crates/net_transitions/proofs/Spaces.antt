@@ -9,7 +9,7 @@ use lib.Bits.{bitOr}
 use lib.Pow.{pow-add, pow-pos, pow-mono, high}
 use Rattle.reading.specs.Basics.{ℕ, zero, suc, _+_, _*_, _/_, _%_, Bool, true, false, _||_, List, [], _∷_, map, length, getD, eqb, if_then_else_, with, numbersFrom, below, any, keep, product}
 use Rattle.net.specs.Net.{Net, Guard, Arc, Transition, sizeOf, sizesOf, variablesOf, bindingSpace, inGuard, inExpression, inTransition}
-use Rattle.net.specs.Told.{bits, member, sizeIn}
+use Rattle.net.specs.internal.ReaderEnums.{bits, member, sizeIn}
 use Rattle.net.proofs.Answers.{bits-lt, bits-or}
 use Rattle.net_parts.proofs.Totals.{sum-with}
 

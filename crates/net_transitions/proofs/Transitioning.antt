@@ -13,9 +13,9 @@ use Rattle.reading.proofs.Commands.{past, end, other, passes, done, fails, stan
 use Rattle.net.specs.Net.{Guard, always, Arc, Transition, Place, Net, net, placeAt, arcOn, variablesOf, bindingSpace, inGuard, inTransition}
 use Rattle.net.specs.Reader.{widthOf, command, readGuard, readGuardIf, readExpression}
 use Rattle.net_parts.specs.Parts.{arcPart, ended, transitionPart}
-use Rattle.net.specs.Told.{bits, guardTold}
-use Rattle.net_parts.specs.Tables.{placesOf}
-use Rattle.net_transitions.specs.Transitions.{over, RowHolds, ArcsRead, ArcsTold, guardPlace, GuardHolds, ClosedTold, inside, TransitionRead, TransitionTold, TransitionFew}
+use Rattle.net.specs.internal.ReaderEnums.{bits, guardTold}
+use Rattle.net_parts.specs.internal.Tables.{placesOf}
+use Rattle.net_transitions.specs.internal.TransitionTables.{over, RowHolds, ArcsRead, ArcsTold, guardPlace, GuardHolds, ClosedTold, inside, TransitionRead, TransitionTold, TransitionFew}
 use Rattle.net_transitions.specs.declared.transition.TransitionStep.{TransitionStep}
 use Rattle.net_transitions.specs.declared.transition.TransitionStep.the-variants.{Done, More, Stop}
 use Rattle.net.specs.declared.Read.{Read}

@@ -9,7 +9,7 @@ ghost use mathlib.Core.List.{List};
 ghost use Prim.Native.Nat.{ℕ, _≤_, _<_};
 ghost use lib.ListN.{length, getD};
 ghost use Rattle.net.specs.Net.{Arc};
-ghost use Rattle.net_transitions.specs.Transitions.{over, RowHolds, arcStopped, ArcTold, ArcRoom, ArcsTold, ArcsRoom};
+ghost use Rattle.net_transitions.specs.internal.TransitionTables.{over, RowHolds, arcStopped, ArcTold, ArcRoom, ArcsTold, ArcsRoom};
 
 // One step over the arcs: the arc's slot, the variables in its expression, and the place after it.
 pub enum ArcStep {

@@ -8,7 +8,7 @@ ghost use lib.ListN.{length, getD};
 ghost use lib.Dec.{eqb};
 ghost use Rattle.reading.specs.Basics.{keep, below, product};
 ghost use Rattle.net.specs.Net.{Net, sizeOf};
-ghost use Rattle.net.specs.Told.{bits};
+ghost use Rattle.net.specs.internal.ReaderEnums.{bits};
 
 // Whether a variable is in a set.
 fn has(uses: u32, v: usize) -> bool

@@ -12,8 +12,8 @@ ghost use mathlib.Core.List.{List, []};
 ghost use Prim.Native.Nat.{ℕ, _≤_, _<_, _+_, _*_};
 ghost use lib.ListN.{length, getD};
 ghost use Rattle.net.specs.Net.{net, Place, Transition, bindingSpace, inTransition};
-ghost use Rattle.net.specs.Told.{bits};
-ghost use Rattle.net_transitions.specs.Transitions.{over, guardPlace, ClosedTold, ClosedRoom, inside, transitionStopped, TransitionTold, TransitionRoom, TransitionFew};
+ghost use Rattle.net.specs.internal.ReaderEnums.{bits};
+ghost use Rattle.net_transitions.specs.internal.TransitionTables.{over, guardPlace, ClosedTold, ClosedRoom, inside, transitionStopped, TransitionTold, TransitionRoom, TransitionFew};
 ghost use Rattle.net_parts.specs.Parts.{transitionPart};
 ghost use mathlib.Core.Option.{some};
 

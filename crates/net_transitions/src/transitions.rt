@@ -5,7 +5,7 @@ use net_parts::Part;
 ghost use mathlib.Core.Path.{_≡_};
 ghost use Prim.Native.Nat.{_≤_};
 ghost use lib.ListN.{length};
-ghost use Rattle.net_transitions.specs.Transitions.{over, TransitionsTold};
+ghost use Rattle.net_transitions.specs.internal.TransitionTables.{over, TransitionsTold};
 
 // The transition part, over sets, variables and places; its total is the binding space.
 pub fn read_transitions(

@@ -1,2 +1,3 @@
+-- The meaning.
 pub mod Basics
 pub mod Reading

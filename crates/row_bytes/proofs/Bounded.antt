@@ -7,13 +7,13 @@ use Rattle.firing.specs.Arcs.{rowOf}
 use Rattle.flat_file.proofs.Written.{length-row}
 use Rattle.net.specs.Net.{sizesOf, flatPlaceCount}
 use Rattle.bindings.specs.Effect.{transitionAt}
-use Rattle.rows.specs.Most.{MostRow}
-use Rattle.row_bytes.specs.Pieces.{transitionBytes, Ruled}
-use Rattle.row_numbers.specs.Walked.{entries}
-use Rattle.row_numbers.specs.Marks.{Counted}
+use Rattle.rows.specs.internal.Most.{MostRow}
+use Rattle.row_bytes.specs.internal.RowBytes.{transitionBytes, Ruled}
+use Rattle.row_numbers.specs.internal.Walked.{entries}
+use Rattle.row_numbers.specs.internal.Marks.{Counted}
 use Rattle.row_numbers.proofs.Marking.{marks-few, effects-most}
-use Rattle.row_bytes.proofs.Pieces.{Measuring, measure-begins, measure-goes, measure-ends, tables-ready}
-use Rattle.row_bytes.proofs.Steadied.{rows-told}
+use Rattle.row_bytes.proofs.RowBytes.{Measuring, measure-begins, measure-goes, measure-ends, tables-ready}
+use Rattle.row_bytes.proofs.RowLengths.{rows-told}
 
 -- ---- what the tables tell
 module _ {s sizes vars own guards arcs marks rows : List ℕ} {transitions : ℕ} (ruled : Ruled s sizes vars own guards arcs marks transitions) (counted : Counted (ruled .net) rows transitions)

@@ -1,3 +1,3 @@
-pub mod Pieces
-pub mod Steadied
+pub mod RowBytes
+pub mod RowLengths
 pub mod Bounded

@@ -13,9 +13,9 @@ ghost use mathlib.Core.Path.{_≡_};
 ghost use Prim.Native.Nat.{_+_, _*_, _≤_, _<_};
 ghost use lib.ListN.{length};
 ghost use Rattle.reading.specs.Basics.{flatMap, below};
-ghost use Rattle.flat_file.specs.Out.{Appended};
-ghost use Rattle.row_bytes.specs.Pieces.{bindingBytes, transitionBytes, Ruled, Known, Here, Roomy};
-ghost use Rattle.row_numbers.specs.Marks.{effects, Counted};
+ghost use Rattle.flat_file.specs.internal.Output.{Appended};
+ghost use Rattle.row_bytes.specs.internal.RowBytes.{bindingBytes, transitionBytes, Ruled, Known, Here, Roomy};
+ghost use Rattle.row_numbers.specs.internal.Marks.{effects, Counted};
 
 // How many bytes a binding gives: those of its row, if it has one. Its mark is number k.
 fn measure_one(

@@ -7,8 +7,8 @@ ghost use Prim.Native.Nat.{ℕ, _+_, _*_, _≤_, _<_};
 ghost use lib.ListN.{length, getD};
 ghost use lib.Dec.{leb};
 ghost use Rattle.reading.specs.Basics.{flatMap, below};
-ghost use Rattle.row_bytes.specs.Pieces.{transitionBytes, Ruled, Roomy};
-ghost use Rattle.row_numbers.specs.Marks.{Counted};
+ghost use Rattle.row_bytes.specs.internal.RowBytes.{transitionBytes, Ruled, Roomy};
+ghost use Rattle.row_numbers.specs.internal.Marks.{Counted};
 
 // How many bytes the rows of all transitions take at most. No row is loaded for it.
 fn bound_all(

@@ -15,11 +15,11 @@ use lib.Pow.{low, shl-shr, pow-lt, pow-add, pow-pos}
 use lib.Seq.{getD-set-same, getD-set-other}
 use Rattle.reading.specs.Basics.{ℕ, zero, suc, _+_, _/_, _%_, Bool, true, false, _||_, _&&_, eqb, ltb, if_then_else_, List, length, getD, replicate, keep, numbersFrom, below, product}
 use Rattle.net.specs.Net.{Net, sizesOf}
-use Rattle.net.specs.Told.{member}
+use Rattle.net.specs.internal.ReaderEnums.{member}
 use Rattle.net_transitions.proofs.Spaces.{count-next, count-takes}
 use Rattle.bindings.specs.Effect.{transitionAt}
-use Rattle.row_numbers.specs.Walked.{takesEffect, entries, Listed, Tables}
-use Rattle.row_numbers.specs.Marks.{markAt, hasRow, Blank, effects, Marking, Marked, Counted}
+use Rattle.row_numbers.specs.internal.Walked.{takesEffect, entries, Listed, Tables}
+use Rattle.row_numbers.specs.internal.Marks.{markAt, hasRow, Blank, effects, Marking, Marked, Counted}
 use Rattle.row_numbers.proofs.Tabled.{guard-none, number-small, entries-begin, entries-next, entries-rise, entries-few, entries-most, entries-without, entries-with}
 
 -- ---- bits

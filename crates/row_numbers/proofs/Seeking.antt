@@ -5,10 +5,10 @@ use native.Mathlib.Omega.{arith}
 use Rattle.reading.specs.Basics.{ℕ, _+_, List, none, some, length, product}
 use Rattle.net.specs.Net.{Net, sizesOf}
 use Rattle.bindings.specs.Effect.{transitionAt, bindings}
-use Rattle.bindings.specs.Numbers.{before}
+use Rattle.bindings.specs.internal.Numbers.{before}
 use Rattle.bindings.proofs.Digits.{bindings-at, before-all}
 use Rattle.row_numbers.specs.Unfolding.{orderOfRow}
-use Rattle.row_numbers.specs.Walked.{passed, orderAt, Listed, SoughtTold, SoughtRoom}
+use Rattle.row_numbers.specs.internal.Walked.{passed, orderAt, Listed, SoughtTold, SoughtRoom}
 use Rattle.row_numbers.specs.declared.seek.Sought.{Sought}
 use Rattle.row_numbers.specs.declared.seek.Sought.the-variants.{At, Past}
 use Rattle.row_numbers.proofs.Walking.{passed-all, order-here, order-past}

@@ -13,18 +13,18 @@ use Rattle.reading.proofs.Lists.{below-at}
 use Rattle.net.specs.Net.{Transition, Net, net, inGuard, inExpression, variablesOf, sizesOf}
 use Rattle.net.specs.Reader.{readGuard}
 use Rattle.net.specs.Values.{holds}
-use Rattle.net.specs.Evaluated.{Held}
+use Rattle.evaluation.specs.internal.Evaluated.{Held}
 use Rattle.net_file.specs.Limits.{Limits}
-use Rattle.net.specs.declared.evaluate.Tested.{Tested}
+use Rattle.evaluation.specs.declared.evaluate.Tested.{Tested}
 use Rattle.net.proofs.Alike.{holds-alike, holds-bound}
 use Rattle.bindings.specs.Effect.{Binding, transitionAt, standsFor, bindings, effect}
 use Rattle.bindings.specs.Orders.{orderOf}
-use Rattle.bindings.specs.Bound.{Binds, numbered}
-use Rattle.bindings.specs.Numbers.{digits, before}
+use Rattle.bindings.specs.internal.Bindings.{Binds, numbered}
+use Rattle.bindings.specs.internal.Numbers.{digits, before}
 use Rattle.bindings.proofs.Bindings.{bindings-length}
 use Rattle.bindings.proofs.Digits.{bindings-at, before-next, before-all}
 use Rattle.row_numbers.specs.Unfolding.{rowNumber}
-use Rattle.row_numbers.specs.Walked.{passed, takesEffect, entriesAt, entries, Numbers, Follows, Starts, Listed, Tables}
+use Rattle.row_numbers.specs.internal.Walked.{passed, takesEffect, entriesAt, entries, Numbers, Follows, Starts, Listed, Tables}
 use Rattle.row_numbers.proofs.Walking.{passed-none, passed-most, effect-passes, effect-fails, number-passes, number-fails}
 
 -- ---- one guard

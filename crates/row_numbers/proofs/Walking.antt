@@ -15,7 +15,7 @@ use Rattle.bindings.specs.Effect.{Binding, bindings, effect}
 use Rattle.bindings.specs.Orders.{orderOf, named}
 use Rattle.bindings.proofs.Named.{order-names, named-order, orders-apart}
 use Rattle.row_numbers.specs.Unfolding.{rows, rowNumber, orderOfRow}
-use Rattle.row_numbers.specs.Walked.{rowsAmong, passed}
+use Rattle.row_numbers.specs.internal.Walked.{rowsAmong, passed}
 use Rattle.row_numbers.proofs.Numbering.{at-number}
 use Rattle.row_numbers.proofs.Rows.{rowed, rowedIf, rowed-is, noRow, absent-row}
 

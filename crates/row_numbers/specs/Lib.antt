@@ -1,3 +1,4 @@
+-- The meaning.
 pub mod Unfolding
-pub mod Walked
-pub mod Marks
+-- What the code's own tables, lists and enums stand for.
+pub mod internal

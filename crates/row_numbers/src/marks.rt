@@ -11,9 +11,9 @@ ghost use lib.Dec.{eqb};
 ghost use Rattle.reading.specs.Basics.{product, if_then_else_};
 ghost use Rattle.net.specs.Net.{Net, sizesOf};
 ghost use Rattle.bindings.specs.Effect.{transitionAt};
-ghost use Rattle.bindings.specs.Bound.{Binds, numbered};
-ghost use Rattle.row_numbers.specs.Walked.{takesEffect, Listed, Tables};
-ghost use Rattle.row_numbers.specs.Marks.{markAt, hasRow, Blank, effects, Marking, Marked, Counted};
+ghost use Rattle.bindings.specs.internal.Bindings.{Binds, numbered};
+ghost use Rattle.row_numbers.specs.internal.Walked.{takesEffect, Listed, Tables};
+ghost use Rattle.row_numbers.specs.internal.Marks.{markAt, hasRow, Blank, effects, Marking, Marked, Counted};
 
 // Sets a mark; past the end it sets none.
 pub fn set_mark(marks: &mut [u32; 2048], k: usize)

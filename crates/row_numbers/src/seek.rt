@@ -9,8 +9,8 @@ ghost use lib.ListN.{length};
 ghost use Rattle.reading.specs.Basics.{product};
 ghost use Rattle.net.specs.Net.{Net, sizesOf};
 ghost use Rattle.bindings.specs.Effect.{transitionAt};
-ghost use Rattle.bindings.specs.Numbers.{before};
-ghost use Rattle.row_numbers.specs.Walked.{passed, Listed, Tables, SoughtTold, SoughtRoom, LocatedTold, LocatedRoom};
+ghost use Rattle.bindings.specs.internal.Numbers.{before};
+ghost use Rattle.row_numbers.specs.internal.Walked.{passed, Listed, Tables, SoughtTold, SoughtRoom, LocatedTold, LocatedRoom};
 
 // A row among the bindings of one transition, or how many rows there are with them.
 pub enum Sought {

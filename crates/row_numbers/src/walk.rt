@@ -1,7 +1,7 @@
 // The walk over all bindings in order, which gives each its row number.
 use bindings::next_binding;
 use bindings::space_of;
-use net::eval_guard;
+use evaluation::eval_guard;
 ghost use mathlib.Core.Path.{_≡_};
 ghost use Prim.Native.Nat.{ℕ, _≤_, _<_, _+_};
 ghost use mathlib.Core.List.{List};
@@ -9,9 +9,9 @@ ghost use lib.ListN.{length, getD, set, take};
 ghost use Rattle.reading.specs.Basics.{product};
 ghost use Rattle.net.specs.Net.{Net, sizesOf};
 ghost use Rattle.bindings.specs.Effect.{transitionAt};
-ghost use Rattle.bindings.specs.Bound.{Binds, numbered};
-ghost use Rattle.bindings.specs.Numbers.{before};
-ghost use Rattle.row_numbers.specs.Walked.{passed, takesEffect, entriesAt, entries, Numbers, Starts, Listed, Tables};
+ghost use Rattle.bindings.specs.internal.Bindings.{Binds, numbered};
+ghost use Rattle.bindings.specs.internal.Numbers.{before};
+ghost use Rattle.row_numbers.specs.internal.Walked.{passed, takesEffect, entriesAt, entries, Numbers, Starts, Listed, Tables};
 
 // Whether a binding of a transition with a guard has an effect: its guard holds.
 pub fn passes(s: &[u8], sizes: &[u8], vars: &[u8], env: &[u8; 32], guard: u16) -> bool

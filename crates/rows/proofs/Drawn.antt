@@ -12,19 +12,19 @@ use Rattle.net.specs.Net as net
 use Rattle.net.specs.Net.{Expression, Place, single, pair, Net, net, coloursOf, placeAt, flatPlaceCount, arcOn}
 use Rattle.net.specs.Reader.{readExpression}
 use Rattle.net.specs.Values.{weight}
-use Rattle.net.specs.Evaluated.{bound, placeBy, isPair}
-use Rattle.net_transitions.specs.Transitions.{Slot}
+use Rattle.evaluation.specs.internal.Evaluated.{bound, placeBy, isPair}
+use Rattle.net_transitions.specs.internal.TransitionTables.{Slot}
 use Rattle.net.proofs.Alike.{weight-alike}
 use Rattle.bindings.specs.Effect.{transitionAt, arcWeight}
-use Rattle.rows.specs.Packed.{shapeOf, entryOf, holding, entriesOf, RowPacked}
-use Rattle.runs.specs.Terms.{Appended}
-use Rattle.sums.specs.Loaded.{rankArcs, ArcLoaded}
-use Rattle.sums.specs.Slots.{expressionSlots, slotsFor}
+use Rattle.rows.specs.internal.Packed.{shapeOf, entryOf, holding, entriesOf, RowPacked}
+use Rattle.runs.specs.internal.Terms.{Appended}
+use Rattle.sums.specs.internal.Loaded.{rankArcs, ArcLoaded}
+use Rattle.sums.specs.internal.Slots.{expressionSlots, slotsFor}
 use Rattle.multiset.proofs.Slots.{slots-told}
 use Rattle.runs.proofs.Appending.{append-none, append-join}
-use Rattle.rows.specs.Drawing.{placeSlots, slotsBelow, kindSlots, startOf, placeArcs, kindArcs, Drawing}
+use Rattle.rows.specs.internal.Drawing.{placeSlots, slotsBelow, kindSlots, startOf, placeArcs, kindArcs, Drawing}
 use Rattle.rows.proofs.Needing.{slots-next, slots-rise, kind-arcs}
-use Rattle.rows.specs.Loading.{KindLoaded}
+use Rattle.rows.specs.internal.Loading.{KindLoaded}
 use Rattle.rows.proofs.Split.{colours-some, start-next, start-low, kind-more, kind-few, place-none}
 use Rattle.rows.proofs.Packing.{HoldingAt, holding-at, holding-with, holding-few, holding-give, entries-many, entry-at}
 

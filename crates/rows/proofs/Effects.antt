@@ -7,22 +7,23 @@ use lib.Seq.{take-take}
 use Rattle.reading.specs.Basics.{ℕ, _+_, _/_, _*_, Bool, true, false, not, _||_, List, [], _∷_, Option, none, some, length, take, getD, getElem?, if_then_else_, given, any, find}
 use Rattle.reading.proofs.Lists.{In, here, there, in-cases}
 use Rattle.firing.specs.Firing.{Weights, fired, fire}
-use Rattle.firing.specs.Steps.{lacking}
-use Rattle.firing.specs.Arcs.{Arc, arcsIn, arcsOf, row, rowIn, rowOf, weights, Proper}
+use Rattle.firing.specs.internal.Steps.{lacking}
+use Rattle.firing.specs.Arcs.{Arc, arcsOf, row, rowOf, weights, Proper}
+use Rattle.firing.specs.internal.RowLists.{arcsIn, rowIn}
 use Rattle.firing.proofs.Rule.{fires-3}
 use Rattle.firing.proofs.Agree.{fire-same}
 use Rattle.firing.proofs.Weighted.{row-agrees, row-proper}
 use Rattle.net.specs.Net as net
 use Rattle.net.specs.Net.{Transition, Net, net, flatPlaceCount, arcOn, variablesOf, inGuard, inExpression, inTransition}
 use Rattle.net.specs.Values.{holds, weight}
-use Rattle.net.specs.Evaluated.{bound}
+use Rattle.evaluation.specs.internal.Evaluated.{bound}
 use Rattle.net.proofs.Alike.{holds-alike, holds-bound, weight-bound}
-use Rattle.runs.specs.Terms.{Appended}
+use Rattle.runs.specs.internal.Terms.{Appended}
 use Rattle.runs.proofs.Appending.{arcs-kept}
 use Rattle.bindings.specs.Effect.{Binding, FlatPlace, transitionAt, standsFor, flatPlaces, arcWeight, weightsOf, effect}
-use Rattle.rows.specs.Drawing.{kindSlots, rowSlots, room, kindArcs, Drawing, TakesLoaded, RowLoaded}
-use Rattle.bindings.specs.Bound.{Binds, binding}
-use Rattle.rows.specs.Loading.{KindLoaded, GuardTold}
+use Rattle.rows.specs.internal.Drawing.{kindSlots, rowSlots, room, kindArcs, Drawing, TakesLoaded, RowLoaded}
+use Rattle.bindings.specs.internal.Bindings.{Binds, binding}
+use Rattle.rows.specs.internal.Loading.{KindLoaded, GuardTold}
 use Rattle.bindings.proofs.Clash.{not-true, not-false}
 use Rattle.rows.proofs.Needing.{kind-low, kind-arcs, row-room}
 use Rattle.rows.proofs.Split.{split, start-low, kind-few}

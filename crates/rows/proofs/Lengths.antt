@@ -11,8 +11,8 @@ use Rattle.net.specs.Net.{Expression, one, two, all, plus, minus, times, Place,
 use Rattle.net.specs.Values.{colour, pairRank, weight}
 use Rattle.net_file.specs.Formed.{Fitting, expressionFormed}
 use Rattle.net_file.proofs.Ranges.{one-ranks, two-ranks}
-use Rattle.sums.specs.Loaded.{oneArc, ranksFrom, rankArcs}
-use Rattle.rows.specs.Steady.{othersOf, steadyArcs}
+use Rattle.sums.specs.internal.Loaded.{oneArc, ranksFrom, rankArcs}
+use Rattle.rows.specs.internal.Steady.{othersOf, steadyArcs}
 use Rattle.multiset.proofs.Ranks.{ranks-skip, ranks-pass, ranks-none, ranks-one}
 
 -- what an option holds

@@ -6,9 +6,9 @@ use Rattle.reading.specs.Basics.{ℕ, true, List}
 use Rattle.net.specs.Net.{Guard, Net}
 use Rattle.net.specs.Reader.{readGuard}
 use Rattle.net.specs.Values.{holds}
-use Rattle.net.specs.Evaluated.{bound, Held}
-use Rattle.net_transitions.specs.Transitions.{GuardHolds}
-use Rattle.net.specs.declared.evaluate.Tested.{Tested}
+use Rattle.evaluation.specs.internal.Evaluated.{bound, Held}
+use Rattle.net_transitions.specs.internal.TransitionTables.{GuardHolds}
+use Rattle.evaluation.specs.declared.evaluate.Tested.{Tested}
 
 module _ (s : List ℕ) (n : Net) (env : List ℕ) (g : Guard) (at : ℕ) (slot : GuardHolds s n g at) where
   -- no guard stands there, or one does

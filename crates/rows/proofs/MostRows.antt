@@ -10,17 +10,17 @@ use Rattle.net.specs.Net as net
 use Rattle.net.specs.Net.{Expression, Transition, Place, Net, net, placeAt, coloursOf, flatPlaceCount, arcOn, variablesOf, sizesOf}
 use Rattle.net.specs.Values.{holds}
 use Rattle.net.specs.Reader.{readExpression}
-use Rattle.net.specs.Evaluated.{placeBy}
+use Rattle.evaluation.specs.internal.Evaluated.{placeBy}
 use Rattle.firing.specs.Arcs.{Arc, rowOf}
-use Rattle.net_transitions.specs.Transitions.{Slot}
-use Rattle.multiset.specs.Most.{most}
+use Rattle.net_transitions.specs.internal.TransitionTables.{Slot}
+use Rattle.multiset.specs.internal.Most.{most}
 use Rattle.multiset.proofs.MostArcs.{arcs-most}
 use Rattle.bindings.specs.Effect.{transitionAt, standsFor, weightsOf, effect}
-use Rattle.bindings.specs.Numbers.{digits}
-use Rattle.rows.specs.Packed.{holding}
-use Rattle.rows.specs.Drawing.{startOf, placeArcs, kindArcs, Drawing}
-use Rattle.rows.specs.Steady.{arcsOfRow}
-use Rattle.rows.specs.Most.{MostKind, MostRow}
+use Rattle.bindings.specs.internal.Numbers.{digits}
+use Rattle.rows.specs.internal.Packed.{holding}
+use Rattle.rows.specs.internal.Drawing.{startOf, placeArcs, kindArcs, Drawing}
+use Rattle.rows.specs.internal.Steady.{arcsOfRow}
+use Rattle.rows.specs.internal.Most.{MostKind, MostRow}
 use Rattle.rows.proofs.Split.{split}
 use Rattle.rows.proofs.Drawn.{place-by, slot, row-few, entry-past, entry-there, row-gives, Entered, entered, arcs-given}
 

@@ -10,13 +10,13 @@ use Rattle.reading.specs.Basics.{ℕ, zero, suc, _+_, _*_, _/_, _%_, Bool, true
 use Rattle.net.specs.Net as net
 use Rattle.net.specs.Net.{always, Net, net, placeAt, arcOn}
 use Rattle.net.specs.Reader.{readExpression}
-use Rattle.net_transitions.specs.Transitions.{Slot}
-use Rattle.sums.specs.Slots.{expressionSlots, slotsFor}
+use Rattle.net_transitions.specs.internal.TransitionTables.{Slot}
+use Rattle.sums.specs.internal.Slots.{expressionSlots, slotsFor}
 use Rattle.multiset.proofs.Slots.{slots-told}
 use Rattle.bindings.specs.Effect.{transitionAt}
-use Rattle.rows.specs.Packed.{ifHeld, holding}
-use Rattle.rows.specs.Drawing.{placeSlots, slotsBelow, kindSlots, rowSlots, Drawing}
-use Rattle.rows.specs.Slots.{KindSlotted, RowSlotted, NetSlotted}
+use Rattle.rows.specs.internal.Packed.{ifHeld, holding}
+use Rattle.rows.specs.internal.Drawing.{placeSlots, slotsBelow, kindSlots, rowSlots, Drawing}
+use Rattle.rows.specs.internal.Slots.{KindSlotted, RowSlotted, NetSlotted}
 use Rattle.rows.proofs.Packing.{by-slot, held-none, held-some, holding-more}
 use Rattle.rows.proofs.Needing.{greatest-least, map-at}
 use Rattle.rows.proofs.Drawn.{slot, row-few, entry-past, entry-there, Entered, entered}

@@ -13,10 +13,10 @@ use Rattle.reading.proofs.Gives.{both-first, both-second}
 use Rattle.firing.specs.Arcs.{Arc, arcsOf}
 use Rattle.net.specs.Net.{Transition, Net, single, sizeOf, setsOf, coloursOf, placeAt, flatPlaceCount, arcOn}
 use Rattle.net_file.specs.Limits.{Limits}
-use Rattle.sums.specs.Loaded.{ranksFrom, rankArcs}
+use Rattle.sums.specs.internal.Loaded.{ranksFrom, rankArcs}
 use Rattle.multiset.proofs.Ranks.{ranks-none, ranks-few}
 use Rattle.bindings.specs.Effect.{FlatPlace, flatPlaces, arcWeight}
-use Rattle.rows.specs.Drawing.{startOf, placeArcs, kindArcs}
+use Rattle.rows.specs.internal.Drawing.{startOf, placeArcs, kindArcs}
 use Rattle.rows.proofs.FlatPlaces.{flat-places}
 
 -- ---- flat places in turn

@@ -16,14 +16,14 @@ use Rattle.firing.specs.Firing.{Weights}
 use Rattle.firing.specs.Arcs.{Arc, arcsOf, rowOf}
 use Rattle.net.specs.Reader.{readExpression}
 use Rattle.net_file.specs.Formed.{Fitting, Formed, expressionFormed}
-use Rattle.net_transitions.specs.Transitions.{Slot}
+use Rattle.net_transitions.specs.internal.TransitionTables.{Slot}
 use Rattle.net_file.proofs.Limits.{limits}
 use Rattle.net_file.proofs.Formed.{formed, found-in, its-expression}
 use Rattle.bindings.specs.Effect.{transitionAt, bindings, standsFor, weightsOf, effect}
-use Rattle.bindings.specs.Numbers.{digits, before}
-use Rattle.rows.specs.Packed.{holding}
-use Rattle.rows.specs.Drawing.{startOf, placeArcs, kindArcs, Drawing}
-use Rattle.rows.specs.Steady.{SteadyArc, SteadyWithin, SteadyKind, arcsOfRow, SteadyRow}
+use Rattle.bindings.specs.internal.Numbers.{digits, before}
+use Rattle.rows.specs.internal.Packed.{holding}
+use Rattle.rows.specs.internal.Drawing.{startOf, placeArcs, kindArcs, Drawing}
+use Rattle.rows.specs.internal.Steady.{SteadyArc, SteadyWithin, SteadyKind, arcsOfRow, SteadyRow}
 use Rattle.rows.specs.declared.steady.Steady.{Steady}
 use Rattle.rows.specs.declared.steady.Steady.the-variants as steady
 use Rattle.rows.proofs.Split.{split}

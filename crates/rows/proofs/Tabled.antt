@@ -5,12 +5,12 @@ use native.Mathlib.Omega.{arith}
 use lib.Seq.{getD-take}
 use Rattle.reading.specs.Basics.{ℕ, zero, suc, _+_, _-_, _%_, Bool, true, false, not, List, [], _∷_, map, length, getD, take, eqb, if_then_else_, sum}
 use Rattle.net.specs.Net.{single, pair, Net, net, coloursOf, placeAt}
-use Rattle.net.specs.Evaluated.{isPair}
+use Rattle.evaluation.specs.internal.Evaluated.{isPair}
 use Rattle.net_file.specs.Limits.{Limits}
-use Rattle.net_parts.specs.Tables.{placesOf, Started}
-use Rattle.net_transitions.specs.Transitions.{TransitionsHold}
-use Rattle.rows.specs.Packed.{shapeOf, shapeIn, Packed}
-use Rattle.rows.specs.Drawing.{startOf, Drawing}
+use Rattle.net_parts.specs.internal.Tables.{placesOf, Started}
+use Rattle.net_transitions.specs.internal.TransitionTables.{TransitionsHold}
+use Rattle.rows.specs.internal.Packed.{shapeOf, shapeIn, Packed}
+use Rattle.rows.specs.internal.Drawing.{startOf, Drawing}
 use Rattle.rows.proofs.Split.{start-next, start-low}
 
 -- a place is a pair where its second set is not 255

@@ -1,10 +1,10 @@
 // Loads the effect of a binding as a row, into two lent lists, one of places and one of weights.
+use evaluation::eval_guard;
 use firing::Ends;
 use multiset::load_arc;
-use net::eval_guard;
 ghost use mathlib.Core.Path.{_≡_};
 ghost use Prim.Native.Nat.{_≤_, _<_};
-ghost use Rattle.rows.specs.Loading.{KindLoaded, GuardTold, LoadsTakes, LoadsRest, LoadsRow};
+ghost use Rattle.rows.specs.internal.Loading.{KindLoaded, GuardTold, LoadsTakes, LoadsRest, LoadsRow};
 
 // Appends the arcs of a kind, entry after entry of its row in the packed table, up to the first 0.
 fn load_kind(

@@ -1,7 +1,7 @@
 // How many arcs a transition's rows have at most, whatever the binding.
 use multiset::most_arcs;
 ghost use Prim.Native.Nat.{_≤_, _<_};
-ghost use Rattle.rows.specs.Most.{MostKind, MostRow};
+ghost use Rattle.rows.specs.internal.Most.{MostKind, MostRow};
 
 // How many a transition's arcs of a kind give at most, entry after entry of its row in the packed table, up to the first 0.
 fn most_kind(s: &[u8], sizes: &[u8], vars: &[u8], arcs: &[u64; 3072], base: usize) -> usize

@@ -1,9 +1,10 @@
 // How many slots the rows of a net need in the lent lists.
 use reading::byte_at;
 ghost use mathlib.Core.Path.{_≡_};
-ghost use Prim.Native.Nat.{ℕ, _≤_, _<_};
-ghost use Rattle.sums.specs.Slots.{slotsFor};
-ghost use Rattle.rows.specs.Slots.{KindSlotted, RowSlotted, NetSlotted};
+ghost use Prim.Native.Nat.{ℕ, _≤_, _<_, _+_, _/_};
+ghost use lib.Dec.{leb};
+ghost use Rattle.sums.specs.internal.Slots.{slotsFor};
+ghost use Rattle.rows.specs.internal.Slots.{KindSlotted, RowSlotted, NetSlotted};
 
 // The slots for the expression at a place of the file, over so many ranks.
 fn slots_for(s: &[u8], at: usize, count: usize) -> usize
@@ -70,4 +71,14 @@ pub fn most_slots(s: &[u8], arcs: &[u64; 3072], transitions: usize) -> usize
         t += 1;
     }
     most
+}
+
+// Whether lists of 1,024 slots have the room for rows that need so many, with a file of so many bytes.
+pub fn is_small(slots: usize, len: usize) -> bool
+    ensures { λ r. ⌜ r ≡ leb (slots + len / 2) 1024 ⌝ }
+{
+    if 1024 < slots {
+        return false;
+    }
+    slots + len / 2 <= 1024
 }

@@ -4,7 +4,7 @@ use reading::word_at;
 ghost use mathlib.Core.Path.{_≡_};
 ghost use Prim.Native.Nat.{_≤_, _<_};
 ghost use Rattle.reading.specs.Basics.{ltb, if_then_else_, byteAt};
-ghost use Rattle.rows.specs.Steady.{othersOf, SteadyArc, SteadyWithin, SteadyKind, SteadyRow};
+ghost use Rattle.rows.specs.internal.Steady.{othersOf, SteadyArc, SteadyWithin, SteadyKind, SteadyRow};
 
 // So many arcs under every binding; or that is not told.
 pub enum Steady {

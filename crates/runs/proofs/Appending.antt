@@ -6,8 +6,9 @@ use lib.ListN.{set, length-set, length-append}
 use lib.Seq.{take-set-le, take-take, getD-take, getD-set-same}
 use Rattle.reading.specs.Basics.{ℕ, zero, suc, _+_, _-_, List, [], _∷_, _++_, map, length, getD, take, numbersFrom}
 use Rattle.reading.proofs.Lists.{of-from, map-same}
-use Rattle.firing.specs.Arcs.{Arc, arcsIn}
-use Rattle.runs.specs.Terms.{Appended}
+use Rattle.firing.specs.Arcs.{Arc}
+use Rattle.firing.specs.internal.RowLists.{arcsIn}
+use Rattle.runs.specs.internal.Terms.{Appended}
 
 -- ---- arcs in lent lists
 from-join : (a m n : ℕ) → numbersFrom a (m + n) ≡ numbersFrom a m ++ numbersFrom (a + m) n

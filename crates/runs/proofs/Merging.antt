@@ -8,9 +8,10 @@ use lib.ListN.{set, length-set, length-append, length-map}
 use lib.Seq.{take-set-le, getD-set-same, getD-set-other}
 use Rattle.reading.specs.Basics.{ℕ, zero, suc, _+_, _-_, _*_, Bool, true, false, List, [], _∷_, _++_, map, length, getD, take, ltb, leb, if_then_else_, numbersFrom}
 use Rattle.reading.proofs.Lists.{of-from, length-from, map-same, map-map}
-use Rattle.firing.specs.Arcs.{Arc, arcsIn}
-use Rattle.net.specs.Evaluated.{limit}
-use Rattle.runs.specs.Terms.{term, Terms, none, more, joined, joinBy, timesAll, Appended, MergedFirst, Apart}
+use Rattle.firing.specs.Arcs.{Arc}
+use Rattle.firing.specs.internal.RowLists.{arcsIn}
+use Rattle.evaluation.specs.internal.Evaluated.{limit}
+use Rattle.runs.specs.internal.Terms.{term, Terms, none, more, joined, joinBy, timesAll, Appended, MergedFirst, Apart}
 use Rattle.runs.specs.declared.Merged.{Merged}
 use Rattle.runs.proofs.Appending.{map-join, kept-at, kept-shorter, arcs-join, arcs-kept, append-none, append-join}
 use Rattle.runs.proofs.Joining.{terms-split, terms-below, times-few, Small, joined-apart, joined-last, joined-first, joined-second, joined-both}

@@ -1,1 +1,2 @@
-pub mod Terms
+-- What the code's own tables, lists and enums stand for.
+pub mod internal

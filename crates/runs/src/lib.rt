@@ -5,9 +5,10 @@ ghost use mathlib.Core.List.{List, [], _∷_};
 ghost use Prim.Native.Nat.{ℕ, _≤_, _<_, _+_, _-_, _*_};
 ghost use lib.ListN.{length, getD};
 ghost use Rattle.reading.specs.Basics.{if_then_else_};
-ghost use Rattle.firing.specs.Arcs.{Arc, arcsIn};
-ghost use Rattle.net.specs.Evaluated.{limit};
-ghost use Rattle.runs.specs.Terms.{term, Terms, joined, joinBy, timesAll, Appended, MergedFirst, Apart, MovedUp};
+ghost use Rattle.firing.specs.Arcs.{Arc};
+ghost use Rattle.firing.specs.internal.RowLists.{arcsIn};
+ghost use Rattle.evaluation.specs.internal.Evaluated.{limit};
+ghost use Rattle.runs.specs.internal.Terms.{term, Terms, joined, joinBy, timesAll, Appended, MergedFirst, Apart, MovedUp};
 
 // An element, or 0 past the end.
 pub fn slot(l: &[u16], i: usize) -> u16

@@ -7,18 +7,20 @@ use mathlib.Core.Logic.{⊎-elim}
 use borrow.Author.Tests.{le-leb, ne-eqb, ltb-true, ltb-false}
 use Rattle.reading.specs.Basics.{ℕ, _+_, _-_, _*_, Bool, true, false, List, [], _∷_, length, ltb, eqb, if_then_else_, byteAt, wordAt}
 use Rattle.reading.specs.Reading.{Answer, fine, fault, under}
-use Rattle.firing.specs.Arcs.{Arc, arcsIn}
+use Rattle.firing.specs.Arcs.{Arc}
+use Rattle.firing.specs.internal.RowLists.{arcsIn}
 use Rattle.net.specs.Net.{Colour, Expression, all, times, Place, single, pair, Net, ceiling}
 use Rattle.net.specs.Reader.{readColour, readExpression, twoOf, amount, capped}
 use Rattle.net.specs.Values.{weight}
-use Rattle.net.specs.Evaluated.{bound, limit, joins, Ranks}
-use Rattle.net.specs.declared.evaluate.Ranked.{Ranked}
+use Rattle.evaluation.specs.internal.Evaluated.{bound, limit, Ranks}
+use Rattle.net.specs.internal.ReaderEnums.{joins}
+use Rattle.evaluation.specs.declared.evaluate.Ranked.{Ranked}
 use Rattle.net.proofs.Shut.{commands}
-use Rattle.net.proofs.Values.{needed-by}
+use Rattle.evaluation.proofs.Values.{needed-by}
 use Rattle.net.proofs.Expressions.{expression-step, expression-in}
-use Rattle.net.proofs.Weights.{weight-le, joined-by, times-by, one-by, two-by, expression-past, expression-shut, expression-stray}
-use Rattle.runs.specs.Terms.{term, countIn, Terms, none, more, joined, joinBy, timesAll, terms, Counted, Appended}
-use Rattle.sums.specs.Loaded.{Listed, ListedTold}
+use Rattle.evaluation.proofs.Weights.{weight-le, joined-by, times-by, one-by, two-by, expression-past, expression-shut, expression-stray}
+use Rattle.runs.specs.internal.Terms.{term, countIn, Terms, none, more, joined, joinBy, timesAll, terms, Counted, Appended}
+use Rattle.sums.specs.internal.Loaded.{Listed, ListedTold}
 use Rattle.sums.specs.declared.terms.Multiset.{Multiset}
 use Rattle.runs.proofs.Appending.{arcs-kept, append-none, append-join}
 use Rattle.runs.proofs.Joining.{joined-counts, joined-rises, joined-few, times-counts, times-rises, times-few}

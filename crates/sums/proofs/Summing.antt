@@ -9,22 +9,23 @@ use Rattle.reading.specs.Reading.{Answer, fine, fault, under, Check, _unless_, 
 use Rattle.reading.proofs.Lists.{end, also}
 use Rattle.reading.proofs.Commands.{known, needed-at}
 use Rattle.reading.proofs.Keeps.{no-value, then-went, under-went, needed-went}
-use Rattle.firing.specs.Arcs.{Arc, arcsIn}
+use Rattle.firing.specs.Arcs.{Arc}
+use Rattle.firing.specs.internal.RowLists.{arcsIn}
 use Rattle.net.specs.Net.{Colour, variable, constant, successor, predecessor, Expression, plus, Place, single, pair, Net, sizeOf, ceiling}
 use Rattle.net.specs.Reader.{widthOf, opening, colourCommands, readColour, readExpression, amount}
 use Rattle.net.specs.Values.{weight}
-use Rattle.net.specs.Evaluated.{bound, Ranks}
-use Rattle.net.specs.declared.evaluate.Ranked.{Ranked}
+use Rattle.evaluation.specs.internal.Evaluated.{bound, Ranks}
+use Rattle.evaluation.specs.declared.evaluate.Ranked.{Ranked}
 use Rattle.net.proofs.Shut.{commands}
-use Rattle.net.proofs.Values.{needed-by, needed-each}
+use Rattle.evaluation.proofs.Values.{needed-by, needed-each}
 use Rattle.net.proofs.Colours.{colour-step}
 use Rattle.net.proofs.Expressions.{expression-in}
-use Rattle.net.proofs.Weights.{weight-le, joined-by, expression-shut}
-use Rattle.runs.specs.Terms as spec
-use Rattle.runs.specs.Terms.{term, countIn, Terms, joined, joinBy, terms, Appended}
-use Rattle.sums.specs.Loaded.{ListedTold}
-use Rattle.sums.specs.Sums.{InTurn, together, Summing, SumTold}
-use Rattle.sums.specs.Sums as sums
+use Rattle.evaluation.proofs.Weights.{weight-le, joined-by, expression-shut}
+use Rattle.runs.specs.internal.Terms as spec
+use Rattle.runs.specs.internal.Terms.{term, countIn, Terms, joined, joinBy, terms, Appended}
+use Rattle.sums.specs.internal.Loaded.{ListedTold}
+use Rattle.sums.specs.internal.Sums.{InTurn, together, Summing, SumTold}
+use Rattle.sums.specs.internal.Sums as sums
 use Rattle.sums.specs.declared.terms.Multiset.{Multiset}
 use Rattle.runs.proofs.Appending.{arcs-kept, append-none, append-join, behind}
 use Rattle.runs.proofs.Joining.{joined-counts, joined-rises, joined-few}

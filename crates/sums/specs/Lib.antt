@@ -1,3 +1,2 @@
-pub mod Slots
-pub mod Loaded
-pub mod Sums
+-- What the code's own tables, lists and enums stand for.
+pub mod internal

@@ -2,7 +2,7 @@
 // lists every expression, and takes over where something else stands inside; both give the same counts.
 // Nothing is asked of the bytes: where operands stand there, what comes out is theirs.
 use crate::terms::store_below;
-use net::eval_rank;
+use evaluation::eval_rank;
 use reading::byte_at;
 use reading::word_at;
 use runs::insert;
@@ -12,11 +12,11 @@ ghost use mathlib.Core.Bool.{false};
 ghost use mathlib.Core.List.{List, [], _∷_};
 ghost use Prim.Native.Nat.{ℕ, _≤_, _<_, _^_};
 ghost use lib.ListN.{length};
-ghost use Rattle.firing.specs.Arcs.{arcsIn};
+ghost use Rattle.firing.specs.internal.RowLists.{arcsIn};
 ghost use Rattle.net.specs.Net.{net, Place};
-ghost use Rattle.net.specs.Evaluated.{placeBy};
-ghost use Rattle.runs.specs.Terms.{term, Terms, joined, joinBy, Appended};
-ghost use Rattle.sums.specs.Sums.{SumTold};
+ghost use Rattle.evaluation.specs.internal.Evaluated.{placeBy};
+ghost use Rattle.runs.specs.internal.Terms.{term, Terms, joined, joinBy, Appended};
+ghost use Rattle.sums.specs.internal.Sums.{SumTold};
 
 // How far a sum was gone through: where its terms end in the lent lists, the place of the next operand, and how many are still to come.
 pub struct Summed {

@@ -1,6 +1,6 @@
 // The terms of an arc expression under a binding, by recursion over its bytes. The file and the tables are handed on by address.
 // Nothing is asked of the bytes: where they hold a tree, what comes out is the tree's.
-use net::eval_rank;
+use evaluation::eval_rank;
 use reading::word_at;
 use runs::join;
 use runs::merge;
@@ -15,9 +15,10 @@ ghost use Rattle.reading.specs.Basics.{byteAt};
 ghost use Rattle.reading.specs.Reading.{under};
 ghost use Rattle.net.specs.Net.{net, Place, times};
 ghost use Rattle.net.specs.Reader.{readExpression, twoOf, capped};
-ghost use Rattle.net.specs.Evaluated.{placeBy, joins};
-ghost use Rattle.runs.specs.Terms.{term, Appended};
-ghost use Rattle.sums.specs.Loaded.{ListedTold};
+ghost use Rattle.evaluation.specs.internal.Evaluated.{placeBy};
+ghost use Rattle.net.specs.internal.ReaderEnums.{joins};
+ghost use Rattle.runs.specs.internal.Terms.{term, Appended};
+ghost use Rattle.sums.specs.internal.Loaded.{ListedTold};
 
 // An arc expression's multiset: where its terms end in the lent lists, the count of every other rank, and the place after the expression.
 pub struct Multiset {

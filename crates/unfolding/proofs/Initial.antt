@@ -11,7 +11,7 @@ use Rattle.reading.proofs.Lists.{map-map, map-same, of-from}
 use Rattle.net.specs.Net.{Net, coloursOf, placeAt, flatPlaceCount, tokensOn}
 use Rattle.net_transitions.proofs.Spaces.{below-next}
 use Rattle.bindings.specs.Effect.{FlatPlace, flatPlaces}
-use Rattle.rows.specs.Drawing.{startOf}
+use Rattle.rows.specs.internal.Drawing.{startOf}
 use Rattle.rows.proofs.Split.{flat-append, start-next, start-low}
 use Rattle.row_numbers.specs.Unfolding.{unfolded, initialAt}
 

@@ -10,26 +10,26 @@ use Rattle.reading.specs.Reading.{Outcome, accepted, refused, failing}
 use Rattle.flat_file.specs.Flat.{rowBytes, writeFlat}
 use Rattle.flat_file.proofs.Written.{placeBytes, length-places}
 use Rattle.net.specs.Net.{Net, inTransition}
-use Rattle.net.specs.Told.{bits}
+use Rattle.net.specs.internal.ReaderEnums.{bits}
 use Rattle.net_parts.specs.Parts.{readNet}
-use Rattle.net_file.specs.Held.{NetHeld}
+use Rattle.net_file.specs.internal.NetTables.{NetHeld}
 use Rattle.net_file.specs.Limits.{Limits}
 use Rattle.net_file.specs.Formed.{Formed}
 use Rattle.bindings.specs.Effect.{transitionAt}
-use Rattle.rows.specs.Packed.{shapeIn, Packed}
-use Rattle.bindings.specs.Own.{Owned}
-use Rattle.rows.specs.Slots.{NetSlotted}
-use Rattle.coloured.proofs.Accepted.{ready}
+use Rattle.rows.specs.internal.Packed.{shapeIn, Packed}
+use Rattle.bindings.specs.internal.TransitionVariables.{Owned}
+use Rattle.rows.specs.internal.Slots.{NetSlotted}
+use Rattle.rows.proofs.Accepted.{ready}
 use Rattle.bindings.proofs.Clash.{not-true, not-false}
-use Rattle.coloured.proofs.Readied.{small-room}
+use Rattle.rows.proofs.Prepared.{small-room}
 use Rattle.row_numbers.specs.Unfolding.{unfolded, flatFile, WriteCall, unfoldCall, line, program}
-use Rattle.row_numbers.specs.Walked.{Tables}
-use Rattle.row_bytes.specs.Pieces.{transitionBytes, Ruled, Small, Tabled}
-use Rattle.row_numbers.specs.Marks.{Marked, Counted}
-use Rattle.flat_file.specs.Out.{Appended}
+use Rattle.row_numbers.specs.internal.Walked.{Tables}
+use Rattle.row_bytes.specs.internal.RowBytes.{transitionBytes, Ruled, Small, Tabled}
+use Rattle.row_numbers.specs.internal.Marks.{Marked, Counted}
+use Rattle.flat_file.specs.internal.Output.{Appended}
 use Rattle.flat_file.proofs.Appending.{append-then, append-all, append-count, front}
 use Rattle.unfolding.proofs.Decimals.{line-length}
-use Rattle.row_bytes.proofs.Pieces.{rows-bytes, tables-ready}
+use Rattle.row_bytes.proofs.RowBytes.{rows-bytes, tables-ready}
 use Rattle.unfolding.proofs.Initial.{initial-counted}
 
 -- ---- the call

@@ -1,6 +1,5 @@
 // The call that unfolds a net file into a flat file.
 use bindings::list_variables;
-use coloured::is_small;
 use flat_file::write_end;
 use flat_file::write_head;
 use flat_file::write_places;
@@ -10,14 +9,15 @@ use row_bytes::fits;
 use row_bytes::write_all;
 use row_numbers::front;
 use row_numbers::mark_all;
+use rows::is_small;
 use rows::most_slots;
 use rows::pack_arcs;
 ghost use mathlib.Core.Path.{_≡_};
 ghost use Prim.Native.Nat.{_≤_, _+_, _*_, _/_};
 ghost use lib.ListN.{length};
 ghost use Rattle.row_numbers.specs.Unfolding.{unfoldCall};
-ghost use Rattle.row_numbers.specs.Marks.{Blank};
-ghost use Rattle.row_bytes.specs.Pieces.{Roomy, Small, Tabled};
+ghost use Rattle.row_numbers.specs.internal.Marks.{Blank};
+ghost use Rattle.row_bytes.specs.internal.RowBytes.{Roomy, Small, Tabled};
 ghost use Rattle.unfolding.specs.Replies.{unfoldCalled};
 
 // The flat file's length in bytes, or why it was not written.

@@ -7,7 +7,7 @@ ghost use Prim.Native.Nat.{_+_, _%_, _≤_};
 ghost use lib.ListN.{length};
 ghost use Rattle.reading.specs.Basics.{over};
 ghost use Rattle.row_numbers.specs.Unfolding.{decimal, line};
-ghost use Rattle.flat_file.specs.Out.{Appended};
+ghost use Rattle.flat_file.specs.internal.Output.{Appended};
 
 // The last digit of a number.
 fn put_digit(n: usize, out: &mut [u8], at: usize) -> usize

@@ -1,6 +1,6 @@
 use denote.Ref.{now}
 use mathlib.Core.Path.{sym, _∙_}
-use Rattle.coloured.proofs.Readied.{small-room}
+use Rattle.rows.proofs.Prepared.{small-room}
 use borrow.Author.Needs.{needs}
 use Rattle.coloured.proofs.fire_on.Statement.{statement}
 use Rattle.coloured.proofs.fire_on.Tie as tie

@@ -1,7 +1,7 @@
 use native.Mathlib.Omega.{arith}
 use mathlib.Core.Path.{refl, sym}
 use lib.Seq.{length-take-le}
-use Rattle.coloured.proofs.Accepted.{the-refusal, the-net, ready, counted}
+use Rattle.rows.proofs.Accepted.{the-refusal, the-net, ready, counted}
 use Rattle.coloured.proofs.Calling.{no-fire}
 use borrow.Author.Needs.{needs}
 use Rattle.coloured.proofs.fire_orders.Statement.{statement}

@@ -2,7 +2,8 @@ use borrow.Author.Needs.{needs}
 use native.Mathlib.Omega.{arith}
 use mathlib.Core.Logic.{⊎-elim}
 use Prim.Native.Nat.{ℕ, _-_}
-use Rattle.firing.specs.Arcs.{Rising, arcsIn}
+use Rattle.firing.specs.Arcs.{Rising}
+use Rattle.firing.specs.internal.RowLists.{arcsIn}
 use Rattle.firing.proofs.Passes.{Spilling, spill-begins, spill-hit, spill-goes, spill-fits, spill-ends}
 use Rattle.firing.proofs.some_spills.Statement.{statement}
 use Rattle.firing.proofs.some_spills.Tie as tie

@@ -5,7 +5,7 @@ use mathlib.Core.Path.{_≡_, refl}
 use Rattle.reading.specs.Basics.{_-_, length, items}
 use Rattle.firing.proofs.Running.{Running, run-begin, run-item, run-items-end}
 use Rattle.flat_file.specs.Flat.{Flat, fireImage}
-use Rattle.flat_file.specs.Told.{Held}
+use Rattle.flat_file.specs.internal.ReaderEnums.{Held}
 use Rattle.flat.proofs.fire_list.Statement.{statement}
 use Rattle.flat.proofs.fire_list.Tie as tie
 

@@ -5,7 +5,7 @@ use Rattle.reading.specs.Basics.{_-_, length, eqb, below}
 use Prim.Native.Nat.{_≤_}
 use Rattle.firing.proofs.Running.{Searching, search-begin, below-step, below-found, below-none, stopped-in, stopped-out}
 use Rattle.flat_file.specs.Flat.{Flat, fireRow}
-use Rattle.flat_file.specs.Told.{Held}
+use Rattle.flat_file.specs.internal.ReaderEnums.{Held}
 use Rattle.flat.proofs.Imaged.{row-fires}
 use Rattle.flat.proofs.search_rows.Statement.{statement}
 use Rattle.flat.proofs.search_rows.Tie as tie

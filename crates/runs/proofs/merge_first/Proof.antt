@@ -4,7 +4,7 @@ use native.Mathlib.Omega.{arith}
 use mathlib.Core.Path.{_≡_, refl, _∙_}
 use Prim.Native.Nat.{_+_, _-_, _≤_}
 use lib.ListN.{length}
-use Rattle.runs.specs.Terms.{joinBy}
+use Rattle.runs.specs.internal.Terms.{joinBy}
 use Rattle.runs.proofs.Merging.{Merging, here-by, steps-on, merging-begins, merging-goes, merging-ends}
 use Rattle.runs.proofs.merge_first.Statement.{statement}
 use Rattle.runs.proofs.merge_first.Tie as tie

@@ -3,7 +3,7 @@ use native.Mathlib.Omega.{arith}
 use mathlib.Core.Path.{_≡_, refl, _∙_}
 use Prim.Native.Nat.{_+_, _-_, _≤_}
 use lib.ListN.{length}
-use Rattle.runs.specs.Terms.{joinBy}
+use Rattle.runs.specs.internal.Terms.{joinBy}
 use Rattle.runs.proofs.Merging.{Resting, resting-begins, resting-goes, resting-ends}
 use Rattle.runs.proofs.merge_rest.Statement.{statement}
 use Rattle.runs.proofs.merge_rest.Tie as tie

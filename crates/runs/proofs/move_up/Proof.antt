@@ -1,7 +1,7 @@
 use native.Mathlib.Omega.{arith}
 use mathlib.Core.Path.{_≡_}
 use Prim.Native.Nat.{_≤_}
-use Rattle.runs.specs.Terms.{MovedUp}
+use Rattle.runs.specs.internal.Terms.{MovedUp}
 use Rattle.runs.proofs.Inserting.{up-begins, up-goes}
 use Rattle.runs.proofs.move_up.Statement.{statement}
 use Rattle.runs.proofs.move_up.Tie as tie

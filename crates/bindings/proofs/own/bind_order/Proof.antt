@@ -5,7 +5,7 @@ use Prim.Native.Nat.{_≤_, _<_, _-_}
 use lib.ListN.{length, take, drop}
 use Rattle.net.specs.Net.{Net}
 use Rattle.net_file.specs.Limits.{Limits}
-use Rattle.bindings.specs.Own.{Owned}
+use Rattle.bindings.specs.internal.TransitionVariables.{Owned}
 use Rattle.bindings.proofs.Clash.{not-true, not-false, clash}
 use Rattle.bindings.proofs.Owning.{theirs, theirSizes}
 use Rattle.bindings.proofs.Giving.{Giving, give-begins, give-goes, give-fails, give-fits, give-binds}

@@ -6,8 +6,8 @@ use lib.ListN.{length}
 use Rattle.reading.specs.Basics.{product}
 use Rattle.net.specs.Net.{Net}
 use Rattle.net_file.specs.Limits.{Limits}
-use Rattle.bindings.specs.Bound.{Binds, numbered}
-use Rattle.bindings.specs.Own.{Owned}
+use Rattle.bindings.specs.internal.Bindings.{Binds, numbered}
+use Rattle.bindings.specs.internal.TransitionVariables.{Owned}
 use Rattle.bindings.proofs.Owning.{theirs, theirSizes}
 use Rattle.bindings.proofs.Walking.{Walking, walk-begins, walk-is, walk-skips, walk-ends}
 use Rattle.bindings.proofs.own.skip_bindings.Statement.{statement}

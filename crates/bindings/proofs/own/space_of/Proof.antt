@@ -6,7 +6,7 @@ use lib.ListN.{length, take}
 use Rattle.reading.specs.Basics.{product}
 use Rattle.net.specs.Net.{Net}
 use Rattle.net_file.specs.Limits.{Limits}
-use Rattle.bindings.specs.Own.{Owned}
+use Rattle.bindings.specs.internal.TransitionVariables.{Owned}
 use Rattle.bindings.proofs.Owning.{theirSizes, small-space, fits-space, space-goes, space-ends}
 use Rattle.bindings.proofs.own.space_of.Statement.{statement}
 use Rattle.bindings.proofs.own.space_of.Tie as tie

@@ -2,7 +2,7 @@ use borrow.Author.Needs.{needs}
 use mathlib.Core.Path.{sym, ap, _∙_}
 use denote.Ref.{now}
 use Rattle.reading.specs.Basics.{[], _∷_}
-use Rattle.coloured.specs.Replies.{firstReply}
+use Rattle.search.specs.Replies.{firstReply}
 use Rattle.codes.specs.Codes.{returned, firstOrderCode}
 use Rattle.codes.proofs.net_codes.give_first_order.Statement.{statement}
 use Rattle.codes.proofs.net_codes.give_first_order.Tie as tie

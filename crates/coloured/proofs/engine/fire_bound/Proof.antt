@@ -1,9 +1,9 @@
 use borrow.Author.Needs.{needs}
 use native.Mathlib.Omega.{arith}
 use denote.Ref.{now}
-use Rattle.bindings.specs.Bound.{binding}
+use Rattle.bindings.specs.internal.Bindings.{binding}
 use Rattle.rows.proofs.Needing.{row-room}
-use Rattle.coloured.proofs.Readied.{the-takes, none-fires, lack-fires, row-fires}
+use Rattle.rows.proofs.Prepared.{the-takes, none-fires, lack-fires, row-fires}
 use Rattle.coloured.proofs.engine.fire_bound.Statement.{statement}
 use Rattle.coloured.proofs.engine.fire_bound.Tie as tie
 

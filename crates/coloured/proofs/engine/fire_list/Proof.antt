@@ -7,14 +7,14 @@ use Rattle.reading.specs.Basics.{List, _-_, length, items}
 use Rattle.firing.proofs.Running.{Running, run-begin, run-item, run-items-end}
 use Rattle.net.specs.Net.{Net, flatPlaceCount}
 use Rattle.bindings.specs.Orders.{fireOrder}
-use Rattle.rows.specs.Drawing.{room}
-use Rattle.coloured.specs.Ready.{Ready}
+use Rattle.rows.specs.internal.Drawing.{room}
+use Rattle.rows.specs.internal.Prepared.{Prepared}
 use Rattle.coloured.proofs.engine.fire_list.Statement.{statement}
 use Rattle.coloured.proofs.engine.fire_list.Tie as tie
 
 abbrev Inv-loop : tie.InvT-loop
 Inv-loop s sizes vars own guards arcs transitions m₀ orders answers₀ places₀ amounts₀ many env₀ i₀ m answers places amounts env i =
-    ((n : Net) (uses : List ℕ) → Ready s n sizes vars own uses guards arcs transitions → room s n ≤ length places₀ → room s n ≤ length amounts₀ → length m₀ ≡ flatPlaceCount n
+    ((n : Net) (uses : List ℕ) → Prepared s n sizes vars own uses guards arcs transitions → room s n ≤ length places₀ → room s n ≤ length amounts₀ → length m₀ ≡ flatPlaceCount n
     → Running (fireOrder n) (items 6 orders) m₀ answers₀ m answers i)
     × (length m ≡ length m₀) × (length answers ≡ length answers₀) × (length places ≡ length places₀) × (length amounts ≡ length amounts₀) × (many < 18446744073709551615)
 

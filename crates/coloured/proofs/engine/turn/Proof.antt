@@ -6,7 +6,7 @@ use Prim.Native.Nat.{_<_}
 use lib.ListN.{length}
 use Rattle.net_file.proofs.Formed.{formed}
 use Rattle.bindings.proofs.Clash.{not-false}
-use Rattle.coloured.proofs.Readied.{limited}
+use Rattle.rows.proofs.Prepared.{limited}
 use Rattle.coloured.proofs.Turning.{turn-other, turn-past, turn-none, turn-at}
 use Rattle.coloured.proofs.engine.turn.Statement.{statement}
 use Rattle.coloured.proofs.engine.turn.Tie as tie

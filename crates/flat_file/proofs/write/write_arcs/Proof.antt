@@ -4,7 +4,7 @@ use mathlib.Core.Path.{_≡_, refl, _∙_}
 use Prim.Native.Nat.{_+_, _*_, _-_, _≤_}
 use lib.ListN.{length}
 use Rattle.flat_file.specs.Flat.{arcBytes}
-use Rattle.firing.specs.Arcs.{arcsIn}
+use Rattle.firing.specs.internal.RowLists.{arcsIn}
 use Rattle.firing.proofs.Rows.{arcs-more, arcs-none}
 use Rattle.flat_file.proofs.Appending.{Going, go-begin, go-on, go-end}
 use Rattle.flat_file.proofs.write.write_arcs.Statement.{statement}

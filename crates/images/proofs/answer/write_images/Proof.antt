@@ -5,7 +5,7 @@ use mathlib.Core.List.{List}
 use Prim.Native.Nat.{ℕ, _≤_, _+_, _*_, _-_}
 use lib.ListN.{length}
 use Rattle.net.specs.Net.{Net}
-use Rattle.row_numbers.specs.Walked.{Starts, Tables}
+use Rattle.row_numbers.specs.internal.Walked.{Starts, Tables}
 use Rattle.flat_file.proofs.Appending.{go-begin}
 use Rattle.images.proofs.Imaging.{Imaging, image-next, image-end}
 use Rattle.images.proofs.answer.write_images.Statement.{statement}

@@ -7,7 +7,7 @@ use lib.ListN.{length}
 use mathlib.Core.List.{List, []}
 use Rattle.net.specs.Net.{Place, Net, net}
 use Rattle.net.specs.Reader.{readExpression}
-use Rattle.net.specs.Evaluated.{placeBy}
+use Rattle.evaluation.specs.internal.Evaluated.{placeBy}
 use Rattle.multiset.proofs.Counted.{listed-none, listed-loads}
 use Rattle.sums.proofs.Summing.{listed-same, sum-listed, sum-over}
 use Prim.Native.Nat.{ℕ, _+_, _<_}

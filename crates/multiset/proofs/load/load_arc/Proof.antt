@@ -1,7 +1,7 @@
 use borrow.Author.Needs.{needs}
 use native.Mathlib.Omega.{arith}
 use mathlib.Core.Path.{sym, _∙_}
-use Rattle.net.proofs.Values.{byte-inside}
+use Rattle.evaluation.proofs.Values.{byte-inside}
 use Rattle.multiset.proofs.Counted.{count-none, count-one}
 use Rattle.multiset.proofs.load.load_arc.Statement.{statement}
 use Rattle.multiset.proofs.load.load_arc.Tie as tie

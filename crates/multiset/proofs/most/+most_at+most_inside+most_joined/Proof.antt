@@ -4,7 +4,7 @@ use mathlib.Core.List.{[]}
 use denote.Ref.{now}
 use Rattle.net.specs.Net.{net}
 use Rattle.net.specs.Reader.{readExpression}
-use Rattle.net.specs.Evaluated.{placeBy}
+use Rattle.evaluation.specs.internal.Evaluated.{placeBy}
 use Rattle.multiset.proofs.MostRead.{joined-most, all-most, one-most, times-told, either-told, most-past, most-shut, most-stray}
 use Prim.Native.Nat.{ℕ, _+_, _<_}
 use borrow.Fn.Kinds.{In}
@@ -20,7 +20,7 @@ use Rattle.multiset.proofs.most.most_joined.Kinds as most-joined-kinds
 use Rattle.multiset.proofs.most.+most_at+most_inside+most_joined.Lts-most_joined as most-joined-lts
 use Rattle.multiset.proofs.most.anew.Reads as anew-reads
 use Rattle.multiset.proofs.most.joined_most.Reads as joined-most-reads
-use Rattle.net.proofs.eval_rank.Reads as eval-rank-reads
+use Rattle.evaluation.proofs.eval_rank.Reads as eval-rank-reads
 use Rattle.multiset.proofs.most.+most_at+most_inside+most_joined.{statement}
 use Rattle.multiset.proofs.most.+most_at+most_inside+most_joined.Tie.{close}
 

@@ -1,7 +1,7 @@
 use borrow.Author.Needs.{needs}
 use mathlib.Core.List.{[]}
 use Rattle.net.specs.Net.{net}
-use Rattle.net.specs.Evaluated.{placeBy}
+use Rattle.evaluation.specs.internal.Evaluated.{placeBy}
 use Rattle.multiset.proofs.MostRead.{arcs-told}
 use Rattle.multiset.proofs.most.most_arcs.Statement.{statement}
 use Rattle.multiset.proofs.most.most_arcs.Tie as tie

@@ -7,9 +7,9 @@ use Rattle.reading.specs.Basics.{ℕ, List, [], length, take}
 use Rattle.reading.specs.Reading.{fine}
 use Rattle.net.specs.Net.{Place, Net, net}
 use Rattle.net_parts.specs.Parts.{content}
-use Rattle.net_parts.specs.Tables.{placesOf, placesRead, Started, TokensRead}
-use Rattle.net_transitions.specs.Transitions.{TransitionsRead}
-use Rattle.net_file.specs.Held.{openTold, refusal}
+use Rattle.net_parts.specs.internal.Tables.{placesOf, placesRead, Started, TokensRead}
+use Rattle.net_transitions.specs.internal.TransitionTables.{TransitionsRead}
+use Rattle.net_file.specs.internal.NetTables.{openTold, refusal}
 use Rattle.net_parts.proofs.Tokening.{rising}
 use Rattle.net_file.proofs.Whole.{Left, afterSets, afterVariables, afterPlaces, afterTransitions, net-long, opening-goes, opening-stops, sets-go, sets-stop, variables-go, variables-stop, places-go, places-stop, transitions-go, transitions-stop, tokens-go, tokens-stop, closing-stops, net-read, started-over, tokens-by, tables, front-sized, front-fits}
 use Rattle.net_file.proofs.file.read_net.Statement.{statement}

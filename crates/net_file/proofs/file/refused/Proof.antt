@@ -1,6 +1,6 @@
 use borrow.Author.Needs.{needs}
 use mathlib.Core.Path.{sym, ap}
-use Rattle.net_file.specs.Held.{refusal}
+use Rattle.net_file.specs.internal.NetTables.{refusal}
 use Rattle.net_file.proofs.file.refused.Statement.{statement}
 use Rattle.net_file.proofs.file.refused.Tie as tie
 

@@ -8,7 +8,7 @@ use lib.ListN.{length}
 use Rattle.net_transitions.proofs.Spaces.{Multiplied, product-begins, product-in, product-out, product-fits, product-ends}
 use Rattle.net_transitions.proofs.space.bindings_of.Statement.{statement}
 use Rattle.net_transitions.proofs.space.bindings_of.Tie as tie
-use Rattle.net.specs.Told.{sizeIn}
+use Rattle.net.specs.internal.ReaderEnums.{sizeIn}
 
 abbrev Inv-loop : tie.InvT-loop
 Inv-loop uses sizes vars total₀ v₀ total v = (v ≤ length vars) × Multiplied uses (sizeIn sizes vars) total v

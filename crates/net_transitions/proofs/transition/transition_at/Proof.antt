@@ -2,8 +2,8 @@ use native.Mathlib.Omega.{arith}
 use mathlib.Core.Path.{_≡_, refl, sym, _∙_}
 use Prim.Native.Nat.{_≤_, _<_, _*_, _+_, _-_}
 use lib.ListN.{length, getD}
-use Rattle.net_transitions.specs.Transitions.{over}
-use Rattle.net_parts.specs.Tables.{placesOf}
+use Rattle.net_transitions.specs.internal.TransitionTables.{over}
+use Rattle.net_parts.specs.internal.Tables.{placesOf}
 use Rattle.net_parts.proofs.Placing.{length-places}
 use Rattle.net_transitions.proofs.Transitioning.{transitions-past, transitions-other, transitions-full, transitions-go, after-transition, few-of, part-in, part-before, part-sized, told-same}
 use borrow.Author.Needs.{needs}

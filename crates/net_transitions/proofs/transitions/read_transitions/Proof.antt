@@ -3,8 +3,8 @@ use native.Mathlib.Omega.{arith}
 use mathlib.Core.Path.{sym, _∙_}
 use Prim.Native.Nat.{_≤_, _-_}
 use lib.ListN.{length}
-use Rattle.net_transitions.specs.Transitions.{over}
-use Rattle.net_parts.specs.Tables.{placesOf}
+use Rattle.net_transitions.specs.internal.TransitionTables.{over}
+use Rattle.net_parts.specs.internal.Tables.{placesOf}
 use Rattle.net_parts.proofs.Placing.{length-places}
 use Rattle.net_transitions.proofs.Passing.{Passing, passing-begins, passing-goes, passing-ends, passing-stops}
 use Rattle.net_transitions.proofs.transitions.read_transitions.Statement.{statement}

@@ -6,12 +6,12 @@ use lib.ListN.{length}
 use Rattle.reading.specs.Basics.{product}
 use Rattle.net.specs.Net.{sizesOf}
 use Rattle.bindings.specs.Effect.{transitionAt}
-use Rattle.row_bytes.specs.Pieces.{transitionBytes, Ruled}
-use Rattle.row_numbers.specs.Walked.{entries}
-use Rattle.row_numbers.specs.Marks.{effects, Counted}
+use Rattle.row_bytes.specs.internal.RowBytes.{transitionBytes, Ruled}
+use Rattle.row_numbers.specs.internal.Walked.{entries}
+use Rattle.row_numbers.specs.internal.Marks.{effects, Counted}
 use Rattle.row_numbers.proofs.Tabled.{entries-begin}
 use Rattle.row_numbers.proofs.Marking.{effects-most}
-use Rattle.row_bytes.proofs.Pieces.{Measuring, measure-begins, measure-goes, measure-ends, all-many, all-given, known-of, entries-then}
+use Rattle.row_bytes.proofs.RowBytes.{Measuring, measure-begins, measure-goes, measure-ends, all-many, all-given, known-of, entries-then}
 use Rattle.row_bytes.proofs.body.measure_all.Statement.{statement}
 use Rattle.row_bytes.proofs.body.measure_all.Tie as tie
 

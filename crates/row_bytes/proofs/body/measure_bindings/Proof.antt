@@ -2,10 +2,10 @@ use native.Mathlib.Omega.{arith}
 use mathlib.Core.Path.{_≡_, refl, ap, _∙_}
 use Prim.Native.Nat.{_≤_, _<_, _+_, _*_, _-_}
 use lib.ListN.{length}
-use Rattle.bindings.specs.Bound.{Binds, numbered}
+use Rattle.bindings.specs.internal.Bindings.{Binds, numbered}
 use Rattle.bindings.proofs.Owning.{first-binds}
-use Rattle.row_bytes.specs.Pieces.{bindingBytes, Known}
-use Rattle.row_bytes.proofs.Pieces.{Measuring, measure-begins, measure-goes, measure-ends, here-of, binds-next}
+use Rattle.row_bytes.specs.internal.RowBytes.{bindingBytes, Known}
+use Rattle.row_bytes.proofs.RowBytes.{Measuring, measure-begins, measure-goes, measure-ends, here-of, binds-next}
 use Rattle.row_bytes.proofs.body.measure_bindings.Statement.{statement}
 use Rattle.row_bytes.proofs.body.measure_bindings.Tie as tie
 

@@ -2,7 +2,7 @@ use borrow.Author.Needs.{needs}
 use native.Mathlib.Omega.{arith}
 use mathlib.Core.Path.{sym, ap, _∙_}
 use lib.ListN.{length}
-use Rattle.row_bytes.proofs.Pieces.{gives-nothing, gives-length, row-fits}
+use Rattle.row_bytes.proofs.RowBytes.{gives-nothing, gives-length, row-fits}
 use Rattle.row_bytes.proofs.body.measure_one.Statement.{statement}
 use Rattle.row_bytes.proofs.body.measure_one.Tie as tie
 

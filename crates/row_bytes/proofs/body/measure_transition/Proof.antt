@@ -1,7 +1,7 @@
 use borrow.Author.Needs.{needs}
 use native.Mathlib.Omega.{arith}
 use Prim.Native.Nat.{_+_, _*_}
-use Rattle.row_bytes.proofs.Steadied.{rows-measured, product-most, rows-long, long-most}
+use Rattle.row_bytes.proofs.RowLengths.{rows-measured, product-most, rows-long, long-most}
 use Rattle.row_bytes.proofs.body.measure_transition.Statement.{statement}
 use Rattle.row_bytes.proofs.body.measure_transition.Tie as tie
 

@@ -4,11 +4,11 @@ use mathlib.Core.Path.{_≡_, refl, ap, _∙_}
 use Prim.Native.Nat.{_≤_, _*_, _-_}
 use lib.ListN.{length}
 use Rattle.reading.specs.Basics.{numbersFrom, below}
-use Rattle.row_bytes.specs.Pieces.{transitionBytes, Ruled}
-use Rattle.row_numbers.specs.Walked.{entries}
+use Rattle.row_bytes.specs.internal.RowBytes.{transitionBytes, Ruled}
+use Rattle.row_numbers.specs.internal.Walked.{entries}
 use Rattle.row_numbers.proofs.Tabled.{entries-begin}
 use Rattle.flat_file.proofs.Appending.{Going, go-on, go-end}
-use Rattle.row_bytes.proofs.Pieces.{Measuring, measure-begins, measure-rest, measure-goes, left-more, left-none, write-begins, all-many, all-given, known-of, entries-then}
+use Rattle.row_bytes.proofs.RowBytes.{Measuring, measure-begins, measure-rest, measure-goes, left-more, left-none, write-begins, all-many, all-given, known-of, entries-then}
 use Rattle.row_bytes.proofs.body.write_all.Statement.{statement}
 use Rattle.row_bytes.proofs.body.write_all.Tie as tie
 

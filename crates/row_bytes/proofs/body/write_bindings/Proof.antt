@@ -4,11 +4,11 @@ use mathlib.Core.Path.{_≡_, refl, _∙_}
 use Prim.Native.Nat.{_≤_, _<_, _-_}
 use lib.ListN.{length}
 use Rattle.reading.specs.Basics.{numbersFrom, below}
-use Rattle.bindings.specs.Bound.{Binds, numbered}
+use Rattle.bindings.specs.internal.Bindings.{Binds, numbered}
 use Rattle.bindings.proofs.Owning.{first-binds}
-use Rattle.row_bytes.specs.Pieces.{bindingBytes, Known}
+use Rattle.row_bytes.specs.internal.RowBytes.{bindingBytes, Known}
 use Rattle.flat_file.proofs.Appending.{Going, go-on, go-over, go-end}
-use Rattle.row_bytes.proofs.Pieces.{Measuring, measure-begins, measure-rest, measure-goes, measure-over, left-more, left-none, write-begins, here-of, known-over, binds-on, binds-next}
+use Rattle.row_bytes.proofs.RowBytes.{Measuring, measure-begins, measure-rest, measure-goes, measure-over, left-more, left-none, write-begins, here-of, known-over, binds-on, binds-next}
 use Rattle.row_bytes.proofs.body.write_bindings.Statement.{statement}
 use Rattle.row_bytes.proofs.body.write_bindings.Tie as tie
 

@@ -2,7 +2,7 @@ use borrow.Author.Needs.{needs}
 use native.Mathlib.Omega.{arith}
 use mathlib.Core.Path.{sym, _∙_}
 use Rattle.flat_file.proofs.Appending.{append-none}
-use Rattle.row_bytes.proofs.Pieces.{row-here, gives-nothing, gives-row, gives-length}
+use Rattle.row_bytes.proofs.RowBytes.{row-here, gives-nothing, gives-row, gives-length}
 use Rattle.row_bytes.proofs.body.write_one.Statement.{statement}
 use Rattle.row_bytes.proofs.body.write_one.Tie as tie
 

@@ -1,9 +1,9 @@
 use native.Mathlib.Omega.{arith}
 use mathlib.Core.List.{List}
 use Prim.Native.Nat.{ℕ, _≤_, _+_, _*_, _-_}
-use Rattle.row_bytes.specs.Pieces.{transitionBytes, Ruled}
-use Rattle.row_numbers.specs.Marks.{Counted}
-use Rattle.row_bytes.proofs.Steadied.{product-most}
+use Rattle.row_bytes.specs.internal.RowBytes.{transitionBytes, Ruled}
+use Rattle.row_numbers.specs.internal.Marks.{Counted}
+use Rattle.row_bytes.proofs.RowLengths.{product-most}
 use Rattle.row_bytes.proofs.Bounded.{transition-most, Bounding, bound-begins, bound-goes, bound-ends}
 use Rattle.row_bytes.proofs.fit.bound_all.Statement.{statement}
 use Rattle.row_bytes.proofs.fit.bound_all.Tie as tie

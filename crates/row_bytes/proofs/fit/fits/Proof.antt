@@ -6,7 +6,7 @@ use Prim.Native.Nat.{_+_, _*_}
 use lib.ListN.{length}
 use lib.Dec.{leb}
 use Rattle.reading.specs.Basics.{flatMap, below}
-use Rattle.row_bytes.specs.Pieces.{transitionBytes}
+use Rattle.row_bytes.specs.internal.RowBytes.{transitionBytes}
 use Rattle.row_bytes.proofs.Bounded.{rows-few}
 use Rattle.row_bytes.proofs.fit.fits.Statement.{statement}
 use Rattle.row_bytes.proofs.fit.fits.Tie as tie

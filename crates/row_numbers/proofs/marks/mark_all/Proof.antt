@@ -5,8 +5,8 @@ use mathlib.Core.Logic.{⊎-elim}
 use Prim.Native.Nat.{ℕ, _≤_, _*_, _-_}
 use lib.ListN.{length, length-set}
 use Rattle.net.specs.Net.{Net}
-use Rattle.row_numbers.specs.Walked.{Tables}
-use Rattle.row_numbers.specs.Marks.{Blank}
+use Rattle.row_numbers.specs.internal.Walked.{Tables}
+use Rattle.row_numbers.specs.internal.Marks.{Blank}
 use Rattle.row_numbers.proofs.Marking.{Reached, reach-begins, reach-follows, reach-goes, reach-ends, marks-few}
 use Rattle.row_numbers.proofs.marks.mark_all.Statement.{statement}
 use Rattle.row_numbers.proofs.marks.mark_all.Tie as tie

@@ -5,7 +5,7 @@ use mathlib.Core.Path.{sym, ap, _∙_}
 use Prim.Native.Nat.{_+_}
 use lib.Dec.{eqb}
 use Rattle.reading.specs.Basics.{if_then_else_}
-use Rattle.row_numbers.specs.Marks.{markAt}
+use Rattle.row_numbers.specs.internal.Marks.{markAt}
 use Rattle.row_numbers.proofs.Marking.{with-effect, without-effect}
 use Rattle.row_numbers.proofs.marks.mark_one.Statement.{statement}
 use Rattle.row_numbers.proofs.marks.mark_one.Tie as tie

@@ -5,10 +5,10 @@ use lib.ListN.{length}
 use Rattle.reading.specs.Basics.{product}
 use Rattle.net.specs.Net.{Net, sizesOf}
 use Rattle.bindings.specs.Effect.{transitionAt}
-use Rattle.bindings.specs.Bound.{Binds, numbered}
+use Rattle.bindings.specs.internal.Bindings.{Binds, numbered}
 use Rattle.bindings.proofs.Owning.{first-binds}
-use Rattle.row_numbers.specs.Walked.{Listed}
-use Rattle.row_numbers.specs.Marks.{Blank, effects, Marking}
+use Rattle.row_numbers.specs.internal.Walked.{Listed}
+use Rattle.row_numbers.specs.internal.Marks.{Blank, effects, Marking}
 use Rattle.row_numbers.proofs.Marking.{marking-none, marking-goes, effects-none, effects-next}
 use Rattle.row_numbers.proofs.marks.mark_those.Statement.{statement}
 use Rattle.row_numbers.proofs.marks.mark_those.Tie as tie

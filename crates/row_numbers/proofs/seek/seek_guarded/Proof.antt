@@ -5,10 +5,10 @@ use Prim.Native.Nat.{_≤_, _<_, _+_, _-_}
 use Rattle.reading.specs.Basics.{product}
 use Rattle.net.specs.Net.{Net, sizesOf}
 use Rattle.bindings.specs.Effect.{transitionAt}
-use Rattle.bindings.specs.Bound.{Binds, numbered}
-use Rattle.bindings.specs.Numbers.{before}
+use Rattle.bindings.specs.internal.Bindings.{Binds, numbered}
+use Rattle.bindings.specs.internal.Numbers.{before}
 use Rattle.bindings.proofs.Owning.{first-binds}
-use Rattle.row_numbers.specs.Walked.{passed, Listed}
+use Rattle.row_numbers.specs.internal.Walked.{passed, Listed}
 use Rattle.row_numbers.proofs.Tabled.{passed-next}
 use Rattle.row_numbers.proofs.Seeking.{sought-here}
 use Rattle.row_numbers.proofs.seek.seek_guarded.Statement.{statement}

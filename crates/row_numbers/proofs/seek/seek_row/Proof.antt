@@ -4,8 +4,8 @@ use mathlib.Core.Path.{_≡_, sym}
 use mathlib.Core.List.{List}
 use Prim.Native.Nat.{ℕ, _≤_, _*_, _-_}
 use Rattle.net.specs.Net.{Net}
-use Rattle.bindings.specs.Numbers.{before}
-use Rattle.row_numbers.specs.Walked.{passed, Tables}
+use Rattle.bindings.specs.internal.Numbers.{before}
+use Rattle.row_numbers.specs.internal.Walked.{passed, Tables}
 use Rattle.row_numbers.proofs.Walking.{passed-none}
 use Rattle.row_numbers.proofs.Tabled.{passed-then}
 use Rattle.row_numbers.proofs.Seeking.{the-index, the-count, the-room, seek-ends}

@@ -5,7 +5,7 @@ use mathlib.Core.List.{List}
 use Prim.Native.Nat.{ℕ, _≤_, _*_, _-_}
 use lib.ListN.{getD}
 use Rattle.net.specs.Net.{Net}
-use Rattle.row_numbers.specs.Walked.{entriesAt, entries, Tables}
+use Rattle.row_numbers.specs.internal.Walked.{entriesAt, entries, Tables}
 use Rattle.row_numbers.proofs.Tabled.{entries-begin, entries-next}
 use Rattle.row_numbers.proofs.walk.count_entries.Statement.{statement}
 use Rattle.row_numbers.proofs.walk.count_entries.Tie as tie

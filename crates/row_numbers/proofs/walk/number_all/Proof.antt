@@ -6,7 +6,7 @@ use mathlib.Core.Logic.{⊎-elim}
 use Prim.Native.Nat.{ℕ, _≤_, _*_, _-_}
 use lib.ListN.{length, length-set}
 use Rattle.net.specs.Net.{Net}
-use Rattle.row_numbers.specs.Walked.{entries, Tables}
+use Rattle.row_numbers.specs.internal.Walked.{entries, Tables}
 use Rattle.row_numbers.proofs.Tabled.{Numbered, number-begins, number-follows, number-goes, number-room, number-ends}
 use Rattle.row_numbers.proofs.walk.number_all.Statement.{statement}
 use Rattle.row_numbers.proofs.walk.number_all.Tie as tie

@@ -7,10 +7,10 @@ use lib.ListN.{length, getD}
 use Rattle.reading.specs.Basics.{product}
 use Rattle.net.specs.Net.{Net, sizesOf}
 use Rattle.bindings.specs.Effect.{transitionAt}
-use Rattle.bindings.specs.Bound.{Binds, numbered}
-use Rattle.bindings.specs.Numbers.{before}
+use Rattle.bindings.specs.internal.Bindings.{Binds, numbered}
+use Rattle.bindings.specs.internal.Numbers.{before}
 use Rattle.bindings.proofs.Owning.{first-binds}
-use Rattle.row_numbers.specs.Walked.{passed, Numbers, Listed}
+use Rattle.row_numbers.specs.internal.Walked.{passed, Numbers, Listed}
 use Rattle.row_numbers.proofs.Tabled.{number-none, number-turn, same-below}
 use Rattle.row_numbers.proofs.walk.number_those.Statement.{statement}
 use Rattle.row_numbers.proofs.walk.number_those.Tie as tie

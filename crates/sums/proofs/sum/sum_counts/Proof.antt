@@ -6,9 +6,9 @@ use Prim.Native.Nat.{ℕ, _≤_, _-_}
 use lib.ListN.{length}
 use denote.Ref.{now}
 use Rattle.net.specs.Net.{net, Place}
-use Rattle.net.specs.Evaluated.{placeBy}
-use Rattle.net.proofs.Values.{byte-inside}
-use Rattle.sums.specs.Sums.{SumTold}
+use Rattle.evaluation.specs.internal.Evaluated.{placeBy}
+use Rattle.evaluation.proofs.Values.{byte-inside}
+use Rattle.sums.specs.internal.Sums.{SumTold}
 use Rattle.sums.proofs.Summing.{sum-begins, sum-opens, sum-takes}
 use Rattle.sums.proofs.sum.sum_counts.Statement.{statement}
 use Rattle.sums.proofs.sum.sum_counts.Tie as tie

@@ -6,8 +6,8 @@ use Prim.Native.Nat.{ℕ, _≤_, _-_}
 use lib.ListN.{length}
 use denote.Ref.{now}
 use Rattle.net.specs.Net.{net, Place}
-use Rattle.net.specs.Evaluated.{placeBy}
-use Rattle.sums.specs.Sums.{SumTold}
+use Rattle.evaluation.specs.internal.Evaluated.{placeBy}
+use Rattle.sums.specs.internal.Sums.{SumTold}
 use Rattle.sums.proofs.Summing.{sum-joins}
 use Rattle.sums.proofs.sum.sum_terms.Statement.{statement}
 use Rattle.sums.proofs.sum.sum_terms.Tie as tie

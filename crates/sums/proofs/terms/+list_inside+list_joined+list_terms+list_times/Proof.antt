@@ -4,7 +4,7 @@ use mathlib.Core.List.{[]}
 use denote.Ref.{now}
 use Rattle.net.specs.Net.{net}
 use Rattle.net.specs.Reader.{readExpression}
-use Rattle.net.specs.Evaluated.{placeBy}
+use Rattle.evaluation.specs.internal.Evaluated.{placeBy}
 use Rattle.sums.proofs.Listing.{times-listed, joined-listed, all-listed, amount-listed, times-told, either-told, listed-past, listed-shut, listed-stray}
 use Prim.Native.Nat.{ℕ, _+_, _<_}
 use borrow.Fn.Kinds.{In}
@@ -28,7 +28,7 @@ use Rattle.runs.proofs.scaled.Reads as scaled-reads
 use Rattle.sums.proofs.terms.anew.Reads as anew-reads
 use Rattle.sums.proofs.terms.nothing.Reads as nothing-reads
 use Rattle.sums.proofs.terms.store_below.Reads as store-below-reads
-use Rattle.net.proofs.eval_rank.Reads as eval-rank-reads
+use Rattle.evaluation.proofs.eval_rank.Reads as eval-rank-reads
 use Rattle.reading.proofs.word_at.Reads as word-at-reads
 use Rattle.sums.proofs.terms.+list_inside+list_joined+list_terms+list_times.{statement}
 use Rattle.sums.proofs.terms.+list_inside+list_joined+list_terms+list_times.Tie.{close}

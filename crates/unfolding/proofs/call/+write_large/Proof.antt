@@ -1,7 +1,7 @@
 use borrow.Author.Needs.{needs}
 use native.Mathlib.Omega.{arith}
 use Rattle.reading.specs.Basics.{if_then_else_}
-use Rattle.coloured.proofs.Readied.{most-room}
+use Rattle.rows.proofs.Prepared.{most-room}
 use Rattle.row_numbers.proofs.Marking.{blank-words}
 use Prim.Native.Nat.{ℕ, _<_}
 use borrow.Fn.Kinds.{In}

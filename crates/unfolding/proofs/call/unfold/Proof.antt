@@ -1,7 +1,7 @@
 use borrow.Author.Needs.{needs}
 use native.Mathlib.Omega.{arith}
 use mathlib.Core.Path.{refl}
-use Rattle.coloured.proofs.Accepted.{the-net, the-refusal}
+use Rattle.rows.proofs.Accepted.{the-net, the-refusal}
 use Rattle.unfolding.proofs.Unfolds.{unfold-refused, tabled}
 use Rattle.unfolding.proofs.call.unfold.Statement.{statement}
 use Rattle.unfolding.proofs.call.unfold.Tie as tie

@@ -39,7 +39,8 @@ use denote.Exit.{yes}
 use denote.Triple.Clauses.{ensured, lasts}
 use Rattle.reading.specs.Basics.{ℕ}
 use Rattle.reading.specs.Reading.{Answer}
-use Rattle.net_file.specs.Heads.{headAt, headTold}
+use Rattle.net_file.specs.Heads.{headAt}
+use Rattle.net_file.specs.Replies.{headTold}
 use Rattle.net_file.specs.declared.reader.Reader.{Reader}
 use Rattle.net_file.specs.declared.head.Head.{Head}
 use Rattle.net_file.proofs.reader.Reader.Laws as T′

@@ -1,0 +1,7 @@
+// The expressions of a net file evaluated under a binding, on the file's own bytes.
+mod evaluate;
+
+pub use evaluate::Ranked;
+pub use evaluate::Tested;
+pub use evaluate::eval_guard;
+pub use evaluate::eval_rank;

@@ -1,0 +1,40 @@
+use borrow.Author.Needs.{needs}
+use native.Mathlib.Omega.{arith}
+use Rattle.reading.specs.Basics.{if_then_else_}
+use Rattle.rows.proofs.Prepared.{roomy}
+use Prim.Native.Nat.{ℕ, _<_}
+use borrow.Fn.Kinds.{In}
+use borrow.Fn.PlainCycle.{Measures, is, falls, and}
+use Rattle.search.proofs.first_large.Reads as first-large
+use Rattle.search.proofs.first_large.Kinds as first-large-kinds
+use Rattle.search.proofs.+first_large.Lts-first_large as first-large-lts
+use Rattle.search.proofs.first_with.Reads as first-with-reads
+use Rattle.search.proofs.+first_large.{statement}
+use Rattle.search.proofs.+first_large.Tie.{close}
+
+abbrev μ-first-large : Measures 8 first-large-kinds.ps ℕ
+μ-first-large κs a = if a .1 .1 .1 .1 .1 .1 .1 .1 .1 .1 .0 then 1 else 0
+
+abbrev first-large-at : ℕ → In 8 first-large-kinds.ps
+first-large-at t =
+    and 8 first-large-kinds.ps (is 8 first-large-kinds.ps μ-first-large t) first-large.Pre
+
+abbrev first-large-below : ℕ → In 8 first-large-kinds.ps
+first-large-below t =
+    and 8 first-large-kinds.ps (falls 8 first-large-kinds.ps _<_ μ-first-large t) first-large.Pre
+
+pub +first-large-spec : {M : Type 1} → statement M
++first-large-spec = close μ-first-large λ t. first-large-lts.spec (
+  first-large-below t,
+  first-large.Post,
+  first-with-reads.Asked,
+  first-with-reads.Learnt,
+)
+    (first-large-at t)
+    first-large.Post
+    (λ c κs. (rw (← c .before .before .before .before .before .before .before .pre .0, c .if2 .taken) (omega arith), search needs))
+    (λ c. search needs)
+    (λ c. search needs)
+    (λ c. search needs)
+    (λ c κs. search needs)
+    (λ c. λ n ready sized. c .before .before .first-with .ensures n ready sized (omega (arith, roomy ready)) (omega (arith, roomy ready)))

@@ -1,0 +1,4 @@
+-- The meaning.
+pub mod Replies
+-- What the code's own tables, lists and enums stand for.
+pub mod internal

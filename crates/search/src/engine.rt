@@ -1,0 +1,144 @@
+// The search for the first binding that fires, on a net that has been read.
+use bindings::next_binding;
+use bindings::space_of;
+use firing::answer_rest;
+use firing::some_lacks;
+use rows::Takes;
+use rows::load_rest;
+use rows::load_takes;
+ghost use mathlib.Core.Path.{_≡_};
+ghost use Prim.Native.Nat.{ℕ, _<_, _≤_};
+ghost use mathlib.Core.List.{List, map};
+ghost use lib.ListN.{length};
+ghost use lib.Dec.{eqb};
+ghost use Rattle.reading.specs.Basics.{product, below};
+ghost use Rattle.firing.specs.Firing.{first};
+ghost use Rattle.firing.specs.internal.Loops.{stoppedAt};
+ghost use Rattle.net.specs.Net.{Net, flatPlaceCount, sizesOf};
+ghost use Rattle.bindings.specs.Effect.{transitionAt, bindings};
+ghost use Rattle.bindings.specs.Orders.{fireOrder, orderOf};
+ghost use Rattle.rows.specs.internal.Drawing.{room, Drawing};
+ghost use Rattle.bindings.specs.internal.Bindings.{Binds, binding, numbered};
+ghost use Rattle.rows.specs.internal.Prepared.{Prepared, fireBinding};
+ghost use Rattle.search.specs.internal.Searched.{searchTold, SearchWithin};
+
+// Whether a binding of a transition, whose colours env has, would fire.
+fn fires_bound(
+    s: &[u8],
+    sizes: &[u8],
+    vars: &[u8],
+    env: &[u8; 32],
+    guards: &[u16; 32],
+    arcs: &[u64; 3072],
+    t: usize,
+    m: &[u16],
+    places: &mut [u16],
+    amounts: &mut [u16],
+) -> bool
+    requires { ⌜ t < 32 ⌝ }
+    ensures { λ r. ⌜ ((n : Net) (colours : List ℕ) → Drawing (now (s .entry)) n (now (sizes .entry)) (now (vars .entry)) (now (guards .entry)) (now (arcs .entry))
+        → t < length (n .transitions) → Binds n (binding t colours) (now (env .entry)) → room (now (s .entry)) n ≤ length (now (places .entry)) → room (now (s .entry)) n ≤ length (now (amounts .entry))
+        → length (now (m .entry)) ≡ flatPlaceCount n → r ≡ eqb (fireBinding n (binding t colours) (now (m .entry)) .answer) 0) ⌝ }
+{
+    match load_takes(s, sizes, vars, env, guards, arcs, t, places, amounts) {
+        Takes::Nothing => false,
+        Takes::Upto { end } => {
+            if some_lacks(places, amounts, end, m) {
+                return false;
+            }
+            let ends = load_rest(s, sizes, vars, env, arcs, t, end, places, amounts);
+            answer_rest(places, amounts, ends, m) == 0
+        }
+    }
+}
+
+// The number of a transition's first binding that would fire, among so many, all that it has; how many where none would.
+fn search_bindings(
+    s: &[u8],
+    sizes: &[u8],
+    vars: &[u8],
+    own: &[u16; 128],
+    guards: &[u16; 32],
+    arcs: &[u64; 3072],
+    t: usize,
+    many: usize,
+    m: &[u16],
+    places: &mut [u16],
+    amounts: &mut [u16],
+) -> usize
+    requires { ⌜ t < 32 ⌝ }
+    ensures { λ r. ⌜ ((n : Net) (uses : List ℕ) (transitions : ℕ) → Prepared (now (s .entry)) n (now (sizes .entry)) (now (vars .entry)) (now (own .entry)) uses (now (guards .entry)) (now (arcs .entry)) transitions
+        → t < transitions → many ≡ product (sizesOf n (transitionAt n t)) → room (now (s .entry)) n ≤ length (now (places .entry)) → room (now (s .entry)) n ≤ length (now (amounts .entry)) → length (now (m .entry)) ≡ flatPlaceCount n
+        → first (λ i. eqb (fireBinding n (numbered n t i) (now (m .entry)) .answer) 0) (below many) ≡ stoppedAt many r) ⌝ }
+{
+    let mut env = [0u8; 32];
+    let mut i: usize = 0;
+    while i < many {
+        if fires_bound(s, sizes, vars, &env, guards, arcs, t, m, places, amounts) {
+            return i;
+        }
+        next_binding(own, t, &mut env);
+        i += 1;
+    }
+    i
+}
+
+// Where the search for the first order stopped, and how many bindings were tried.
+pub enum Searched {
+    At {
+        t: usize,
+        index: usize,
+        tried: usize,
+    },
+    Nothing {
+        tried: usize,
+    },
+}
+
+// The first binding that would fire.
+pub fn search_all(
+    s: &[u8],
+    sizes: &[u8],
+    vars: &[u8],
+    own: &[u16; 128],
+    guards: &[u16; 32],
+    arcs: &[u64; 3072],
+    transitions: usize,
+    m: &[u16],
+    places: &mut [u16],
+    amounts: &mut [u16],
+) -> Searched
+    requires { ⌜ transitions ≤ 32 ⌝ }
+    ensures { λ r. ⌜ ((n : Net) (uses : List ℕ) → Prepared (now (s .entry)) n (now (sizes .entry)) (now (vars .entry)) (now (own .entry)) uses (now (guards .entry)) (now (arcs .entry)) transitions
+        → room (now (s .entry)) n ≤ length (now (places .entry)) → room (now (s .entry)) n ≤ length (now (amounts .entry)) → length (now (m .entry)) ≡ flatPlaceCount n
+        → (first (λ order. eqb (fireOrder n order (now (m .entry)) .answer) 0) (map orderOf (bindings n)) ≡ searchTold n r) × SearchWithin n r) ⌝ }
+{
+    let mut tried: usize = 0;
+    let mut t: usize = 0;
+    while t < transitions {
+        let many = space_of(own, t);
+        let i = search_bindings(
+            s,
+            sizes,
+            vars,
+            own,
+            guards,
+            arcs,
+            t,
+            many,
+            m,
+            places,
+            amounts,
+        );
+        if i < many {
+            return Searched::At {
+                t,
+                index: i,
+                tried: tried + i + 1,
+            };
+        }
+        tried += many;
+        t += 1;
+    }
+    Searched::Nothing { tried }
+}

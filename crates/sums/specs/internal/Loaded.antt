@@ -1,0 +1,54 @@
+-- What the code that evaluates arc expressions promises.
+use mathlib.Core.Path.{_≡_}
+use Prim.Native.Nat.{_≤_, _<_}
+use Rattle.reading.specs.Basics.{ℕ, _+_, _*_, _/_, Bool, List, [], _∷_, map, length, ltb, if_then_else_, keep, numbersFrom}
+use Rattle.reading.specs.Reading.{Answer, fine, fault}
+use Rattle.firing.specs.Arcs.{Arc}
+use Rattle.firing.specs.internal.RowLists.{arcsIn}
+use Rattle.net.specs.Net.{Expression, Place, Net, net}
+use Rattle.net.specs.Reader.{readExpression}
+use Rattle.net.specs.Values.{weight}
+use Rattle.evaluation.specs.internal.Evaluated.{bound, placeBy}
+use Rattle.runs.specs.internal.Terms.{terms, Counted, Appended, Terms, countIn}
+use Rattle.sums.specs.internal.Slots.{slotsFor}
+use Rattle.sums.specs.declared.terms.Multiset.{Multiset}
+
+-- ---- an expression's terms
+-- they were appended after so many
+pub record Listed (n : Net) (env : List ℕ) (count : ℕ) (ranks counts : List ℕ) (used : ℕ) (ranks' counts' : List ℕ) (r : Multiset) (e : Expression) (next : ℕ) : Type 0 where
+  pub list : List Arc
+  pub lie : Appended list ranks counts used ranks' counts' (r .end)
+  pub counted : Counted n env count e list (r .rest)
+  pub after : r .next ≡ next
+
+-- where the bytes hold an arc expression, and there is room for twice its terms
+abbrev pub ListedTold : Net → List ℕ → ℕ → List ℕ → List ℕ → ℕ → List ℕ → List ℕ → Multiset → Answer Expression → Type 0
+ListedTold n env count ranks counts used ranks' counts' r (fine e next) =
+    used + 2 * terms e ≤ length ranks → used + 2 * terms e ≤ length counts → Listed n env count ranks counts used ranks' counts' r e next
+ListedTold n env count ranks counts used ranks' counts' r (fault number place) = Unit {0}
+
+-- ---- arcs
+-- an arc at a place, none where its weight is 0
+abbrev pub oneArc : ℕ → ℕ → List Arc
+oneArc place weight = if ltb 0 weight then record { place = place; weight = weight } ∷ [] else []
+
+-- the arcs that weights give so many ranks of a place from one rank on; its flat places begin at start
+abbrev pub ranksFrom : ℕ → (ℕ → ℕ) → ℕ → ℕ → List Arc
+ranksFrom start w from n = keep (λ a. ltb 0 (a .weight)) (map (λ r. record { place = start + r; weight = w r }) (numbersFrom from n))
+
+abbrev pub rankArcs : ℕ → ℕ → (ℕ → ℕ) → List Arc
+rankArcs start count w = ranksFrom start w 0 count
+
+-- terms that lie in the lent lists from base up to stop, behind so many ranks, were turned into arcs
+abbrev pub TermsLoaded : ℕ → ℕ → ℕ → ℕ → ℕ → List ℕ → List ℕ → ℕ → List ℕ → List ℕ → ℕ → Type 0
+TermsLoaded start count base stop rest places amounts used places' amounts' r =
+    (w : ℕ → ℕ) → Terms count 0 (arcsIn places amounts base stop) → ((rank : ℕ) → rank < count → w rank ≡ countIn (arcsIn places amounts base stop) rest rank)
+    → used + count ≤ base → base ≤ stop → stop ≤ length places → stop ≤ length amounts
+    → Appended (rankArcs start count w) places amounts used places' amounts' r
+
+-- the arcs of the expression that stands at a place of the file were appended, where there is room for them and half the file
+abbrev pub ArcLoaded : List ℕ → List ℕ → List ℕ → List ℕ → Bool → ℕ → ℕ → ℕ → List ℕ → List ℕ → ℕ → List ℕ → List ℕ → ℕ → Type 0
+ArcLoaded s sizes vars env paired start count at places amounts used places' amounts' r =
+    (known : List Place) (first second next : ℕ) (e : Expression) → readExpression s (net sizes vars known [] []) (placeBy paired first second) 16 at ≡ fine e next
+    → used + slotsFor s at count + length s / 2 ≤ length places → used + slotsFor s at count + length s / 2 ≤ length amounts
+    → Appended (rankArcs start count (λ rank. weight (net sizes vars known [] []) (bound env) rank e)) places amounts used places' amounts' r
