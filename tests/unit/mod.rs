@@ -1,6 +1,7 @@
 //! The implementation held against document 01's own cases, every refusal at its place, and the likeness of drawing and flat net.
 mod flat_refusals;
 mod generator;
+mod layers;
 mod likeness;
 mod meanings;
 mod net_refusals;

@@ -4,7 +4,7 @@ use Rattle.reading.specs.Reading.{Outcome}
 use Rattle.firing.specs.Firing.{Fired, fired, fire, First}
 use Rattle.firing.specs.Calls.{FireCall, fireCall, firstCall}
 use Rattle.net.specs.Net.{Net, flatPlaceCount, sizesOf}
-use Rattle.net_parts.specs.Parts.{readNet}
+use Rattle.net_file.specs.NetFile.{readNet}
 use Rattle.bindings.specs.Effect.{Binding, transitionAt, bindings, effect}
 
 -- the order of a binding: 0x60, transition, four colours, unused ones 0

@@ -7,7 +7,7 @@ use Rattle.firing.specs.internal.Loops.{Ran}
 use Rattle.firing.proofs.Running as running
 use Rattle.firing.proofs.Running.{called}
 use Rattle.net.specs.Net.{Net, flatPlaceCount}
-use Rattle.net_parts.specs.Parts.{readNet}
+use Rattle.net_file.specs.NetFile.{readNet}
 use Rattle.bindings.specs.Orders.{fireOrder, fireOrders}
 use Rattle.rows.specs.internal.Prepared.{Prepared}
 use Rattle.rows.proofs.Prepared.{wrong, fitting}

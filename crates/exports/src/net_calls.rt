@@ -4,7 +4,7 @@ use codes::give_net_sizes;
 use codes::give_orders_fired;
 ghost use mathlib.Core.Path.{_≡_};
 ghost use Rattle.reading.specs.Basics.{[], _∷_};
-ghost use Rattle.net_file.specs.Calls.{netSizes};
+ghost use Rattle.net_file.specs.NetFile.{netSizes};
 ghost use Rattle.bindings.specs.Orders.{fireOrders, firstOrder};
 ghost use Rattle.codes.specs.Codes.{returned, fireCode, firstOrderCode, netCode};
 

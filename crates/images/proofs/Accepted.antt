@@ -6,7 +6,7 @@ use Rattle.reading.specs.Basics.{ℕ, List, length, getD, take}
 use Rattle.reading.specs.Reading.{accepted, refused}
 use Rattle.net.specs.Net.{Net, inTransition}
 use Rattle.net.specs.internal.ReaderEnums.{bits}
-use Rattle.net_parts.specs.Parts.{readNet}
+use Rattle.net_file.specs.NetFile.{readNet}
 use Rattle.net_file.specs.Limits.{Limits}
 use Rattle.net_file.specs.Formed.{Formed}
 use Rattle.net_file.proofs.Limits.{limits}

@@ -5,7 +5,7 @@ use borrow.Author.Tests.{le-leb, lt-leb, eq-eqb, ne-eqb}
 use Rattle.reading.specs.Basics.{ℕ, _*_, _/_, _%_, List, none, some, length, over}
 use Rattle.reading.specs.Reading.{Outcome, accepted, refused, failing}
 use Rattle.net.specs.Net.{Net, variablesOf, inTransition}
-use Rattle.net_parts.specs.Parts.{readNet}
+use Rattle.net_file.specs.NetFile.{readNet}
 use Rattle.bindings.specs.Effect.{transitionAt}
 use Rattle.bindings.specs.Orders.{orderOf}
 use Rattle.bindings.specs.internal.Numbers.{digits, those, sizesOver}

@@ -18,7 +18,7 @@ ghost use lib.ListN.{length};
 ghost use Rattle.reading.specs.Basics.{over};
 ghost use Rattle.reading.specs.Reading.{accepted};
 ghost use Rattle.net.specs.Net.{Net};
-ghost use Rattle.net_parts.specs.Parts.{readNet};
+ghost use Rattle.net_file.specs.NetFile.{readNet};
 ghost use Rattle.row_numbers.specs.Unfolding as meant;
 ghost use Rattle.row_numbers.specs.Unfolding.{imagesCall, orderCall};
 ghost use Rattle.row_numbers.specs.internal.Walked.{entries, Tables};

@@ -2,7 +2,7 @@
 use mathlib.Core.Path.{_≡_, subst}
 use Rattle.reading.specs.Basics.{ℕ, List}
 use Rattle.reading.specs.Reading.{accepted, refused}
-use Rattle.net_file.specs.Calls.{netSizes}
+use Rattle.net_file.specs.NetFile.{netSizes}
 use Rattle.net_file.specs.internal.NetTables.{NetTold}
 use Rattle.net_file.specs.declared.file.NetRead.{NetRead}
 use Rattle.net_file.specs.declared.file.NetRead.the-variants.{Whole, Refused}

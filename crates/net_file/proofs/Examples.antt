@@ -4,7 +4,9 @@ use Rattle.reading.specs.Basics.{flatMap, numbersFrom, any, every, keep, find}
 use Rattle.reading.specs.Reading.{accepted, failing, obey, standing, needed, repeat, file}
 use Rattle.net.specs.Net.{setOf, ceiling, inColour, inGuard, inExpression, variablesOf}
 use Rattle.net.specs.Reader.{widthOf, readColour, readGuard, readExpression, readGuardIf}
-use Rattle.net_parts.specs.Parts.{setPart, variablePart, placePart, arcPart, transitionPart, tokensPart, readNet}
+use Rattle.net_parts.specs.Parts.{setPart, variablePart, placePart, tokensPart}
+use Rattle.net_transitions.specs.Transitions.{arcPart, transitionPart}
+use Rattle.net_file.specs.NetFile.{readNet}
 use Rattle.net_file.specs.Examples.{twoGauges, twoGaugesNet}
 
 pub two-gauges-read : readNet twoGauges ≡ accepted twoGaugesNet

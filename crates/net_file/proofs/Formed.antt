@@ -11,7 +11,9 @@ use Rattle.reading.proofs.Commands.{both-hold}
 use Rattle.reading.proofs.Gives.{both-first, both-second, Gives, gives, stops, GivesIf, anything, of-outcome, checked-gives, repeat-gives, then-gives, under-gives, standing-gives, given-gives, file-gives}
 use Rattle.net.specs.Net.{Colour, variable, constant, successor, predecessor, Guard, always, opposite, both, either, equal, less, Expression, one, two, all, plus, minus, times, Place, Arc, Transition, Tokens, Net, net, setsOf, coloursOf, placeAt, arcOn, tokensOn, setOf, ceiling, variablesOf, bindingSpace}
 use Rattle.net.specs.Reader.{readExpression, readGuardIf}
-use Rattle.net_parts.specs.Parts.{setPart, variablePart, placePart, arcPart, ended, transitionPart, tokensPart, content, readNet}
+use Rattle.net_parts.specs.Parts.{setPart, variablePart, placePart, tokensPart}
+use Rattle.net_transitions.specs.Transitions.{arcPart, ended, transitionPart}
+use Rattle.net_file.specs.NetFile.{content, readNet}
 use Rattle.net_file.specs.Formed.{colourFormed, comparable, guardFormed, ofSets, expressionFormed, once, arcFormed, sameArc, transitionFormed, tokensFormed, sameTokens, Formed, Words}
 use Rattle.net_file.proofs.Trees.{Bytes, word-fits, guard-formed, expression-sound}
 

@@ -10,7 +10,9 @@ use Rattle.reading.proofs.Lists.{All, end, also, all-with, all-getD}
 use Rattle.reading.proofs.Keeps.{no-value, both-true, checked-went, then-went, standing-went, repeat-keeps, file-went, outcome-went}
 use Rattle.net.specs.Net.{always, Place, single, pair, Transition, Tokens, Net, net, setsOf, coloursOf, variablesOf, bindingSpace}
 use Rattle.net.specs.Reader.{readGuardIf}
-use Rattle.net_parts.specs.Parts.{setPart, variablePart, placePart, arcPart, transitionPart, tokensPart, content, readNet}
+use Rattle.net_parts.specs.Parts.{setPart, variablePart, placePart, tokensPart}
+use Rattle.net_transitions.specs.Transitions.{arcPart, transitionPart}
+use Rattle.net_file.specs.NetFile.{content, readNet}
 use Rattle.net_file.specs.Limits.{Limits}
 
 -- one more is one longer

@@ -9,7 +9,9 @@ use Rattle.reading.proofs.Commands.{end, other, passes, done, fails, needed-pas
 use Rattle.reading.specs.Reading.{Answer, fine, fault, _andThen_, outcome, accepted, refused, _unless_, checked, command, needed, whole, file}
 use Rattle.net.specs.Net.{Place, single, Transition, Tokens, Net, net, variablesOf, bindingSpace}
 use Rattle.net.specs.Reader.{widthOf}
-use Rattle.net_parts.specs.Parts.{setPart, variablePart, placePart, transitionPart, tokensPart, content, readNet}
+use Rattle.net_parts.specs.Parts.{setPart, variablePart, placePart, tokensPart}
+use Rattle.net_transitions.specs.Transitions.{transitionPart}
+use Rattle.net_file.specs.NetFile.{content, readNet}
 use Rattle.net.specs.internal.ReaderEnums.{placeOf}
 use Rattle.net_parts.specs.internal.Tables.{placesOf, Started, TokensRead, TokensTold}
 use Rattle.net_transitions.specs.internal.TransitionTables.{over, TransitionsRead}

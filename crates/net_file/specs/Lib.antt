@@ -1,5 +1,5 @@
 -- The meaning.
-pub mod Calls
+pub mod NetFile
 pub mod Heads
 pub mod Limits
 pub mod Formed

@@ -1,7 +1,7 @@
 -- What the replies say, in the terms of the meanings: each case's number and values.
 use Rattle.reading.specs.Basics.{ℕ}
 use Rattle.reading.specs.Reading.{Answer, fine, fault, Outcome, accepted, refused}
-use Rattle.net_file.specs.Calls.{NetSizes}
+use Rattle.net_file.specs.NetFile.{NetSizes}
 use Rattle.net_file.specs.declared.head.Head.{Head}
 use Rattle.net_file.specs.declared.head.Head.the-variants as head
 use Rattle.net_file.specs.declared.sizes.NetReply.{NetReply}

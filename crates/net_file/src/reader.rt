@@ -6,7 +6,7 @@ use crate::sizes::NetReply;
 use crate::sizes::sizes_of;
 ghost use mathlib.Core.Path.{_≡_};
 ghost use Rattle.net_file.specs.Replies.{netReply, headTold};
-ghost use Rattle.net_file.specs.Calls.{netSizes};
+ghost use Rattle.net_file.specs.NetFile.{netSizes};
 ghost use Rattle.net_file.specs.Heads.{headAt, nextPlace};
 
 pub struct Reader<'a> {

@@ -4,7 +4,7 @@ use crate::file::read_net;
 use crate::reader::Reader;
 ghost use mathlib.Core.Path.{_≡_};
 ghost use Rattle.net_file.specs.Replies.{netReply};
-ghost use Rattle.net_file.specs.Calls.{netSizes};
+ghost use Rattle.net_file.specs.NetFile.{netSizes};
 
 // How many flat places, transitions and bindings a net file has, or the refusal.
 pub enum NetReply {

@@ -6,7 +6,7 @@ use Rattle.reading.specs.Basics.{ℕ, _+_, true, false, List, [], map, length, 
 use Rattle.reading.specs.Reading.{fine, fault}
 use Rattle.reading.proofs.Commands.{passes, done, fails, later}
 use Rattle.net.specs.Net.{Place, Transition, net, sizeOf, variablesOf, sizesOf, bindingSpace, inTransition}
-use Rattle.net_parts.specs.Parts.{ended}
+use Rattle.net_transitions.specs.Transitions.{ended}
 use Rattle.net.proofs.Answers.{checked-goes, checked-stops}
 use Rattle.net_parts.proofs.Totals.{sum-with}
 

@@ -10,7 +10,7 @@ use Rattle.reading.specs.Basics.{ℕ, _+_, _*_, List, [], _∷_, length, getD, 
 use Rattle.reading.specs.Reading.{fault, whole}
 use Rattle.reading.proofs.Parts.{Reading, begins, goes-on, ends, stops}
 use Rattle.net.specs.Net.{always, Transition, Net, bindingSpace}
-use Rattle.net_parts.specs.Parts.{transitionPart}
+use Rattle.net_transitions.specs.Transitions.{transitionPart}
 use Rattle.net_transitions.specs.internal.TransitionTables.{TransitionHolds, TransitionRead, TransitionTold, TransitionRoom, TransitionFew, TransitionsHold, TransitionsRead}
 use Rattle.net_transitions.specs.declared.transition.TransitionStep.{TransitionStep}
 use Rattle.net_transitions.specs.declared.transition.TransitionStep.the-variants.{Done, More, Stop}

@@ -12,7 +12,7 @@ use Rattle.reading.specs.Reading.{Answer, fine, fault, standing, whole}
 use Rattle.reading.proofs.Commands.{past, end, other, passes, done, fails, standing-past, standing-none, stands-fails, stands-goes}
 use Rattle.net.specs.Net.{Guard, always, Arc, Transition, Place, Net, net, placeAt, arcOn, variablesOf, bindingSpace, inGuard, inTransition}
 use Rattle.net.specs.Reader.{widthOf, command, readGuard, readGuardIf, readExpression}
-use Rattle.net_parts.specs.Parts.{arcPart, ended, transitionPart}
+use Rattle.net_transitions.specs.Transitions.{arcPart, ended, transitionPart}
 use Rattle.net.specs.internal.ReaderEnums.{bits, guardTold}
 use Rattle.net_parts.specs.internal.Tables.{placesOf}
 use Rattle.net_transitions.specs.internal.TransitionTables.{over, RowHolds, ArcsRead, ArcsTold, guardPlace, GuardHolds, ClosedTold, inside, TransitionRead, TransitionTold, TransitionFew}

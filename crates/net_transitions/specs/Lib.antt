@@ -1,2 +1,4 @@
+-- The meaning.
+pub mod Transitions
 -- What the code's own tables, lists and enums stand for.
 pub mod internal

@@ -14,7 +14,7 @@ ghost use lib.ListN.{length, getD};
 ghost use Rattle.net.specs.Net.{net, Place, Transition, bindingSpace, inTransition};
 ghost use Rattle.net.specs.internal.ReaderEnums.{bits};
 ghost use Rattle.net_transitions.specs.internal.TransitionTables.{over, guardPlace, ClosedTold, ClosedRoom, inside, transitionStopped, TransitionTold, TransitionRoom, TransitionFew};
-ghost use Rattle.net_parts.specs.Parts.{transitionPart};
+ghost use Rattle.net_transitions.specs.Transitions.{transitionPart};
 ghost use mathlib.Core.Option.{some};
 
 // The end of a transition with these variables, after a binding space: the space with it in the place of a set, or the fault.

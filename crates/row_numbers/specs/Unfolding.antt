@@ -5,7 +5,7 @@ use Rattle.firing.specs.Firing.{Weights}
 use Rattle.firing.specs.Arcs.{rowOf}
 use Rattle.flat_file.specs.Flat.{Flat, writeFlat}
 use Rattle.net.specs.Net.{Net, flatPlaceCount, tokensOn}
-use Rattle.net_parts.specs.Parts.{readNet}
+use Rattle.net_file.specs.NetFile.{readNet}
 use Rattle.bindings.specs.Effect.{FlatPlace, bindings, flatPlaces, effect}
 use Rattle.bindings.specs.Orders.{orderOf}
 

@@ -5,7 +5,7 @@ use Rattle.reading.specs.Basics.{ℕ, List, [], length, getD, take}
 use Rattle.reading.specs.Reading.{refused}
 use Rattle.net.specs.Net.{Net, net, flatPlaceCount, inTransition}
 use Rattle.net.specs.internal.ReaderEnums.{bits}
-use Rattle.net_parts.specs.Parts.{readNet}
+use Rattle.net_file.specs.NetFile.{readNet}
 use Rattle.net_parts.specs.internal.Tables.{Started}
 use Rattle.net_transitions.specs.internal.TransitionTables.{TransitionsHold}
 use Rattle.net_file.specs.Limits.{Limits}

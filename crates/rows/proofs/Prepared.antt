@@ -11,7 +11,7 @@ use Rattle.firing.specs.internal.RowLists.{arcsIn, rowIn}
 use Rattle.firing.specs.internal.Steps.{lacking, Within, EndsWithin}
 use Rattle.firing.specs.declared.Ends.{Ends}
 use Rattle.net.specs.Net.{Net, flatPlaceCount}
-use Rattle.net_parts.specs.Parts.{readNet}
+use Rattle.net_file.specs.NetFile.{readNet}
 use Rattle.net_file.specs.Limits.{Limits}
 use Rattle.net_file.proofs.Limits.{limits, short}
 use Rattle.bindings.specs.Effect.{Binding, transitionAt}

@@ -8,7 +8,7 @@ use Rattle.firing.specs.Firing.{First, found, nothing, first}
 use Rattle.firing.proofs.Running as running
 use Rattle.net.specs.Net.{Net, flatPlaceCount, inTransition}
 use Rattle.net.specs.internal.ReaderEnums.{bits}
-use Rattle.net_parts.specs.Parts.{readNet}
+use Rattle.net_file.specs.NetFile.{readNet}
 use Rattle.bindings.specs.Effect.{transitionAt, bindings}
 use Rattle.bindings.specs.Orders.{orderOf, fireOrder, firstOrder}
 use Rattle.bindings.specs.Replies.{bytesOf}

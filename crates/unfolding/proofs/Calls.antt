@@ -12,7 +12,7 @@ use Rattle.firing.specs.Firing.{Fired, run, ending}
 use Rattle.firing.specs.Calls.{FireCall, fireChecks, fireCall}
 use Rattle.flat_file.specs.Flat.{fireImage, fireImages}
 use Rattle.net.specs.Net.{Net, flatPlaceCount}
-use Rattle.net_parts.specs.Parts.{readNet}
+use Rattle.net_file.specs.NetFile.{readNet}
 use Rattle.net_file.specs.Limits.{Limits}
 use Rattle.net_file.proofs.Limits.{limits}
 use Rattle.bindings.specs.Orders.{fireOrder, fireOrders}

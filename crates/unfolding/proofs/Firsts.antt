@@ -10,7 +10,7 @@ use Rattle.firing.specs.Firing.{Weights, Fired, First, found, nothing, oneMore,
 use Rattle.firing.specs.Calls.{firstCall}
 use Rattle.flat_file.specs.Flat.{Flat, readFlat, fireRow, fireImage, firstRow}
 use Rattle.net.specs.Net.{Net, flatPlaceCount}
-use Rattle.net_parts.specs.Parts.{readNet}
+use Rattle.net_file.specs.NetFile.{readNet}
 use Rattle.net_file.proofs.Limits.{limits}
 use Rattle.bindings.specs.Effect.{Binding, bindings, effect}
 use Rattle.bindings.specs.Orders.{orderOf, fireOrder, firstOrder}

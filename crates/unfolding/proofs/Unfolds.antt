@@ -11,7 +11,7 @@ use Rattle.flat_file.specs.Flat.{rowBytes, writeFlat}
 use Rattle.flat_file.proofs.Written.{placeBytes, length-places}
 use Rattle.net.specs.Net.{Net, inTransition}
 use Rattle.net.specs.internal.ReaderEnums.{bits}
-use Rattle.net_parts.specs.Parts.{readNet}
+use Rattle.net_file.specs.NetFile.{readNet}
 use Rattle.net_file.specs.internal.NetTables.{NetHeld}
 use Rattle.net_file.specs.Limits.{Limits}
 use Rattle.net_file.specs.Formed.{Formed}

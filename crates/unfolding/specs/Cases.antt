@@ -8,7 +8,9 @@ use Rattle.flat_file.specs.Flat.{writeFlat}
 use Rattle.net.specs.Net.{constant, Expression, one, all, minus, net, setOf, ceiling, inColour, inGuard, inExpression, variablesOf, bindingSpace}
 use Rattle.net_file.specs.Examples.{twoGauges}
 use Rattle.net.specs.Reader.{widthOf, readColour, readGuard, readExpression, readGuardIf}
-use Rattle.net_parts.specs.Parts.{setPart, variablePart, placePart, arcPart, transitionPart, tokensPart, readNet}
+use Rattle.net_parts.specs.Parts.{setPart, variablePart, placePart, tokensPart}
+use Rattle.net_transitions.specs.Transitions.{arcPart, transitionPart}
+use Rattle.net_file.specs.NetFile.{readNet}
 use Rattle.net.specs.Values.{colour, holds, weight}
 use Rattle.bindings.specs.Effect.{choices, bindings, standsFor, flatPlaces, effect}
 use Rattle.bindings.specs.Orders.{fits, named, fireOrder, fireOrders, firstOrder}

@@ -7,7 +7,7 @@ use Rattle.firing.specs.Firing.{Fired, fired, run, First, found, nothing}
 use Rattle.firing.specs.Calls.{FireCall}
 use Rattle.flat_file.specs.Flat.{Flat, readFlat, fireImage, fireImages, firstRow}
 use Rattle.net.specs.Net.{Net, flatPlaceCount}
-use Rattle.net_parts.specs.Parts.{readNet}
+use Rattle.net_file.specs.NetFile.{readNet}
 use Rattle.bindings.specs.Effect.{effect}
 use Rattle.bindings.specs.Orders.{named, fireOrder, fireOrders, firstOrder}
 use Rattle.row_numbers.specs.Unfolding.{unfolded, flatFile, rowNumber, orderOfRow, image, images, unfoldCall, imagesCall, orderCall}

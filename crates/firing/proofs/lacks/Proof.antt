@@ -9,4 +9,4 @@ lacks-spec =
     (λ c κs. search needs)
     (λ c κs. search needs)
     (λ c κs. search needs)
-    (λ c. cc))
+    (λ c. rw (c .slot2 .ensures .0, c .before .entry .ensures .0, c .before .before .slot .ensures .0)))

@@ -4,7 +4,7 @@ use Prim.Native.Nat.{_≤_, _<_}
 use Rattle.reading.specs.Basics.{ℕ, List, [], _∷_, length, getD, take, eqb, byteAt}
 use Rattle.reading.specs.Reading.{Answer, fine, fault, _andThen_, accepted, refused, _unless_, checked, command, needed}
 use Rattle.net.specs.Net.{Net, net, placeAt, bindingSpace}
-use Rattle.net_parts.specs.Parts.{readNet}
+use Rattle.net_file.specs.NetFile.{readNet}
 use Rattle.net.specs.internal.ReaderEnums.{placeOf}
 use Rattle.net_parts.specs.internal.Tables.{placesOf, Started, Holds, countOf}
 use Rattle.net_transitions.specs.internal.TransitionTables.{TransitionsHold}

@@ -5,7 +5,7 @@ use Rattle.reading.specs.Basics.{ℕ, _+_, _*_, List, [], Option, none, some, O
 use Rattle.reading.specs.Reading.{Answer, fine, fault, _andThen_, whole}
 use Rattle.net.specs.Net.{Guard, always, Expression, Arc, Transition, Net, net, placeAt, arcOn, inExpression, variablesOf, bindingSpace, inTransition}
 use Rattle.net.specs.Reader.{readGuard, readGuardIf, readExpression}
-use Rattle.net_parts.specs.Parts.{arcPart, ended, transitionPart}
+use Rattle.net_transitions.specs.Transitions.{arcPart, ended, transitionPart}
 use Rattle.net.specs.internal.ReaderEnums.{bits}
 use Rattle.net.specs.declared.Read.{Read}
 use Rattle.net.specs.declared.Read.the-variants as read

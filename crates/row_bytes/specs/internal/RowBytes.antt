@@ -8,7 +8,7 @@ use Rattle.firing.specs.Arcs.{rowOf}
 use Rattle.flat_file.specs.Flat.{rowBytes}
 use Rattle.net.specs.Net.{Net, sizesOf, flatPlaceCount}
 use Rattle.bindings.specs.Effect.{transitionAt, effect}
-use Rattle.net_parts.specs.Parts.{readNet}
+use Rattle.net_file.specs.NetFile.{readNet}
 use Rattle.rows.specs.internal.Drawing.{room, Drawing}
 use Rattle.bindings.specs.internal.Bindings.{Binds, numbered}
 use Rattle.bindings.specs.internal.TransitionVariables.{Owned}

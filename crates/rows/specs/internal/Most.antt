@@ -6,7 +6,7 @@ use Rattle.reading.specs.Reading.{accepted}
 use Rattle.firing.specs.Firing.{Weights}
 use Rattle.firing.specs.Arcs.{rowOf}
 use Rattle.net.specs.Net.{Net, sizesOf, flatPlaceCount}
-use Rattle.net_parts.specs.Parts.{readNet}
+use Rattle.net_file.specs.NetFile.{readNet}
 use Rattle.bindings.specs.Effect.{transitionAt, effect}
 use Rattle.rows.specs.internal.Drawing.{kindArcs, Drawing}
 use Rattle.bindings.specs.internal.Bindings.{numbered}

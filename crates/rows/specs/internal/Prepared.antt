@@ -6,7 +6,7 @@ use Rattle.reading.specs.Reading.{accepted}
 use Rattle.firing.specs.Firing.{Fired, fired, fire}
 use Rattle.net.specs.Net.{Net, inTransition}
 use Rattle.net.specs.internal.ReaderEnums.{bits}
-use Rattle.net_parts.specs.Parts.{readNet}
+use Rattle.net_file.specs.NetFile.{readNet}
 use Rattle.bindings.specs.Effect.{Binding, transitionAt, effect}
 use Rattle.bindings.specs.internal.TransitionVariables.{Owned}
 use Rattle.rows.specs.internal.Drawing.{Drawing}

@@ -7,7 +7,7 @@ use Rattle.firing.specs.Firing.{Weights}
 use Rattle.firing.specs.Arcs.{Row, rowOf}
 use Rattle.net.specs.Net.{Expression, one, two, all, plus, minus, times, Place, Net, sizesOf, flatPlaceCount}
 use Rattle.net.specs.Reader.{readExpression}
-use Rattle.net_parts.specs.Parts.{readNet}
+use Rattle.net_file.specs.NetFile.{readNet}
 use Rattle.net_file.specs.Formed.{Fitting, Formed}
 use Rattle.bindings.specs.Effect.{transitionAt, effect}
 use Rattle.rows.specs.internal.Drawing.{kindArcs, Drawing}

@@ -6,7 +6,7 @@ use Prim.Native.Nat.{_≤_}
 use Rattle.reading.specs.Basics.{ℕ, List, [], length, take}
 use Rattle.reading.specs.Reading.{fine}
 use Rattle.net.specs.Net.{Place, Net, net}
-use Rattle.net_parts.specs.Parts.{content}
+use Rattle.net_file.specs.NetFile.{content}
 use Rattle.net_parts.specs.internal.Tables.{placesOf, placesRead, Started, TokensRead}
 use Rattle.net_transitions.specs.internal.TransitionTables.{TransitionsRead}
 use Rattle.net_file.specs.internal.NetTables.{openTold, refusal}

@@ -37,7 +37,7 @@ use denote.Triple.Walked.{says, Stays, stay-none-slice, walkOf, goes-none-slice,
 use denote.Exit.{yes}
 use denote.Triple.Clauses.{ensured, lasts}
 use Rattle.reading.specs.Reading.{Outcome}
-use Rattle.net_file.specs.Calls.{NetSizes, netSizes}
+use Rattle.net_file.specs.NetFile.{NetSizes, netSizes}
 use Rattle.net_file.specs.Replies.{netReply}
 use Rattle.net_file.specs.declared.reader.Reader.{Reader}
 use Rattle.net_file.specs.declared.sizes.NetReply.{NetReply}
