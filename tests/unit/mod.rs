@@ -1,4 +1,5 @@
 //! The implementation held against document 01's own cases, every refusal at its place, and the likeness of drawing and flat net.
+mod documents;
 mod flat_refusals;
 mod generator;
 mod layers;

@@ -4,7 +4,7 @@ use Prim.Native.Nat.{_≤_, _<_, _-_}
 use native.Mathlib.Omega.{arith}
 use native.Mathlib.Nat.{div-one, div-div-eq-div-mul, mul-comm}
 use lib.Seq.{take-take}
-use Rattle.reading.specs.Basics.{ℕ, suc, _+_, _*_, _/_, _%_, Bool, true, false, List, [], _∷_, _++_, map, length, take, if_then_else_, keep, numbersFrom, below, product}
+use Rattle.reading.specs.Basics.{ℕ, suc, _+_, _*_, _/_, _%_, Bool, true, false, List, [], _∷_, _++_, map, length, take, keep, numbersFrom, product}
 use Rattle.net.specs.Net.{Net}
 use Rattle.net.specs.internal.ReaderEnums.{bits, member, sizeIn}
 use Rattle.net_transitions.proofs.Spaces.{keep-bits}

@@ -1,5 +1,5 @@
-// Runs a stream of cases: reads each from standard input, makes its call, and writes what the call returned and every
-// buffer that was lent for writing. tests/README.md tells both forms.
+// The test program: reads a stream of cases, makes their calls, and writes what each returned and every buffer that was lent for writing.
+// tests/README.md tells both forms.
 mod flat_calls;
 mod input;
 mod net_calls;

@@ -1,4 +1,4 @@
-// The codes: what each public call replies, as a code, two or three numbers and the lent lists. specs/Codes.antt says what they are.
+// Tells what each public call replies, as a code, two or three numbers and the lent lists.
 mod flat_codes;
 mod give;
 mod net_codes;

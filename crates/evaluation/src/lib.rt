@@ -1,4 +1,4 @@
-// The expressions of a net file evaluated under a binding, on the file's own bytes.
+// Evaluates the expressions of a net file under a binding, on the file's own bytes.
 mod evaluate;
 
 pub use evaluate::Ranked;

@@ -1,5 +1,4 @@
-// The public calls for C and Rust; include/kwezirambo.h declares them. Each returns a code, and numbers through `first`, `second` and
-// `third`. Code 0 is a refusal: its number and its place. Crate codes says, in specs/Codes.antt, what code, numbers and lent lists are for each call.
+// The public calls for C and Rust, as include/kwezirambo.h declares them; crate codes says what each gives back.
 mod flat_calls;
 mod net_calls;
 mod unfold_calls;

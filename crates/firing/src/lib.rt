@@ -1,8 +1,7 @@
-// Fires one row that lies in two lent lists, one of places and one of weights. The meanings of this crate stand in specs/.
+// Fires one row that lies in two lent lists, one of places and one of weights, by the firing rule of specs/.
 ghost use mathlib.Core.Path.{_≡_};
 ghost use mathlib.Core.Bool.{false};
 ghost use Prim.Native.Nat.{ℕ, _<_, _≤_, _+_, _-_};
-ghost use mathlib.Core.List.{List};
 ghost use lib.ListN.{length, getD, set};
 ghost use Rattle.reading.specs.Basics.{any};
 ghost use Rattle.firing.specs.Firing.{fire, fired};

@@ -1,5 +1,5 @@
 -- The calls on a flat file that is read whole, or refused. Assumes nothing.
-use mathlib.Core.Path.{_≡_, refl, sym, ap, _∙_, subst}
+use mathlib.Core.Path.{_≡_, sym, ap, _∙_, subst}
 use Prim.Native.Nat.{_≤_, _<_}
 use native.Mathlib.Omega.{arith}
 use Rattle.reading.specs.Basics.{ℕ, _+_, _/_, _%_, Bool, if_then_else_, List, length, eqb, below, items}

@@ -1,16 +1,14 @@
 -- The image number i of a list, fired: by its command byte and its row number. Assumes nothing.
-use mathlib.Core.Path.{_≡_, sym, ap, _∙_}
+use mathlib.Core.Path.{_≡_, ap, _∙_}
 use Prim.Native.Nat.{_≤_, _<_}
 use native.Mathlib.Omega.{arith}
 use native.Mathlib.Nat.{add-zero}
 use borrow.Author.Tests.{lt-ltb, le-ltb, eq-eqb, ne-eqb}
 use Rattle.reading.specs.Basics.{ℕ, _+_, _*_, List, [], length, getD, byteAt, longAt}
-use Rattle.reading.specs.Reading.{fine, accepted}
-use Rattle.firing.specs.Firing.{Fired, fire, fired}
-use Rattle.firing.specs.Arcs.{Row, row, weights}
+use Rattle.firing.specs.Firing.{fire, fired}
+use Rattle.firing.specs.Arcs.{row, weights}
 use Rattle.firing.proofs.Running.{item, item-byte, item-long}
 use Rattle.flat_file.specs.Flat.{Flat, fireRow, fireImage}
-use Rattle.flat_file.specs.internal.ReaderEnums.{Held, arcsAt}
 
 module _ (f : Flat) (images m : List ℕ) (i : ℕ) where
   first-byte : byteAt (item 5 images i) 0 ≡ byteAt images (i * 5)

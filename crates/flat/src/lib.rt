@@ -1,4 +1,4 @@
-// Flat nets: how many places and rows a flat file has, firing images on it, and its first row that fires.
+// The flat engine: how many places and rows a flat file has, firing images on it, and its first row that fires.
 use firing::answer;
 use firing::move_row;
 use flat_file::Scan;

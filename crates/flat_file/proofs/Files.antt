@@ -7,12 +7,12 @@ use borrow.Author.Tests.{eq-eqb, ne-eqb}
 use lib.ListN.{set, length-set, length-append, List·getD-append}
 use lib.Seq.{getD-set-same, getD-set-other, getD-at}
 use Rattle.reading.specs.Basics.{ℕ, _+_, List, [], _∷_, some, length, getD, find, with, byteAt, wordAt}
-use Rattle.reading.specs.Reading.{Answer, fine, fault, under, _andThen_, accepted, refused, outcome, command, whole, file}
+use Rattle.reading.specs.Reading.{Answer, fine, fault, under, _andThen_, refused, outcome, command, whole, file}
 use Rattle.reading.proofs.Commands.{passes, done, fails, passing, failed, other, end, needed-past, needed-stray, needs-goes}
 use Rattle.reading.proofs.Parts.{Reading, begins, goes-on, ends, stops}
 use Rattle.firing.specs.Arcs.{Row, row}
 use Rattle.flat_file.specs.Flat.{Flat, placePart, arcPart, rowPart, readFlat}
-use Rattle.flat_file.specs.internal.ReaderEnums.{stepTold, StepRoom, PlacesHeld, arcsAt, Stands, RowsHeld, opening, closing, partTold, Counts, scanOf, Held, Scanned}
+use Rattle.flat_file.specs.internal.ReaderEnums.{stepTold, StepRoom, PlacesHeld, arcsAt, Stands, RowsHeld, opening, closing, partTold, Counts, scanOf, Scanned}
 use Rattle.flat_file.specs.declared.reader.Part.{Part}
 use Rattle.flat_file.specs.declared.reader.Part.the-variants as part
 use Rattle.flat_file.specs.declared.reader.Step.{Step}

@@ -7,9 +7,9 @@ use native.Mathlib.Decide.{decLe}
 use borrow.Author.Tests.{lt-ltb, le-ltb, le-leb, lt-leb, ne-eqb, ltb-true, eqb-true}
 use lib.ListN.{set, length-append, length-map}
 use lib.Seq.{getD-set-same, getD-set-other}
-use Rattle.reading.specs.Basics.{ℕ, zero, suc, _+_, _-_, _*_, Bool, _&&_, true, false, List, [], _∷_, _++_, map, length, getD, ltb, leb, eqb, if_then_else_, with, numbersFrom, every}
+use Rattle.reading.specs.Basics.{ℕ, zero, suc, _+_, _-_, _*_, Bool, _&&_, true, false, List, [], _∷_, map, length, getD, ltb, leb, eqb, with, numbersFrom, every}
 use Rattle.reading.proofs.Commands.{first-fails, second-fails}
-use Rattle.firing.specs.Arcs.{Arc, Row, row, Rising, none, more, Proper}
+use Rattle.firing.specs.Arcs.{Arc, Row, Rising, none, more, Proper}
 use Rattle.firing.specs.internal.RowLists.{arcsIn, rowIn}
 use Rattle.flat_file.specs.Flat.{rise}
 use Rattle.flat_file.specs.internal.ReaderEnums.{inOrder, added, key, Least, arc, laterEnd}

@@ -1,4 +1,4 @@
-// Flat files: reading one, and writing the pieces of one. The meanings of flat nets stand in specs/.
+// Reads flat files, and writes them piece by piece.
 mod reader;
 mod write;
 

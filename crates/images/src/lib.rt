@@ -1,4 +1,4 @@
-// The images of orders on a flat net, and the order of a row.
+// Gives the images of orders on a flat net, and the order of a row.
 mod answer;
 
 use answer::write_images;

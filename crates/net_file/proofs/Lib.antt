@@ -1,11 +1,8 @@
-pub mod Places
 pub mod Limits
 pub mod Trees
 pub mod Formed
-pub mod Ranges
 pub mod Whole
 pub mod Examples
-pub mod ReadAlike
 pub mod Counting
 pub mod Heads
 pub mod HeadCases

@@ -1,4 +1,4 @@
-// Reads net files, into lent tables: the whole of one, how many flat places, transitions and bindings it has, and its commands one by one.
+// Reads a whole net file into lent tables, tells how large its net is, and its commands one by one.
 mod file;
 mod head;
 mod reader;

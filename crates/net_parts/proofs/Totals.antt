@@ -1,10 +1,10 @@
 -- The colours of all places, with one more. Assumes nothing.
-use mathlib.Core.Path.{_≡_, refl, ap, _∙_}
+use mathlib.Core.Path.{_≡_, ap}
 use native.Mathlib.Omega.{arith}
 use Prim.Native.Nat.{_≤_, _<_, _*_}
 use native.Mathlib.Nat.{mul-one, mul-le-mul}
 use borrow.Author.Tests.{le-leb, lt-leb}
-use Rattle.reading.specs.Basics.{ℕ, _+_, List, [], _∷_, _++_, true, false, leb, map, sum, with}
+use Rattle.reading.specs.Basics.{ℕ, _+_, List, [], _∷_, true, false, leb, map, sum, with}
 use Rattle.net.specs.Net.{Net, Place, single, pair, sizeOf, coloursOf}
 
 pub sum-with : {A : Type 0} (f : A → ℕ) (l : List A) (a : A) → sum (map f (with l a)) ≡ sum (map f l) + f a

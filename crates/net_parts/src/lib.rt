@@ -1,4 +1,4 @@
-// Reads the parts of net files but the transitions, into lent tables. What reading a net file means stands in specs/Parts.antt and in crate net.
+// Reads the sets, variables, places and tokens of a net file into lent tables.
 mod clear;
 mod place;
 mod token;

@@ -5,12 +5,11 @@ use Prim.Native.Nat.{_-_, _^_, _<_, _≤_}
 use native.Mathlib.Nat.{not-suc-le-zero, le-of-suc-le-suc, eq-or-lt-of-le, le-trans, div-eq-of-lt, add-mul-div-right, two-pow-succ, mul-le-mul, pow-le-pow-right, mul-assoc, mul-one, pow-suc}
 use native.Mathlib.Numerals.{add-one}
 use native.Mathlib.Omega.{arith}
-use lib.Bits.{bitOr}
 use lib.Pow.{pow-add, pow-pos, pow-mono, high}
-use Rattle.reading.specs.Basics.{ℕ, zero, suc, _+_, _*_, _/_, _%_, Bool, true, false, _||_, List, [], _∷_, map, length, getD, eqb, if_then_else_, with, numbersFrom, below, any, keep, product}
-use Rattle.net.specs.Net.{Net, Guard, Arc, Transition, sizeOf, sizesOf, variablesOf, bindingSpace, inGuard, inExpression, inTransition}
+use Rattle.reading.specs.Basics.{ℕ, zero, suc, _+_, _*_, _/_, _%_, Bool, true, false, List, [], _∷_, map, length, getD, eqb, if_then_else_, with, numbersFrom, below, keep, product}
+use Rattle.net.specs.Net.{Net, Transition, sizeOf, sizesOf, variablesOf, bindingSpace, inTransition}
 use Rattle.net.specs.internal.ReaderEnums.{bits, member, sizeIn}
-use Rattle.net.proofs.Answers.{bits-lt, bits-or}
+use Rattle.net.proofs.Answers.{bits-lt}
 use Rattle.net_parts.proofs.Totals.{sum-with}
 
 -- ---- members of a set of bits

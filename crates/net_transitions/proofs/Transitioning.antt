@@ -7,7 +7,7 @@ use borrow.Author.Tests.{lt-ltb, le-ltb, ne-eqb, eqb-true, eqb-false, ltb-true, 
 use lib.Bits.{bitOr}
 use lib.ListN.{length-drop, List·getD-append}
 use lib.Seq.{length-take-le, getD-append-add, getD-take}
-use Rattle.reading.specs.Basics.{ℕ, _+_, _*_, List, [], _∷_, _++_, Option, some, none, Option·map, given, if_then_else_, length, getD, take, drop, with, any, eqb, ltb, byteAt}
+use Rattle.reading.specs.Basics.{ℕ, _+_, _*_, List, [], _∷_, _++_, Option, some, none, Option·map, given, if_then_else_, length, getD, take, drop, with, eqb, ltb, byteAt}
 use Rattle.reading.specs.Reading.{Answer, fine, fault, standing, whole}
 use Rattle.reading.proofs.Commands.{past, end, other, passes, done, fails, standing-past, standing-none, stands-fails, stands-goes}
 use Rattle.net.specs.Net.{Guard, always, Arc, Transition, Place, Net, net, placeAt, arcOn, variablesOf, bindingSpace, inGuard, inTransition}

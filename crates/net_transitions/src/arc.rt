@@ -6,7 +6,7 @@ use net::read_expression;
 use net_parts::clear_words;
 ghost use mathlib.Core.Path.{_≡_};
 ghost use mathlib.Core.List.{List};
-ghost use Prim.Native.Nat.{ℕ, _≤_, _<_};
+ghost use Prim.Native.Nat.{_≤_, _<_};
 ghost use lib.ListN.{length, getD};
 ghost use Rattle.net.specs.Net.{Arc};
 ghost use Rattle.net_transitions.specs.internal.TransitionTables.{over, RowHolds, arcStopped, ArcTold, ArcRoom, ArcsTold, ArcsRoom};

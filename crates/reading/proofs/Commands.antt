@@ -1,13 +1,12 @@
 -- What stands at a place, for any list of commands: which of them, and what its checks give. Assumes nothing.
-use mathlib.Core.Path.{_≡_, refl, sym, ap, _∙_}
+use mathlib.Core.Path.{_≡_, refl, ap, _∙_}
 use mathlib.Core.Bool.{Bool, true, false, _&&_}
 use Prim.Native.Nat.{_≤_, _<_}
-use native.Mathlib.Omega.{arith}
 use borrow.Author.Needs.{needs}
-use borrow.Author.Tests.{lt-ltb, le-ltb, le-leb, lt-leb, eq-eqb, ne-eqb, ltb-true}
+use borrow.Author.Tests.{lt-ltb, le-ltb, le-leb, lt-leb, eq-eqb, ne-eqb}
 use lib.ListN.{List·getD-eq-default}
-use Rattle.reading.specs.Basics.{ℕ, zero, suc, _+_, List, [], _∷_, Option, some, none, Option·map, length, ltb, leb, eqb, if_then_else_, given, find, every, byteAt}
-use Rattle.reading.specs.Reading.{Answer, fine, fault, Check, _unless_, failing, Command, obey, standing, needed}
+use Rattle.reading.specs.Basics.{ℕ, _+_, List, [], _∷_, Option, some, none, length, eqb, find, byteAt}
+use Rattle.reading.specs.Reading.{fault, Check, _unless_, failing, Command, obey, standing, needed}
 
 -- the checks of a command, one after the other
 pub data Passes : List Check → Type 0 where

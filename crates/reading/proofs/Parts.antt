@@ -1,12 +1,12 @@
 -- Loops over the steps of a part, once for all parts: where a loop stands in the reading of a whole part. Assumes nothing.
-use mathlib.Core.Path.{_≡_, refl, sym, ap, _∙_}
+use mathlib.Core.Path.{_≡_, refl, _∙_}
 use Prim.Native.Nat.{_≤_, _<_}
 use native.Mathlib.Omega.{arith}
-use Rattle.reading.specs.Basics.{ℕ, zero, suc, _+_, _-_, List, [], Option, some, none, length, take, with}
+use Rattle.reading.specs.Basics.{ℕ, zero, suc, _+_, _-_, List, [], some, none, length, take, with}
 use native.Mathlib.Numerals.{add-one}
 use lib.ListN.{set, length-set}
 use lib.Seq.{length-take-le, take-suc-set}
-use Rattle.reading.specs.Reading.{Answer, fine, fault, Part, onward, repeat, whole}
+use Rattle.reading.specs.Reading.{Answer, fine, fault, Part, repeat, whole}
 
 -- the reading from here, with fuel enough for the bytes left, gives the result
 pub record Reading {A : Type 0} (s : List ℕ) (part : Part A) (a : A) (at : ℕ) (result : Answer A) : Type 0 where

@@ -4,7 +4,7 @@ use mathlib.Core.Bool.{Bool, true, false}
 use Prim.Native.Nat.{_≤_, _<_}
 use native.Mathlib.Omega.{arith}
 use borrow.Author.Tests.{ltb-false}
-use Rattle.reading.specs.Basics.{ℕ, zero, suc, _+_, List, [], _∷_, Option, some, none, Option·map, length, ltb, eqb, if_then_else_, given, find, byteAt}
+use Rattle.reading.specs.Basics.{ℕ, _+_, List, [], _∷_, Option, some, none, Option·map, length, ltb, eqb, if_then_else_, given, find, byteAt}
 use Rattle.reading.specs.Reading.{Answer, fine, fault, _andThen_, Check, failing, checked, Command, obey, standing, needed}
 
 abbrev pub Ends : {A : Type 0} → ℕ → ℕ → Answer A → Type 0

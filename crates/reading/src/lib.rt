@@ -1,4 +1,5 @@
-// Bytes and little-endian numbers at a place of a file. Past the end a byte reads as 0, so none of these asks anything.
+// Reads bytes and little-endian numbers at a place of a file; how any file is read is said in specs/.
+// Past the end a byte reads as 0, so none of these asks anything.
 ghost use mathlib.Core.Path.{_≡_};
 ghost use Prim.Native.Nat.{_<_, _+_};
 ghost use Rattle.reading.specs.Basics.{byteAt, wordAt, longAt};

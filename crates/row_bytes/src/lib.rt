@@ -1,4 +1,4 @@
-// The bytes of the rows of a flat file, from the tables of a net: whether they fit, and the bytes themselves.
+// Writes the bytes of the rows of a flat file, from the tables of a net, once it is known that they fit.
 mod body;
 mod fit;
 

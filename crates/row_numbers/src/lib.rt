@@ -1,4 +1,4 @@
-// The rows of a net: which bindings have one, and their numbers. What unfolding, images and the order of a row mean stands in specs/Unfolding.antt.
+// Tells which bindings of a net have a row, and the numbers of their rows.
 mod marks;
 mod seek;
 mod walk;

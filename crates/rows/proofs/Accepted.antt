@@ -1,6 +1,6 @@
 -- From the net reader's promise to what the calls know. Assumes nothing.
-use mathlib.Core.Path.{_≡_, sym, subst, _∙_}
-use Prim.Native.Nat.{_≤_, _<_}
+use mathlib.Core.Path.{_≡_, sym, subst}
+use Prim.Native.Nat.{_<_}
 use Rattle.reading.specs.Basics.{ℕ, List, [], length, getD, take}
 use Rattle.reading.specs.Reading.{refused}
 use Rattle.net.specs.Net.{Net, net, flatPlaceCount, inTransition}

@@ -5,11 +5,11 @@ use native.Mathlib.Omega.{arith}
 use borrow.Author.Tests.{eq-eqb, ne-eqb, ltb-true, ltb-false}
 use lib.ListN.{List·getD-eq-default}
 use lib.Seq.{take-all}
-use Rattle.reading.specs.Basics.{ℕ, _+_, _-_, _*_, _/_, _%_, Bool, true, false, List, [], _++_, flatMap, Option, none, some, Option·map, length, getD, take, ltb, eqb, if_then_else_, byteAt}
+use Rattle.reading.specs.Basics.{ℕ, _+_, _-_, _*_, _/_, _%_, Bool, true, false, List, [], _++_, flatMap, Option, none, some, Option·map, length, getD, take, ltb, eqb}
 use Rattle.reading.specs.Reading.{fine}
 use Rattle.firing.specs.Arcs.{Arc}
 use Rattle.net.specs.Net as net
-use Rattle.net.specs.Net.{Expression, Place, single, pair, Net, net, coloursOf, placeAt, flatPlaceCount, arcOn}
+use Rattle.net.specs.Net.{Expression, Place, single, pair, Net, net, coloursOf, placeAt, arcOn}
 use Rattle.net.specs.Reader.{readExpression}
 use Rattle.net.specs.Values.{weight}
 use Rattle.evaluation.specs.internal.Evaluated.{bound, placeBy, isPair}
@@ -25,7 +25,7 @@ use Rattle.runs.proofs.Appending.{append-none, append-join}
 use Rattle.rows.specs.internal.Drawing.{placeSlots, slotsBelow, kindSlots, startOf, placeArcs, kindArcs, Drawing}
 use Rattle.rows.proofs.Needing.{slots-next, slots-rise, kind-arcs}
 use Rattle.rows.specs.internal.Loading.{KindLoaded}
-use Rattle.rows.proofs.Split.{colours-some, start-next, start-low, kind-more, kind-few, place-none}
+use Rattle.rows.proofs.Split.{start-next, start-low, kind-more, place-none}
 use Rattle.rows.proofs.Packing.{HoldingAt, holding-at, holding-with, holding-few, holding-give, entries-many, entry-at}
 
 -- a place by whether it is a pair

@@ -1,16 +1,16 @@
 -- How many arcs a steady expression gives. Assumes nothing.
-use mathlib.Core.Path.{_≡_, refl, sym, ap, subst, _∙_}
+use mathlib.Core.Path.{_≡_, refl, ap, _∙_}
 use mathlib.Core.List.{append-nil}
 use Prim.Native.Nat.{_≤_, _<_}
 use native.Mathlib.Omega.{arith}
 use borrow.Author.Tests.{lt-ltb, ltb-true, ltb-false, eq-eqb, ne-eqb}
-use Rattle.reading.specs.Basics.{ℕ, zero, suc, _+_, _-_, Bool, true, false, List, [], _∷_, _++_, Option, none, some, length, ltb, leb, eqb, if_then_else_, keep, numbersFrom}
+use Rattle.reading.specs.Basics.{ℕ, zero, suc, _+_, _-_, Bool, true, false, [], _∷_, _++_, Option, none, some, length, ltb, leb, eqb, if_then_else_, keep, numbersFrom}
 use Rattle.reading.proofs.Gives.{both-first}
 use Rattle.firing.specs.Arcs.{Arc}
 use Rattle.net.specs.Net.{Expression, one, two, all, plus, minus, times, Place, Net, coloursOf, ceiling}
 use Rattle.net.specs.Values.{colour, pairRank, weight}
 use Rattle.net_file.specs.Formed.{Fitting, expressionFormed}
-use Rattle.net_file.proofs.Ranges.{one-ranks, two-ranks}
+use Rattle.rows.proofs.Ranges.{one-ranks, two-ranks}
 use Rattle.sums.specs.internal.Loaded.{oneArc, ranksFrom, rankArcs}
 use Rattle.rows.specs.internal.Steady.{othersOf, steadyArcs}
 use Rattle.multiset.proofs.Ranks.{ranks-skip, ranks-pass, ranks-none, ranks-one}

@@ -3,7 +3,7 @@ use mathlib.Core.Path.{_≡_, sym, ap, subst, _∙_}
 use Prim.Native.Nat.{_≤_}
 use native.Mathlib.Omega.{arith}
 use borrow.Author.Tests.{leb-true}
-use Rattle.reading.specs.Basics.{ℕ, _+_, _*_, _/_, Bool, true, false, List, none, some, map, length, leb, eqb, any}
+use Rattle.reading.specs.Basics.{ℕ, _+_, _/_, Bool, true, false, List, none, some, map, length, leb, eqb, any}
 use Rattle.reading.specs.Reading.{accepted}
 use Rattle.firing.specs.Firing.{fired, fire}
 use Rattle.firing.specs.Arcs.{Proper, weights}

@@ -1,18 +1,16 @@
 -- How many arcs the rows of a transition have, where each of its expressions is steady. Assumes nothing.
 use mathlib.Core.Path.{_≡_, refl, sym, ap, subst, _∙_}
-use mathlib.Core.List.{append-nil}
 use Prim.Native.Nat.{_≤_, _<_}
 use native.Mathlib.Omega.{arith}
 use borrow.Author.Tests.{eqb-true}
 use lib.ListN.{length-append}
 use lib.Seq.{take-all}
-use Rattle.reading.specs.Basics.{ℕ, _+_, _*_, _/_, _%_, Bool, true, false, _&&_, List, [], _∷_, flatMap, Option, none, some, Option·map, length, getD, take, eqb, if_then_else_, find, product}
+use Rattle.reading.specs.Basics.{ℕ, _+_, _*_, _/_, _%_, Bool, true, false, _&&_, List, [], _∷_, flatMap, Option, none, some, Option·map, length, getD, take, eqb, if_then_else_, find}
 use Rattle.reading.proofs.Lists.{In, at-below, getD-at, at-in}
 use Rattle.reading.proofs.Gives.{both-second}
 use Rattle.net.specs.Net as net
 use Rattle.net.specs.Net.{always, Transition, Net, net, placeAt, flatPlaceCount, arcOn, variablesOf, sizesOf}
 use Rattle.net.specs.Values.{holds}
-use Rattle.firing.specs.Firing.{Weights}
 use Rattle.firing.specs.Arcs.{Arc, arcsOf, rowOf}
 use Rattle.net.specs.Reader.{readExpression}
 use Rattle.net_file.specs.Formed.{Fitting, Formed, expressionFormed}

@@ -7,8 +7,7 @@ use lib.Seq.{take-set-le, getD-set-same, getD-set-other}
 use Rattle.reading.specs.Basics.{ℕ, _+_, _-_, false, List, [], _∷_, _++_, length, getD, take}
 use Rattle.firing.specs.Arcs.{Arc}
 use Rattle.firing.specs.internal.RowLists.{arcsIn}
-use Rattle.evaluation.specs.internal.Evaluated.{limit}
-use Rattle.runs.specs.internal.Terms.{term, Terms, none, more, joined, joinBy, Appended, MovedUp}
+use Rattle.runs.specs.internal.Terms.{limit, term, Terms, none, more, joined, joinBy, Appended, MovedUp}
 use Rattle.runs.proofs.Appending.{kept-at, kept-shorter, arcs-join, arcs-kept}
 use Rattle.runs.proofs.Joining.{terms-before, terms-front, joined-pass, Under, add-under, add-same}
 use Rattle.runs.proofs.Merging.{by-less, arcs-none, arcs-more, arcs-one, arcs-next, arcs-length, arcs-moved, run-small, run-below}

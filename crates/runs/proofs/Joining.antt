@@ -7,8 +7,7 @@ use mathlib.Core.List.{append-nil}
 use lib.ListN.{length-map}
 use Rattle.reading.specs.Basics.{ℕ, _+_, _*_, Bool, true, false, List, [], _∷_, _++_, map, length, ltb, eqb, if_then_else_}
 use Rattle.firing.specs.Arcs.{Arc}
-use Rattle.evaluation.specs.internal.Evaluated.{limit}
-use Rattle.runs.specs.internal.Terms.{term, countIn, Terms, none, more, joinOne, joined, joinBy, timesAll}
+use Rattle.runs.specs.internal.Terms.{limit, term, countIn, Terms, none, more, joinOne, joined, joinBy, timesAll}
 
 -- ---- terms by rising rank
 -- a rank below the first term has the rest

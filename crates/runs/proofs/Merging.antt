@@ -10,8 +10,7 @@ use Rattle.reading.specs.Basics.{ℕ, zero, suc, _+_, _-_, _*_, Bool, true, fal
 use Rattle.reading.proofs.Lists.{of-from, length-from, map-same, map-map}
 use Rattle.firing.specs.Arcs.{Arc}
 use Rattle.firing.specs.internal.RowLists.{arcsIn}
-use Rattle.evaluation.specs.internal.Evaluated.{limit}
-use Rattle.runs.specs.internal.Terms.{term, Terms, none, more, joined, joinBy, timesAll, Appended, MergedFirst, Apart}
+use Rattle.runs.specs.internal.Terms.{limit, term, Terms, none, more, joined, joinBy, timesAll, Appended, MergedFirst, Apart}
 use Rattle.runs.specs.declared.Merged.{Merged}
 use Rattle.runs.proofs.Appending.{map-join, kept-at, kept-shorter, arcs-join, arcs-kept, append-none, append-join}
 use Rattle.runs.proofs.Joining.{terms-split, terms-below, times-few, Small, joined-apart, joined-last, joined-first, joined-second, joined-both}

@@ -1,4 +1,4 @@
-// Terms, a rank and its count each, in two lent lists by rising rank: stored, multiplied, and two runs of them joined to one.
+// Keeps terms, a rank and its count each, in two lent lists by rising rank: stored, multiplied, and two runs of them joined to one.
 ghost use mathlib.Core.Path.{_≡_};
 ghost use mathlib.Core.Bool.{true, false};
 ghost use mathlib.Core.List.{List, [], _∷_};
@@ -7,8 +7,7 @@ ghost use lib.ListN.{length, getD};
 ghost use Rattle.reading.specs.Basics.{if_then_else_};
 ghost use Rattle.firing.specs.Arcs.{Arc};
 ghost use Rattle.firing.specs.internal.RowLists.{arcsIn};
-ghost use Rattle.evaluation.specs.internal.Evaluated.{limit};
-ghost use Rattle.runs.specs.internal.Terms.{term, Terms, joined, joinBy, timesAll, Appended, MergedFirst, Apart, MovedUp};
+ghost use Rattle.runs.specs.internal.Terms.{limit, term, Terms, joined, joinBy, timesAll, Appended, MergedFirst, Apart, MovedUp};
 
 // An element, or 0 past the end.
 pub fn slot(l: &[u16], i: usize) -> u16

@@ -1,6 +1,6 @@
 -- The call for the first order that fires, on a net file that is read whole, or refused. Assumes nothing.
 use mathlib.Core.Path.{_≡_, ap, subst, _∙_}
-use Prim.Native.Nat.{_≤_, _<_}
+use Prim.Native.Nat.{_≤_}
 use native.Mathlib.Omega.{arith}
 use Rattle.reading.specs.Basics.{ℕ, _%_, Bool, List, map, length, getD, eqb}
 use Rattle.reading.specs.Reading.{accepted, refused}

@@ -4,9 +4,9 @@ use Prim.Native.Nat.{_≤_, _<_}
 use native.Mathlib.Omega.{arith}
 use native.Mathlib.Nat.{add-zero}
 use Rattle.reading.specs.Basics.{ℕ, _+_, Bool, List, map, some, length, getElem?, eqb, below, product}
-use Rattle.reading.proofs.Lists.{In, at-in, at-map}
+use Rattle.reading.proofs.Lists.{at-in, at-map}
 use lib.ListN.{length-map}
-use Rattle.firing.specs.Firing.{First, found, nothing, first}
+use Rattle.firing.specs.Firing.{found, nothing, first}
 use Rattle.firing.specs.internal.Loops.{stoppedAt}
 use Rattle.firing.proofs.Running.{Searching, search-begin, search-none, Tried, Stretch, stretch, stopped-in, stopped-out}
 use Rattle.net.specs.Net.{Net, sizesOf}

@@ -1,7 +1,7 @@
-// The first order that would fire on a net file.
+// Finds the first order that would fire on a net file.
 mod engine;
 
-use bindings::Order;
+pub use bindings::Order;
 use bindings::list_variables;
 use bindings::order_at;
 use bindings::uses_at;

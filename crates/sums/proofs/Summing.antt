@@ -22,8 +22,8 @@ use Rattle.net.proofs.Colours.{colour-step}
 use Rattle.net.proofs.Expressions.{expression-in}
 use Rattle.evaluation.proofs.Weights.{weight-le, joined-by, expression-shut}
 use Rattle.runs.specs.internal.Terms as spec
-use Rattle.runs.specs.internal.Terms.{term, countIn, Terms, joined, joinBy, terms, Appended}
-use Rattle.sums.specs.internal.Loaded.{ListedTold}
+use Rattle.runs.specs.internal.Terms.{term, countIn, Terms, joined, joinBy, Appended}
+use Rattle.sums.specs.internal.Loaded.{terms, ListedTold}
 use Rattle.sums.specs.internal.Sums.{InTurn, together, Summing, SumTold}
 use Rattle.sums.specs.internal.Sums as sums
 use Rattle.sums.specs.declared.terms.Multiset.{Multiset}

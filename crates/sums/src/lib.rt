@@ -1,4 +1,4 @@
-// The terms of an arc expression under a binding: each rank that it names, with its count, and what all other ranks have.
+// Lists the terms of an arc expression under a binding: each rank that it names, with its count, and what all other ranks have.
 mod sum;
 mod terms;
 

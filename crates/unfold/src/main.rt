@@ -1,4 +1,4 @@
-// Reads a net file from standard input, and writes its flat file or the line of its refusal to standard output.
+// The program: reads a net file from standard input, and writes its flat file or the line of its refusal to standard output.
 // One byte more than the longest net file is read: a longer one is refused whatever follows.
 use libc::STDIN_FILENO;
 use libc::STDOUT_FILENO;

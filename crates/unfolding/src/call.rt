@@ -13,7 +13,7 @@ use rows::is_small;
 use rows::most_slots;
 use rows::pack_arcs;
 ghost use mathlib.Core.Path.{_≡_};
-ghost use Prim.Native.Nat.{_≤_, _+_, _*_, _/_};
+ghost use Prim.Native.Nat.{_≤_};
 ghost use lib.ListN.{length};
 ghost use Rattle.row_numbers.specs.Unfolding.{unfoldCall};
 ghost use Rattle.row_numbers.specs.internal.Marks.{Blank};

@@ -1,4 +1,4 @@
-// The unfolding: net files into flat files, and what the program writes. The meanings stand in specs/ here and in crate row_numbers.
+// Unfolds net files into flat files, and says what the program writes; that drawing and flat net behave alike is stated in specs/ and proved.
 mod call;
 mod program;
 mod text;

@@ -1,13 +1,10 @@
 -- Bindings by number: the colours of a number, the number of colours, and how many bindings stand before a transition's.
-use mathlib.Core.Path.{_≡_}
-use Prim.Native.Nat.{_<_, _≤_, _^_}
-use Rattle.reading.specs.Basics.{ℕ, _+_, _*_, _/_, _%_, Bool, true, List, [], _∷_, map, length, getD, take, eqb, if_then_else_, keep, below, product}
+use Prim.Native.Nat.{_<_, _≤_}
+use Rattle.reading.specs.Basics.{ℕ, _+_, _*_, _/_, _%_, Bool, List, [], _∷_, map, length, getD, take, if_then_else_, keep, below, product}
 use Rattle.net.specs.Net.{Net, sizeOf, bindingSpace}
-use Rattle.bindings.specs.Effect.{standsFor}
 use Rattle.bindings.specs.Orders.{fits}
 use Rattle.bindings.specs.declared.binding.Numbered.{Numbered}
 use Rattle.bindings.specs.declared.binding.Numbered.the-variants.{At, Nothing}
-use Rattle.net.specs.internal.ReaderEnums.{member, sizeIn}
 
 -- the colours of number i over these sizes; the last changes fastest
 unfoldable pub digits : List ℕ → ℕ → List ℕ

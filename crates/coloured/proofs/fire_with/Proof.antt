@@ -1,5 +1,4 @@
 use borrow.Author.Needs.{needs}
-use native.Mathlib.Omega.{arith}
 use denote.Ref.{now}
 use mathlib.Core.Path.{sym, _∙_}
 use Rattle.coloured.proofs.Calling.{fire-12, fire-13, fire-14, fire-done}

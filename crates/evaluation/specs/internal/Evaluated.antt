@@ -1,6 +1,6 @@
 -- What the code's results say of the trees in the bytes.
 use mathlib.Core.Path.{_≡_}
-use Rattle.reading.specs.Basics.{ℕ, _+_, _-_, Bool, true, false, List, getD, leb, eqb, if_then_else_}
+use Rattle.reading.specs.Basics.{ℕ, _+_, _-_, Bool, true, false, List, getD, eqb, if_then_else_}
 use Rattle.reading.specs.Reading.{Answer, fine, fault}
 use Rattle.net.specs.Net.{Colour, Guard, Expression, Place, single, pair, Net, setOf}
 use Rattle.net.specs.Values.{colour, holds, weight}
@@ -37,10 +37,6 @@ placeBy paired first second = if paired then pair first second else single first
 abbrev pub isPair : Place → Bool
 isPair (single set) = false
 isPair (pair first second) = true
-
--- a weight above 65,535 counts as 0: no expression that is read has one
-abbrev pub limit : ℕ → ℕ
-limit w = if leb w 65535 then w else 0
 
 -- a count goes to one rank
 abbrev pub Ranks : Net → List ℕ → ℕ → Ranked → Answer Expression → Type 0

@@ -1,7 +1,7 @@
 use borrow.Author.Needs.{needs}
 use native.Mathlib.Omega.{arith}
 use denote.Ref.{now}
-use mathlib.Core.Path.{_≡_, sym, ap, _∙_}
+use mathlib.Core.Path.{sym, ap, _∙_}
 use Rattle.flat_file.specs.Flat.{fireRow}
 use Rattle.flat.proofs.Imaged.{no-image, image-fires, no-row, row-fires}
 use Rattle.flat.proofs.turn.Statement.{statement}

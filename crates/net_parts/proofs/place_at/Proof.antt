@@ -1,4 +1,3 @@
-use native.Mathlib.Omega.{arith}
 use mathlib.Core.Path.{refl}
 use Rattle.reading.proofs.Commands.{tests, standing-past, standing-none}
 use Rattle.net_parts.specs.Parts.{placePart}

@@ -3,7 +3,6 @@ use native.Mathlib.Omega.{arith}
 use mathlib.Core.Path.{ap, _∙_}
 use mathlib.Core.List.{[]}
 use Prim.Native.Nat.{_-_}
-use lib.ListN.{length-set}
 use Rattle.reading.specs.Reading.{whole}
 use Rattle.reading.proofs.Parts.{Filled, fill-begins, fill-goes, fill-ends, fill-stops}
 use Rattle.net_parts.specs.Parts.{setPart}

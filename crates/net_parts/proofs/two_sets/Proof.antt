@@ -1,5 +1,5 @@
 use native.Mathlib.Omega.{arith}
-use mathlib.Core.Path.{_≡_, refl, ap₂}
+use mathlib.Core.Path.{refl, ap₂}
 use mathlib.Core.List.{[]}
 use denote.Ref.{now}
 use Prim.Native.Nat.{_≤_, _<_, _+_, _*_}

@@ -1,18 +1,18 @@
 -- What the tables of a net say of the net in a file, and the arcs of a binding's effect, place by place.
 use mathlib.Core.Path.{_≡_}
 use Prim.Native.Nat.{_≤_, _<_}
-use Rattle.reading.specs.Basics.{ℕ, zero, suc, _+_, _*_, _/_, true, List, [], _∷_, map, flatMap, some, Option·map, length, getD, take, leb, if_then_else_, given, below, sum}
+use Rattle.reading.specs.Basics.{ℕ, zero, suc, _+_, _*_, _/_, List, [], _∷_, map, flatMap, some, Option·map, length, getD, take, leb, if_then_else_, given, below, sum}
 use Rattle.firing.specs.Arcs.{Arc, arcsOf, rowOf}
 use Rattle.firing.specs.internal.RowLists.{arcsIn, rowIn}
 use Rattle.firing.specs.Firing.{Weights}
-use Rattle.net.specs.Net.{Transition, Net, net, coloursOf, placeAt, flatPlaceCount, arcOn, variablesOf, inTransition}
+use Rattle.net.specs.Net.{Transition, Net, net, coloursOf, placeAt, flatPlaceCount, arcOn}
 use Rattle.net.specs.Reader.{readExpression}
 use Rattle.evaluation.specs.internal.Evaluated.{isPair}
 use Rattle.net_file.specs.Limits.{Limits}
 use Rattle.net_transitions.specs.internal.TransitionTables.{Slot, GuardHolds}
 use Rattle.sums.specs.internal.Loaded.{rankArcs}
 use Rattle.sums.specs.internal.Slots.{expressionSlots}
-use Rattle.bindings.specs.Effect.{Binding, transitionAt, standsFor, arcWeight, effect}
+use Rattle.bindings.specs.Effect.{Binding, transitionAt, arcWeight, effect}
 use Rattle.rows.specs.internal.Packed.{shapeOf, Packed}
 
 -- ---- arcs

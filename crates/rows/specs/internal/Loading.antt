@@ -3,7 +3,7 @@ use mathlib.Core.Path.{_≡_}
 use Prim.Native.Nat.{_≤_, _<_}
 use Rattle.reading.specs.Basics.{ℕ, _+_, _*_, _/_, Bool, List, [], none, length}
 use Rattle.firing.specs.declared.Ends.{Ends}
-use Rattle.net.specs.Net.{Guard, Place, Net, net, flatPlaceCount}
+use Rattle.net.specs.Net.{Guard, Place, Net, net}
 use Rattle.net.specs.Values.{holds}
 use Rattle.evaluation.specs.internal.Evaluated.{bound}
 use Rattle.net_transitions.specs.internal.TransitionTables.{GuardHolds}

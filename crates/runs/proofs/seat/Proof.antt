@@ -1,6 +1,6 @@
 use borrow.Author.Needs.{needs}
 use native.Mathlib.Omega.{arith}
-use Prim.Native.Nat.{_-_, _≤_}
+use Prim.Native.Nat.{_≤_}
 use Rattle.runs.proofs.Inserting.{Above, above-goes}
 use Rattle.runs.proofs.seat.Statement.{statement}
 use Rattle.runs.proofs.seat.Tie as tie

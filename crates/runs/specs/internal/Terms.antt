@@ -1,12 +1,9 @@
 -- A multiset of ranks: terms, a rank with its count each, by rising rank; and one count that every other rank has.
 use mathlib.Core.Path.{_≡_}
 use Prim.Native.Nat.{_≤_, _<_}
-use Rattle.reading.specs.Basics.{ℕ, _+_, _-_, _*_, Bool, false, List, [], _∷_, _++_, map, length, getD, take, ltb, eqb, if_then_else_}
+use Rattle.reading.specs.Basics.{ℕ, _+_, _-_, _*_, Bool, false, List, [], _∷_, _++_, map, length, getD, take, ltb, leb, eqb, if_then_else_}
 use Rattle.firing.specs.Arcs.{Arc}
 use Rattle.firing.specs.internal.RowLists.{arcsIn}
-use Rattle.net.specs.Net.{Expression, one, two, all, plus, minus, times, Net}
-use Rattle.net.specs.Values.{weight}
-use Rattle.evaluation.specs.internal.Evaluated.{bound, limit}
 use Rattle.runs.specs.declared.Merged.{Merged}
 
 -- ---- terms
@@ -37,6 +34,10 @@ unfoldable pub joined : (ℕ → ℕ → ℕ) → ℕ → ℕ → List Arc → L
 joined f p q [] m = map (λ b. term (b .place) (f p (b .weight))) m
 joined f p q (a ∷ l) m = joinOne f p q a (joined f p q l) m
 
+-- a weight above 65,535 counts as 0: no expression that is read has one
+abbrev pub limit : ℕ → ℕ
+limit w = if leb w 65535 then w else 0
+
 -- the sum, or the first less the second
 abbrev pub joinBy : Bool → ℕ → ℕ → ℕ
 joinBy less a b = if less then a - b else limit (a + b)
@@ -44,22 +45,6 @@ joinBy less a b = if less then a - b else limit (a + b)
 -- every count times a factor
 abbrev pub timesAll : ℕ → List Arc → List Arc
 timesAll factor l = map (λ a. term (a .place) (limit (factor * a .weight))) l
-
--- ---- the multiset of an arc expression
--- how many counts of a colour stand in it
-unfoldable pub terms : Expression → ℕ
-terms (one count k) = 1
-terms (two count a b) = 1
-terms (all count) = 0
-terms (plus a b) = terms a + terms b
-terms (minus a b) = terms a + terms b
-terms (times factor e) = terms e
-
--- terms and a rest are those of an arc expression, for the ranks below a number
-pub record Counted (n : Net) (env : List ℕ) (count : ℕ) (e : Expression) (l : List Arc) (rest : ℕ) : Type 0 where
-  pub rising : Terms count 0 l
-  pub counts : (rank : ℕ) → rank < count → weight n (bound env) rank e ≡ countIn l rest rank
-  pub few : length l ≤ terms e
 
 -- ---- lent lists
 -- two lent lists to which arcs were appended after so many, up to r

@@ -5,15 +5,31 @@ use Rattle.reading.specs.Basics.{ℕ, _+_, _*_, _/_, Bool, List, [], _∷_, map
 use Rattle.reading.specs.Reading.{Answer, fine, fault}
 use Rattle.firing.specs.Arcs.{Arc}
 use Rattle.firing.specs.internal.RowLists.{arcsIn}
-use Rattle.net.specs.Net.{Expression, Place, Net, net}
+use Rattle.net.specs.Net.{Expression, one, two, all, plus, minus, times, Place, Net, net}
 use Rattle.net.specs.Reader.{readExpression}
 use Rattle.net.specs.Values.{weight}
 use Rattle.evaluation.specs.internal.Evaluated.{bound, placeBy}
-use Rattle.runs.specs.internal.Terms.{terms, Counted, Appended, Terms, countIn}
+use Rattle.runs.specs.internal.Terms.{Appended, Terms, countIn}
 use Rattle.sums.specs.internal.Slots.{slotsFor}
 use Rattle.sums.specs.declared.terms.Multiset.{Multiset}
 
--- ---- an expression's terms
+-- ---- the multiset of an arc expression
+-- how many counts of a colour stand in it
+unfoldable pub terms : Expression → ℕ
+terms (one count k) = 1
+terms (two count a b) = 1
+terms (all count) = 0
+terms (plus a b) = terms a + terms b
+terms (minus a b) = terms a + terms b
+terms (times factor e) = terms e
+
+-- terms and a rest are those of an arc expression, for the ranks below a number
+pub record Counted (n : Net) (env : List ℕ) (count : ℕ) (e : Expression) (l : List Arc) (rest : ℕ) : Type 0 where
+  pub rising : Terms count 0 l
+  pub counts : (rank : ℕ) → rank < count → weight n (bound env) rank e ≡ countIn l rest rank
+  pub few : length l ≤ terms e
+
+-- ---- its terms in lent lists
 -- they were appended after so many
 pub record Listed (n : Net) (env : List ℕ) (count : ℕ) (ranks counts : List ℕ) (used : ℕ) (ranks' counts' : List ℕ) (r : Multiset) (e : Expression) (next : ℕ) : Type 0 where
   pub list : List Arc

@@ -8,7 +8,8 @@ use Rattle.net.specs.Net.{Expression, Place, Net, ceiling}
 use Rattle.net.specs.Reader.{readExpression}
 use Rattle.net.specs.Values.{weight}
 use Rattle.evaluation.specs.internal.Evaluated.{bound}
-use Rattle.runs.specs.internal.Terms.{terms, Appended, Terms, countIn}
+use Rattle.sums.specs.internal.Loaded.{terms}
+use Rattle.runs.specs.internal.Terms.{Appended, Terms, countIn}
 
 -- ---- operands
 -- arc expressions that stand one after the other from a place on, up to where the last ends; each was read with some levels left

@@ -1,6 +1,6 @@
 use borrow.Author.Needs.{needs}
 use mathlib.Core.Path.{sym, ap, _∙_}
-use Rattle.reading.specs.Basics.{[], _∷_}
+use Rattle.reading.specs.Basics.{[]}
 use Rattle.flat.specs.Replies.{firstReply}
 use Rattle.codes.specs.Codes.{firstRowCode}
 use Rattle.codes.proofs.flat_codes.give_row.Statement.{statement}

@@ -4,7 +4,7 @@ use mathlib.Core.Path.{refl}
 use Prim.Native.Nat.{_≤_, _<_}
 use lib.ListN.{length}
 use Rattle.reading.specs.Basics.{find}
-use Rattle.reading.proofs.Commands.{tests, standing-past, standing-none, stands-cut, stands-fails, stands-goes}
+use Rattle.reading.proofs.Commands.{tests, standing-past, standing-none, stands-fails, stands-goes}
 use Rattle.flat_file.specs.Flat.{rowPart}
 use Rattle.flat_file.proofs.reader.row_at.Statement.{statement}
 use Rattle.flat_file.proofs.reader.row_at.Tie as tie

@@ -1,9 +1,8 @@
 use native.Mathlib.Omega.{arith}
 use mathlib.Core.Path.{_≡_, refl, _∙_}
-use Prim.Native.Nat.{_-_, _≤_}
+use Prim.Native.Nat.{_-_}
 use lib.ListN.{length}
 use Rattle.rows.proofs.Drawn.{KindLoading, kind-begins, kind-goes, kind-stops, kind-ends}
-use borrow.Author.Needs.{needs}
 use Rattle.rows.proofs.effect.load_kind.Statement.{statement}
 use Rattle.rows.proofs.effect.load_kind.Tie as tie
 

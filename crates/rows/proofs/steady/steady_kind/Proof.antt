@@ -1,7 +1,7 @@
 use borrow.Author.Needs.{needs}
 use native.Mathlib.Omega.{arith}
 use mathlib.Core.Path.{refl}
-use Prim.Native.Nat.{_≤_, _*_, _-_, _/_, _%_}
+use Prim.Native.Nat.{_≤_, _*_, _-_}
 use Rattle.rows.proofs.SteadyRows.{SteadyTo, steady-begins, steady-goes, steady-stops, steady-ends, arc-told, within-told}
 use Rattle.rows.proofs.steady.steady_kind.Statement.{statement}
 use Rattle.rows.proofs.steady.steady_kind.Tie as tie

@@ -3,16 +3,16 @@ use mathlib.Core.Path.{_≡_, refl, ap}
 use Prim.Native.Nat.{_≤_, _<_}
 use native.Mathlib.Omega.{arith}
 use mathlib.Core.Logic.{⊎-elim}
-use native.Mathlib.Nat.{mul-le-mul-left, mul-le-mul-right, mul-one, suc-mul, eq-or-lt-of-le}
+use native.Mathlib.Nat.{mul-le-mul-right, mul-one, suc-mul, eq-or-lt-of-le}
 use borrow.Author.Tests.{ltb-true, leb-true, eqb-true, eqb-false}
 use Rattle.reading.specs.Basics.{ℕ, _+_, _-_, _*_, Bool, true, false, _&&_, length, ltb, leb, eqb, every, if_then_else_}
 use Rattle.reading.proofs.Lists.{In, all-in, every-in}
 use Rattle.reading.proofs.Gives.{both-first, both-second}
 use Rattle.evaluation.proofs.Weights.{weight-le}
-use Rattle.net.specs.Net.{Colour, variable, constant, successor, predecessor, Expression, one, two, all, plus, minus, times, Place, single, pair, Arc, Transition, Net, sizeOf, coloursOf, setOf, ceiling}
+use Rattle.net.specs.Net.{Colour, variable, constant, successor, predecessor, one, two, Place, single, pair, Arc, Transition, Net, sizeOf, coloursOf, setOf, ceiling}
 use Rattle.net.specs.Values.{colour, pairRank, weight}
 use Rattle.net_file.specs.Limits.{Limits}
 use Rattle.net_file.specs.Formed.{Fitting, colourFormed, ofSets, expressionFormed, Words}
 
 -- the set of a formed colour is there
 pub set-known : (n : Net) → Limits n → (k : Colour) → colourFormed n k ≡ true → setOf n k < length (n .sets)
