@@ -5,7 +5,7 @@ use std::path::{Path, PathBuf};
 
 /// The calls for users, and what the program writes; besides these every function of `codes` and `exports` is one.
 const CALLS: [(&str, &str); 14] = [
-    ("net_file", "net_sizes"), ("net_file", "start"), ("net_file", "position"), ("net_file", "head"), ("net_file", "moved"),
+    ("net_reader", "net_sizes"), ("net_reader", "start"), ("net_reader", "position"), ("net_reader", "head"), ("net_reader", "moved"),
     ("flat", "flat_sizes"), ("flat", "fire_images"), ("flat", "first_row"), ("coloured", "fire_orders"), ("search", "first_order"),
     ("unfolding", "unfold"), ("unfolding", "write_reply"), ("images", "images"), ("images", "row_order"),
 ];

@@ -117,8 +117,8 @@ pub fn first_order_case() {
 pub fn net_sizes_case() {
     let mut file = file_buffer();
     let n = read_bytes(&mut file);
-    match net_file::net_sizes(&file[..n]) {
-        net_file::NetReply::Counted {
+    match net_reader::net_sizes(&file[..n]) {
+        net_reader::NetReply::Counted {
             places,
             transitions,
             bindings,
@@ -129,6 +129,6 @@ pub fn net_sizes_case() {
             say_number(transitions as u64);
             say_line(b" bindings ", bindings);
         }
-        net_file::NetReply::Refused { number, place } => say_refused(number, place),
+        net_reader::NetReply::Refused { number, place } => say_refused(number, place),
     }
 }

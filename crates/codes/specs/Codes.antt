@@ -5,7 +5,7 @@ use Rattle.reading.specs.Reading.{Outcome, accepted, refused}
 use Rattle.firing.specs.Firing.{First, found, nothing}
 use Rattle.firing.specs.Calls.{FireCall}
 use Rattle.flat_file.specs.Flat.{Sizes}
-use Rattle.net_file.specs.NetFile.{NetSizes}
+use Rattle.net_reader.specs.Sizes.{NetSizes}
 use Rattle.row_numbers.specs.Unfolding.{WriteCall}
 
 -- the code, the numbers behind `first`, `second` and `third`, and the lists lent for writing, as they are afterwards

@@ -2,11 +2,11 @@
 use crate::give::give;
 use crate::give::order_bytes;
 use coloured::FireReply;
-use net_file::NetReply;
+use net_reader::NetReply;
 use search::FirstReply;
 ghost use mathlib.Core.Path.{_≡_};
 ghost use Rattle.reading.specs.Basics.{ℕ, List, [], _∷_};
-ghost use Rattle.net_file.specs.Replies.{netReply};
+ghost use Rattle.net_reader.specs.Replies.{netReply};
 ghost use Rattle.coloured.specs.Replies.{fireCalled};
 ghost use Rattle.search.specs.Replies.{firstReply};
 ghost use Rattle.codes.specs.Codes.{returned, fireCode, firstOrderCode, netCode};

@@ -4,7 +4,7 @@ use codes::give_net_sizes;
 use codes::give_orders_fired;
 ghost use mathlib.Core.Path.{_≡_};
 ghost use Rattle.reading.specs.Basics.{[], _∷_};
-ghost use Rattle.net_file.specs.NetFile.{netSizes};
+ghost use Rattle.net_reader.specs.Sizes.{netSizes};
 ghost use Rattle.bindings.specs.Orders.{fireOrders, firstOrder};
 ghost use Rattle.codes.specs.Codes.{returned, fireCode, firstOrderCode, netCode};
 
@@ -18,7 +18,7 @@ pub extern "C" fn kwz_net_sizes(
 ) -> u8
     ensures { λ r. ⌜ returned r (now (first .exit) ∷ now (second .exit) ∷ now (third .exit) ∷ []) [] ≡ netCode (netSizes (now (net .entry))) ⌝ }
 {
-    give_net_sizes(net_file::net_sizes(net), first, second, third)
+    give_net_sizes(net_reader::net_sizes(net), first, second, third)
 }
 
 // Fires a list of orders on the drawing. Code 1: how many were answered.

@@ -3,7 +3,3 @@ pub mod Trees
 pub mod Formed
 pub mod Whole
 pub mod Examples
-pub mod Counting
-pub mod Heads
-pub mod HeadCases
-pub mod Readers

@@ -1,7 +1,7 @@
--- Reading a whole net file, and the call that tells its sizes.
+-- Reading a whole net file.
 use Rattle.reading.specs.Basics.{ℕ, List, [], length, ltb, if_then_else_}
-use Rattle.reading.specs.Reading.{Answer, fine, _andThen_, Outcome, outcome, accepted, refused, on, whole, file}
-use Rattle.net.specs.Net.{Net, net, flatPlaceCount, bindingSpace}
+use Rattle.reading.specs.Reading.{Answer, fine, _andThen_, Outcome, outcome, refused, whole, file}
+use Rattle.net.specs.Net.{Net, net}
 use Rattle.net_parts.specs.Parts.{setPart, variablePart, placePart, tokensPart}
 use Rattle.net_transitions.specs.Transitions.{transitionPart}
 
@@ -20,12 +20,3 @@ unfoldable pub readNet : List ℕ → Outcome Net
 readNet s =
     let read = outcome (file 0x01 (content s) 0x1F s) in
     if ltb 16384 (length s) then refused 1 16384 else read
-
--- ---- the call: how many flat places, transitions and bindings the net has, or the refusal
-pub record NetSizes : Type 0 where
-  pub places : ℕ
-  pub transitions : ℕ
-  pub bindings : ℕ
-
-unfoldable pub netSizes : List ℕ → Outcome NetSizes
-netSizes s = on (readNet s) refused λ n. accepted (record { places = flatPlaceCount n; transitions = length (n .transitions); bindings = bindingSpace n (n .transitions) })

@@ -1,7 +1,7 @@
 use borrow.Author.Needs.{needs}
 use mathlib.Core.Path.{sym, ap, _∙_}
 use Rattle.reading.specs.Basics.{[], _∷_}
-use Rattle.net_file.specs.Replies.{netReply}
+use Rattle.net_reader.specs.Replies.{netReply}
 use Rattle.codes.specs.Codes.{netCode}
 use Rattle.codes.proofs.net_codes.give_net_sizes.Statement.{statement}
 use Rattle.codes.proofs.net_codes.give_net_sizes.Tie as tie

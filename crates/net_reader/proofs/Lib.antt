@@ -1,0 +1,4 @@
+pub mod Counting
+pub mod Heads
+pub mod HeadCases
+pub mod Readers

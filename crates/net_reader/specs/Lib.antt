@@ -1,0 +1,4 @@
+-- The meaning.
+pub mod Sizes
+pub mod Heads
+pub mod Replies
