@@ -7,7 +7,7 @@ use Rattle.firing.specs.Arcs.{rowOf}
 use Rattle.flat_file.proofs.Written.{length-row}
 use Rattle.net.specs.Net.{sizesOf, flatPlaceCount}
 use Rattle.bindings.specs.Effect.{transitionAt}
-use Rattle.rows.specs.internal.Most.{MostRow}
+use Rattle.row_lengths.specs.internal.MostRows.{MostRow}
 use Rattle.row_bytes.specs.internal.RowBytes.{transitionBytes, Ruled}
 use Rattle.row_numbers.specs.internal.Walked.{entries}
 use Rattle.row_numbers.specs.internal.Marks.{Counted}

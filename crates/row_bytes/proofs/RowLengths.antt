@@ -12,9 +12,9 @@ use Rattle.flat_file.proofs.Written.{length-row}
 use Rattle.net.specs.Net.{Net, sizesOf, flatPlaceCount}
 use Rattle.bindings.specs.Effect.{transitionAt, effect}
 use Rattle.bindings.specs.internal.Bindings.{numbered}
-use Rattle.rows.specs.internal.Steady.{SteadyRow, SteadyWithin}
-use Rattle.rows.specs.declared.steady.Steady.{Steady}
-use Rattle.rows.specs.declared.steady.Steady.the-variants as steady
+use Rattle.row_lengths.specs.internal.Steady.{SteadyRow, SteadyWithin}
+use Rattle.row_lengths.specs.declared.steady.Steady.{Steady}
+use Rattle.row_lengths.specs.declared.steady.Steady.the-variants as steady
 use Rattle.row_bytes.specs.internal.RowBytes.{bindingBytes, RowsLong, Known}
 use Rattle.row_numbers.specs.internal.Walked.{takesEffect}
 use Rattle.row_numbers.specs.internal.Marks.{effects}

@@ -1,6 +1,6 @@
 // Whether the flat file fits into a lent list: by a bound on each transition's rows, and measured only where the bound does not tell.
 use crate::body::measure_all;
-use rows::most_row;
+use row_lengths::most_row;
 ghost use mathlib.Core.Path.{_≡_};
 ghost use mathlib.Core.List.{List};
 ghost use Prim.Native.Nat.{ℕ, _+_, _*_, _≤_, _<_};

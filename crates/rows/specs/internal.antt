@@ -3,6 +3,4 @@ pub mod Packed
 pub mod Drawing
 pub mod Loading
 pub mod Slots
-pub mod Most
-pub mod Steady
 pub mod Prepared
