@@ -1,5 +1,6 @@
 // The calls of the flat side: each reads its buffers, and runs on exactly their lengths.
 use crate::input::file_buffer;
+use crate::input::marking_buffer;
 use crate::input::read_bytes;
 use crate::input::read_counts;
 use crate::text::say;
@@ -26,7 +27,7 @@ pub fn sizes_case() {
 pub fn first_case() {
     let mut file = file_buffer();
     let n = read_bytes(&mut file);
-    let mut marking = [0u16; 8192];
+    let mut marking = marking_buffer();
     let m = read_counts(&mut marking);
     match flat::first_row(&file[..n], &marking[..m]) {
         flat::FirstReply::Found { row, tried } => {
@@ -48,7 +49,7 @@ pub fn first_case() {
 pub fn fire_case() {
     let mut file = file_buffer();
     let n = read_bytes(&mut file);
-    let mut marking = [0u16; 8192];
+    let mut marking = marking_buffer();
     let m = read_counts(&mut marking);
     let mut images = io::large_buffer();
     let k = read_bytes(&mut images);

@@ -12,6 +12,13 @@ pub fn file_buffer() -> [u8; 131072]
     [0u8; 131072]
 }
 
+// A buffer for a marking.
+pub fn marking_buffer() -> [u16; 8192]
+    ensures { λ r. ⌜ 8192 ≡ length r ⌝ }
+{
+    [0u16; 8192]
+}
+
 // The number of the next call, 0 at the input's end.
 pub fn read_call() -> u8 {
     let mut buf = [0u8; 1];

@@ -1,5 +1,6 @@
 // The calls on net files: each reads its buffers, and runs on exactly their lengths.
 use crate::input::file_buffer;
+use crate::input::marking_buffer;
 use crate::input::read_bytes;
 use crate::input::read_counts;
 use crate::input::read_row;
@@ -76,7 +77,7 @@ pub fn order_case() {
 pub fn orders_case() {
     let mut file = file_buffer();
     let n = read_bytes(&mut file);
-    let mut marking = [0u16; 8192];
+    let mut marking = marking_buffer();
     let m = read_counts(&mut marking);
     let mut orders = io::large_buffer();
     let k = read_bytes(&mut orders);
@@ -102,7 +103,7 @@ fn fire(file: &[u8], marking: &mut [u16], orders: &[u8], answers: &mut [u8]) {
 pub fn first_order_case() {
     let mut file = file_buffer();
     let n = read_bytes(&mut file);
-    let mut marking = [0u16; 8192];
+    let mut marking = marking_buffer();
     let m = read_counts(&mut marking);
     match search::first_order(&file[..n], &marking[..m]) {
         search::FirstReply::Found { order, tried } => {

@@ -13,7 +13,7 @@ use Rattle.evaluation.specs.internal.Evaluated.{Valued, Ranks}
 use Rattle.evaluation.specs.declared.evaluate.Value.{Value}
 use Rattle.net.proofs.Shut.{commands}
 use Rattle.evaluation.proofs.Values.{obey-by, needed-each, past-by, checked-by}
-use Rattle.net.proofs.Expressions.{expression-step}
+use Rattle.arc_expressions.proofs.Expressions.{expression-step}
 
 -- ---- no weight passes the ceiling
 if-le : (t : Bool) (n : ℕ) → (if t then n else 0) ≤ n

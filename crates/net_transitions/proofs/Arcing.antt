@@ -14,7 +14,8 @@ use Rattle.reading.proofs.Parts.{Reading, begins, goes-on, ends, stops}
 use Rattle.net.specs.Net.{Expression, Place, single, Arc, Net, net, placeAt, arcOn, ceiling, inExpression}
 use Rattle.net.specs.Reader.{widthOf, readExpression}
 use Rattle.net_transitions.specs.Transitions.{arcPart}
-use Rattle.net.specs.internal.ReaderEnums.{bits, told, placeOf, expressionTold}
+use Rattle.net.specs.internal.ReaderEnums.{bits, told, placeOf}
+use Rattle.arc_expressions.specs.internal.ReaderEnums.{expressionTold}
 use Rattle.net_parts.specs.internal.Tables.{placesOf}
 use Rattle.net_transitions.specs.internal.TransitionTables.{over, Standing, Slot, RowHolds, ArcRead, ArcTold, ArcRoom, ArcsRead}
 use Rattle.net.specs.declared.Read.{Read}

@@ -1,8 +1,8 @@
 // The arcs of a transition: where each arc's expression stands goes into a row of 96 slots, 32 a kind.
+use arc_expressions::read_expression;
 use net::Read;
 use net::after;
 use net::fault;
-use net::read_expression;
 use net_parts::clear_words;
 ghost use mathlib.Core.Path.{_≡_};
 ghost use mathlib.Core.List.{List};

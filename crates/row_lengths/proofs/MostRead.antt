@@ -5,12 +5,12 @@ use Rattle.reading.specs.Basics.{ℕ, _+_, _-_, Bool, true, false, List, length
 use Rattle.reading.specs.Reading.{Answer, fine, fault, under}
 use Rattle.net.specs.Net.{Colour, Expression, times, Place, single, pair, Net}
 use Rattle.net.specs.Reader.{readColour, readExpression, twoOf, amount, capped}
-use Rattle.net.specs.internal.ReaderEnums.{joins}
+use Rattle.arc_expressions.specs.internal.ReaderEnums.{joins}
 use Rattle.evaluation.specs.internal.Evaluated.{Ranks}
 use Rattle.evaluation.specs.declared.evaluate.Ranked.{Ranked}
 use Rattle.net.proofs.Shut.{commands}
 use Rattle.evaluation.proofs.Values.{needed-by}
-use Rattle.net.proofs.Expressions.{expression-step, expression-in}
+use Rattle.arc_expressions.proofs.Expressions.{expression-step, expression-in}
 use Rattle.evaluation.proofs.Weights.{joined-by, times-by, one-by, two-by, expression-past, expression-shut, expression-stray}
 use Rattle.row_lengths.specs.internal.MostArcs.{most, mostJoined, MostTold}
 use Rattle.row_lengths.specs.declared.arcs.Most.{Most}

@@ -8,7 +8,7 @@ use Rattle.net.specs.Net.{Colour, Expression, one, two, all, minus, Place, sing
 use Rattle.net.specs.Reader.{readColour, readExpression, amount}
 use Rattle.net.proofs.Shut.{commands}
 use Rattle.evaluation.proofs.Values.{needed-by}
-use Rattle.net.proofs.Expressions.{expression-step, expression-in}
+use Rattle.arc_expressions.proofs.Expressions.{expression-step, expression-in}
 use Rattle.evaluation.proofs.Weights.{one-by, two-by, joined-by}
 use Rattle.row_lengths.specs.internal.Steady.{othersOf, steadyArcs}
 

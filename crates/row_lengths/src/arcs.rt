@@ -10,7 +10,7 @@ ghost use Rattle.reading.specs.Reading.{fine};
 ghost use Rattle.net.specs.Net.{net, Place, Expression};
 ghost use Rattle.net.specs.Reader.{readExpression, twoOf, capped};
 ghost use Rattle.evaluation.specs.internal.Evaluated.{placeBy};
-ghost use Rattle.net.specs.internal.ReaderEnums.{joins};
+ghost use Rattle.arc_expressions.specs.internal.ReaderEnums.{joins};
 ghost use Rattle.row_lengths.specs.internal.MostArcs.{lesser, most, mostJoined, MostTold};
 
 // The most arcs of an expression, and the place after it.

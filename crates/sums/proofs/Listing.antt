@@ -14,11 +14,11 @@ use Rattle.net.specs.Reader.{readColour, readExpression, twoOf, amount, capped}
 use Rattle.net.specs.Values.{weight}
 use Rattle.evaluation.specs.internal.Evaluated.{bound, Ranks}
 use Rattle.runs.specs.internal.Terms.{limit, term, countIn, Terms, none, more, joined, joinBy, timesAll, Appended}
-use Rattle.net.specs.internal.ReaderEnums.{joins}
+use Rattle.arc_expressions.specs.internal.ReaderEnums.{joins}
 use Rattle.evaluation.specs.declared.evaluate.Ranked.{Ranked}
 use Rattle.net.proofs.Shut.{commands}
 use Rattle.evaluation.proofs.Values.{needed-by}
-use Rattle.net.proofs.Expressions.{expression-step, expression-in}
+use Rattle.arc_expressions.proofs.Expressions.{expression-step, expression-in}
 use Rattle.evaluation.proofs.Weights.{weight-le, joined-by, times-by, one-by, two-by, expression-past, expression-shut, expression-stray}
 use Rattle.sums.specs.internal.Loaded.{terms, Counted, Listed, ListedTold}
 use Rattle.sums.specs.declared.terms.Multiset.{Multiset}

@@ -19,7 +19,7 @@ use Rattle.evaluation.specs.declared.evaluate.Ranked.{Ranked}
 use Rattle.net.proofs.Shut.{commands}
 use Rattle.evaluation.proofs.Values.{needed-by, needed-each}
 use Rattle.net.proofs.Colours.{colour-step}
-use Rattle.net.proofs.Expressions.{expression-in}
+use Rattle.arc_expressions.proofs.Expressions.{expression-in}
 use Rattle.evaluation.proofs.Weights.{weight-le, joined-by, expression-shut}
 use Rattle.runs.specs.internal.Terms as spec
 use Rattle.runs.specs.internal.Terms.{term, countIn, Terms, joined, joinBy, Appended}

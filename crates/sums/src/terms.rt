@@ -16,7 +16,7 @@ ghost use Rattle.reading.specs.Reading.{under};
 ghost use Rattle.net.specs.Net.{net, Place, times};
 ghost use Rattle.net.specs.Reader.{readExpression, twoOf, capped};
 ghost use Rattle.evaluation.specs.internal.Evaluated.{placeBy};
-ghost use Rattle.net.specs.internal.ReaderEnums.{joins};
+ghost use Rattle.arc_expressions.specs.internal.ReaderEnums.{joins};
 ghost use Rattle.runs.specs.internal.Terms.{term, Appended};
 ghost use Rattle.sums.specs.internal.Loaded.{ListedTold};
 

@@ -1,8 +1,8 @@
 -- What the code's enums say, in the terms of the meanings.
-use Prim.Native.Nat.{_^_, _≤_}
-use Rattle.reading.specs.Basics.{ℕ, zero, suc, _+_, Bool, leb, eqb, if_then_else_, given, List, getD, _/_, _%_}
+use Prim.Native.Nat.{_^_}
+use Rattle.reading.specs.Basics.{ℕ, zero, suc, _+_, Bool, eqb, if_then_else_, given, List, getD, _/_, _%_}
 use Rattle.reading.specs.Reading.{Answer, fine, fault}
-use Rattle.net.specs.Net.{Colour, Guard, Expression, plus, minus, Net, Place, single, pair, setOf, ceiling, inColour, inGuard, inExpression}
+use Rattle.net.specs.Net.{Colour, Guard, Net, Place, single, pair, setOf, inColour, inGuard}
 use Rattle.net.specs.Reader.{widthOf}
 use Rattle.net.specs.declared.Read.{Read}
 use Rattle.net.specs.declared.Read.the-variants as read
@@ -32,26 +32,9 @@ colourTold n answer = told (setOf n) inColour answer
 abbrev pub guardTold : Answer Guard → Read
 guardTold answer = told (λ g. 0) inGuard answer
 
--- an arc expression tells its ceiling
-abbrev pub expressionTold : Answer Expression → Read
-expressionTold answer = told ceiling inExpression answer
-
 -- a place by its first and its second set; 255 where it has no second
 abbrev pub placeOf : ℕ → ℕ → Place
 placeOf first second = if eqb second 255 then single first else pair first second
-
--- no ceiling passes 65,535
-abbrev pub Small : Read → Type 0
-Small (read.Whole next measure uses) = measure ≤ 65535
-Small (read.Fault number place) = Unit {0}
-
--- a ceiling that may not pass 65,535 (8)
-abbrev pub measured : ℕ → ℕ → ℕ → ℕ → Read
-measured at ceiling next uses = if leb ceiling 65535 then read.Whole next ceiling uses else read.Fault 8 at
-
--- the first less the second, or their sum
-abbrev pub joins : Bool → Expression → Expression → Expression
-joins less a b = if less then minus a b else plus a b
 
 -- the width of a byte's operands, 255 where it is no command
 abbrev pub widthTold : ℕ → ℕ

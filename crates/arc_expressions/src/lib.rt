@@ -1,0 +1,4 @@
+// Reads the arc expressions of a net file.
+mod expression;
+
+pub use expression::read_expression;
