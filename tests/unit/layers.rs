@@ -80,3 +80,31 @@ fn a_contract_that_cites_them_is_seen() {
     assert_eq!(cited(source, contract(source, "call").unwrap()), ["room"]);
     assert_eq!(cited(&source.replace("room (", "fire ("), contract(&source.replace("room (", "fire ("), "call").unwrap()), Vec::<&str>::new());
 }
+
+/// The meanings that a meaning imports, as paths.
+fn imported(source: &str) -> Vec<String> {
+    let imports = source.lines().filter_map(|line| line.split_once("use Rattle·"));
+    imports.filter_map(|(_, path)| {
+        let (of, rest) = path.split_once('.')?;
+        let module = rest.trim_start_matches("specs.").split(['.', ' ']).next()?;
+        (module != "declared").then(|| format!("crates/{}/specs/{module}.antt", of.trim_end_matches("·specs")))
+    }).collect()
+}
+
+/// docs/ARCHITECTURE.md gives an order in which what stands before a meaning is all that it needs, and leaves none out.
+#[test]
+fn the_order_of_reading_is_one() {
+    let document = fs::read_to_string("docs/ARCHITECTURE.md").unwrap();
+    let table = document.split_once("| document 01 | read |").unwrap().1.split_once("\n\n").unwrap().0;
+    let order: Vec<&str> = table.split('`').filter(|word| word.starts_with("crates/")).collect();
+    for (i, path) in order.iter().enumerate() {
+        for needed in imported(&text(Path::new(path))) {
+            assert!(order[..i].contains(&needed.as_str()), "{path} needs {needed}");
+        }
+    }
+    let aside = ["Replies.antt", "Limits.antt", "Formed.antt", "Heads.antt", "Lib.antt", "internal.antt"];
+    for (_, path) in files("specs", ".antt") {
+        let name = path.to_string_lossy().into_owned();
+        assert!(order.contains(&name.as_str()) || aside.iter().any(|end| name.ends_with(end)), "{name} is left out");
+    }
+}
