@@ -33,7 +33,9 @@ fn main() -> ExitCode {
     };
     match done {
         Ok(line) => {
-            eprintln!("{line}");
+            if !line.is_empty() {
+                eprintln!("{line}");
+            }
             ExitCode::SUCCESS
         }
         Err(line) => {

@@ -6,7 +6,7 @@ use native.Mathlib.Omega.{arith}
 use native.Mathlib.Nat.{add-zero}
 use native.Mathlib.Numerals.{add-one}
 use lib.ListN.{set, length-append, length-drop, length-map, length-take}
-use lib.Seq.{drop-cons, take-append-seam, getD-take, length-take-le}
+use lib.Seq.{drop-cons, getD-take, length-take-le}
 use Rattle.reading.specs.Basics.{ℕ, zero, suc, _+_, _*_, _-_, List, [], _∷_, _++_, flatMap, length, getD, take, drop, over, numbersFrom}
 use Rattle.firing.specs.internal.RowLists.{arcsIn, rowIn}
 use Rattle.firing.specs.internal.Steps.{arcAt}
@@ -44,10 +44,6 @@ append-all {entry} x = x .is [] entry refl refl
 
 pub append-count : {entry exit : List ℕ} {next : ℕ} {bytes : List ℕ} → Appended entry exit 0 next bytes → next ≡ length bytes
 append-count x = omega (arith, x .next-is)
-
--- the front of what is left
-pub front : (bytes lent : List ℕ) → take (length bytes) (over bytes lent) ≡ bytes
-front bytes lent = take-append-seam bytes (drop (length bytes) lent)
 
 -- ---- a list written piece by piece
 -- to write the rest is to write the whole list

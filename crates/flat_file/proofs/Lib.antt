@@ -4,3 +4,4 @@ pub mod Rows
 pub mod RoundTrip
 pub mod Written
 pub mod Appending
+pub mod OneFile

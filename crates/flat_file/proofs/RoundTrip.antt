@@ -12,7 +12,7 @@ use Rattle.reading.proofs.Commands.{known, done, passes, end, other, both-hold,
 use Rattle.reading.proofs.Parts.{Reading, begins, goes-on, ends}
 use Rattle.firing.specs.Arcs.{Arc, Row, row, Rising, none as risen, more, Proper}
 use Rattle.flat_file.specs.Flat.{Flat, Limits, placePart, rise, arcPart, rowPart, readFlat, arcBytes, rowBytes, writeFlat}
-use Rattle.flat_file.proofs.Written.{word-there, byte-here, left, past, placeBytes}
+use Rattle.flat_file.proofs.Written.{word-there, byte-here, left, past, arcThere, placeBytes, arcsBytes}
 
 -- what is left begins with a row, or with the end of the file
 data Edge : List ℕ → Type 0 where
@@ -104,30 +104,27 @@ module _ (s : List ℕ) (n : ℕ) where
   abbrev Step : ℕ → (List Arc → Row) → Type 0
   Step byte mk = (l : List Arc) (at : ℕ) (a : Arc) → Next at byte l a → arcPart s n (mk l) at ≡ some (fine (mk (with l a)) (at + 5))
 
-  abbrev arcAt : ℕ → Arc
-  arcAt at = record { place = wordAt s (at + 1); weight = wordAt s (at + 3) }
-
-  is-arc : {at byte : ℕ} {l : List Arc} {a : Arc} → Next at byte l a → arcAt at ≡ a
+  is-arc : {at byte : ℕ} {l : List Arc} {a : Arc} → Next at byte l a → arcThere s at ≡ a
   is-arc here = λ i. record { place = here .place i; weight = here .weight i }
 
   take-step : Step 0x52 (λ l. row l [] [])
   unfolding arcPart find
   take-step l at a here =
-      let goes : arcPart s n (row l [] []) at ≡ some (fine (row (with l (arcAt at)) [] []) (at + 5)) =
+      let goes : arcPart s n (row l [] []) at ≡ some (fine (row (with l (arcThere s at)) [] []) (at + 5)) =
       stands-goes s at 0x52 _ (here .stands) refl (here .fits) (passes (here .checks) (passes (both-hold _ _ (both-hold _ _ (here .rises) refl) refl) done)) in
       goes ∙ ap (λ (x : Arc). some (fine (row (with l x) [] []) (at + 5))) (is-arc here)
 
   put-step : (takes : List Arc) → Step 0x53 (λ l. row takes l [])
   unfolding arcPart find
   put-step takes l at a here =
-      let goes : arcPart s n (row takes l []) at ≡ some (fine (row takes (with l (arcAt at)) []) (at + 5)) =
+      let goes : arcPart s n (row takes l []) at ≡ some (fine (row takes (with l (arcThere s at)) []) (at + 5)) =
       stands-goes s at 0x53 _ (here .stands) refl (here .fits) (passes (here .checks) (passes (both-hold _ _ (here .rises) refl) done)) in
       goes ∙ ap (λ (x : Arc). some (fine (row takes (with l x) []) (at + 5))) (is-arc here)
 
   hinder-step : (takes puts : List Arc) → Step 0x54 (λ l. row takes puts l)
   unfolding arcPart find
   hinder-step takes puts l at a here =
-      let goes : arcPart s n (row takes puts l) at ≡ some (fine (row takes puts (with l (arcAt at))) (at + 5)) =
+      let goes : arcPart s n (row takes puts l) at ≡ some (fine (row takes puts (with l (arcThere s at))) (at + 5)) =
       stands-goes s at 0x54 _ (here .stands) refl (here .fits) (passes (here .checks) (passes (here .rises) done)) in
       goes ∙ ap (λ (x : Arc). some (fine (row takes puts (with l x)) (at + 5))) (is-arc here)
 
@@ -149,10 +146,6 @@ module _ (s : List ℕ) (n : ℕ) where
   unfolding arcPart
   arcs-end r at e (at-row {t}) = let b = byte-here s at (0x51 ∷ t) e in standing-none s at _ (other (rw b) (other (rw b) (other (rw b) end)))
   arcs-end r at e (at-end {t}) = let b = byte-here s at (0x5F ∷ t) e in standing-none s at _ (other (rw b) (other (rw b) (other (rw b) end)))
-
-  -- the bytes of a row's arcs, and the row
-  abbrev arcsBytes : Row → List ℕ
-  arcsBytes r = flatMap (arcBytes 0x52) (r .takes) ++ flatMap (arcBytes 0x53) (r .puts) ++ flatMap (arcBytes 0x54) (r .hinders)
 
   arcs-whole : (r : Row) (at : ℕ) (t : List ℕ) → drop at s ≡ arcsBytes r ++ t → Edge t → Proper n r
       → whole s (arcPart s n) (row [] [] []) at ≡ fine r (at + length (arcsBytes r))
@@ -182,8 +175,8 @@ module _ (s : List ℕ) (n : ℕ) where
   unfolding rowPart find
   row-step r seen at t e edge proper few =
       let l = left s at (rowBytes r ++ t) e in
-      let arcs = arcs-whole s n r (at + 1) t (past s at (0x51 ∷ []) (arcsBytes s n r ++ t) e) edge proper in
-      let q : at + 1 + length (arcsBytes s n r) ≡ at + length (rowBytes r) = omega arith in
+      let arcs = arcs-whole s n r (at + 1) t (past s at (0x51 ∷ []) (arcsBytes r ++ t) e) edge proper in
+      let q : at + 1 + length (arcsBytes r) ≡ at + length (rowBytes r) = omega arith in
       let goes : rowPart s n seen at ≡ some (under (with seen) (whole s (arcPart s n) (row [] [] []) (at + 1))) =
       stands-goes s at 0x51 _ (byte-here s at (rowBytes r ++ t) e) refl (omega arith) (passes (lt-ltb (length seen) 65536 few) done) in
       goes ∙ rw (arcs, q)

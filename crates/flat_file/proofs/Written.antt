@@ -33,22 +33,25 @@ past s at x t e = sym (drop-drop (length x) at s) ∙ ap (drop (length x)) e ∙
 pub word-back : (n : ℕ) (t : List ℕ) → wordAt (word n ++ t) 0 ≡ n
 word-back n t = omega arith
 
--- ---- lengths
--- the bytes of a flat place's count
+-- the arc that stands at a place
+abbrev pub arcThere : List ℕ → ℕ → Arc
+arcThere s at = record { place = wordAt s (at + 1); weight = wordAt s (at + 3) }
+
+-- ---- pieces
+-- the bytes of a flat place's count, and of a row's arcs
 abbrev pub placeBytes : ℕ → List ℕ
 placeBytes count = 0x50 ∷ word count
 
+abbrev pub arcsBytes : Row → List ℕ
+arcsBytes r = flatMap (arcBytes 0x52) (r .takes) ++ flatMap (arcBytes 0x53) (r .puts) ++ flatMap (arcBytes 0x54) (r .hinders)
+
+-- ---- lengths
 -- a row's arcs, and its bytes
 abbrev pub arcsOf : Row → ℕ
 arcsOf r = length (r .takes) + length (r .puts) + length (r .hinders)
 
 abbrev pub rowSize : Row → ℕ
 rowSize r = 1 + 5 * arcsOf r
-
-pub length-flatMap : {A : Type 0} (f : A → List ℕ) (l : List A) → length (flatMap f l) ≡ sum (map (λ a. length (f a)) l)
-unfolding flatMap
-length-flatMap f [] = refl
-length-flatMap f (a ∷ l) = length-append (f a) (flatMap f l) ∙ ap (λ (n : ℕ). length (f a) + n) (length-flatMap f l)
 
 -- pieces of one length
 pub length-pieces : {A : Type 0} (f : A → List ℕ) (k : ℕ) → ((a : A) → length (f a) ≡ k) → (l : List A) → length (flatMap f l) ≡ k * length l

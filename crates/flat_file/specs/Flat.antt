@@ -1,6 +1,7 @@
 -- The flat net, its file, and firing on it. Nothing here knows of colours.
+use mathlib.Core.Path.{_≡_}
 use Prim.Native.Nat.{_≤_, _<_}
-use Rattle.reading.specs.Basics.{ℕ, _+_, Bool, _&&_, List, [], _∷_, _++_, flatMap, length, getD, ltb, eqb, if_then_else_, with, below, every, byteAt, wordAt, longAt, word}
+use Rattle.reading.specs.Basics.{ℕ, _+_, Bool, _&&_, List, [], _∷_, _++_, flatMap, length, getD, ltb, eqb, if_then_else_, with, below, every, byteAt, wordAt, longAt, Bytes, word}
 use Rattle.reading.specs.Reading.{fine, _andThen_, under, Outcome, accepted, refused, outcome, on, _unless_, Command, command, standing, Part, whole, file}
 use Rattle.firing.specs.Firing.{Fired, fired, fire, First}
 use Rattle.firing.specs.Arcs.{Arc, Row, row, weights, Proper}
@@ -68,6 +69,10 @@ rowBytes r = 0x51 ∷ flatMap (arcBytes 0x52) (r .takes) ++ flatMap (arcBytes 0x
 
 unfoldable pub writeFlat : Flat → List ℕ
 writeFlat f = 0x02 ∷ 1 ∷ flatMap (λ count. 0x50 ∷ word count) (f .initial) ++ flatMap rowBytes (f .rows) ++ (0x5F ∷ [])
+
+-- one net, one file: whatever bytes are accepted are those that are written of the net found
+abbrev pub OneFile : Type 0
+OneFile = (s : List ℕ) (f : Flat) → Bytes s → readFlat s ≡ accepted f → s ≡ writeFlat f
 
 -- ---- firing
 -- a row by its number: 1 where there is no such row

@@ -4,7 +4,7 @@ use mathlib.Core.List.{List·Memᴰ·not-nil}
 use Prim.Native.Nat.{_≤_, _<_}
 use native.Mathlib.Omega.{arith}
 use borrow.Author.Tests.{ltb-true, leb-true, eq-eqb, not-true}
-use Rattle.reading.specs.Basics.{ℕ, _+_, Bool, true, false, not, _&&_, _||_, List, [], _∷_, some, length, ltb, leb, eqb, any, every, find, absent, with, if_then_else_, byteAt, wordAt}
+use Rattle.reading.specs.Basics.{ℕ, _+_, Bool, true, false, not, _&&_, _||_, List, [], _∷_, some, length, ltb, leb, eqb, any, every, find, absent, with, if_then_else_, byteAt, wordAt, Bytes}
 use Rattle.reading.specs.Reading.{fault, under, accepted, refused, outcome, _unless_, checked, whole, file}
 use Rattle.reading.proofs.Lists.{In, in-cases, here, there, All, end, also, all-with, in-all, all-in, in-every, every-in}
 use Rattle.reading.proofs.Commands.{both-hold}
@@ -15,7 +15,7 @@ use Rattle.net_parts.specs.Parts.{setPart, variablePart, placePart, tokensPart}
 use Rattle.net_transitions.specs.Transitions.{arcPart, ended, transitionPart}
 use Rattle.net_file.specs.NetFile.{content, readNet}
 use Rattle.net_file.specs.Formed.{colourFormed, comparable, guardFormed, ofSets, expressionFormed, once, arcFormed, sameArc, transitionFormed, tokensFormed, sameTokens, Formed, Words}
-use Rattle.net_file.proofs.Trees.{Bytes, word-fits, guard-formed, expression-sound}
+use Rattle.net_file.proofs.Trees.{word-fits, guard-formed, expression-sound}
 
 -- ---- lists
 every-same : {A : Type 0} (f g : A → Bool) (l : List A) → ((a : A) → f a ≡ g a) → every f l ≡ every g l

@@ -1,5 +1,6 @@
 pub mod Limits
 pub mod Trees
 pub mod Formed
+pub mod Refusals
 pub mod Whole
 pub mod Examples

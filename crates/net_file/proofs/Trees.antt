@@ -1,9 +1,8 @@
 -- The trees that are read are formed: colours, guards and arc expressions. Assumes nothing.
 use mathlib.Core.Path.{_≡_, refl}
-use Prim.Native.Nat.{_<_}
 use native.Mathlib.Omega.{arith}
 use borrow.Author.Tests.{le-leb}
-use Rattle.reading.specs.Basics.{ℕ, zero, suc, _+_, _&&_, true, List, [], _∷_, leb, eqb, byteAt, wordAt}
+use Rattle.reading.specs.Basics.{ℕ, zero, suc, _+_, _&&_, true, List, [], _∷_, leb, eqb, wordAt, Bytes}
 use Rattle.reading.specs.Reading.{Answer, fault, _unless_, needed}
 use Rattle.reading.proofs.Commands.{both-hold}
 use Rattle.reading.proofs.Lists.{end, also}
@@ -12,10 +11,6 @@ use Rattle.net.specs.Net.{Colour, successor, predecessor, Guard, opposite, both
 use Rattle.net.specs.Reader.{colourCommands, readColour, comparison, guardCommands, readGuard, amount, capped, expressionCommands, readExpression}
 use Rattle.net_file.specs.Formed.{colourFormed, comparable, guardFormed, ofSets, expressionFormed}
 use Rattle.net.proofs.Shut.{commands}
-
--- the file is made of bytes
-abbrev pub Bytes : List ℕ → Type 0
-Bytes s = (i : ℕ) → byteAt s i < 256
 
 pub word-fits : (s : List ℕ) (at : ℕ) → Bytes s → leb (wordAt s at) 65535 ≡ true
 word-fits s at bytes = le-leb (wordAt s at) 65535 (omega (arith, bytes at, bytes (at + 1)))

@@ -1,8 +1,10 @@
--- What an accepted net keeps to.
+-- What an accepted net keeps to, and what a refusal does.
 use Prim.Native.Nat.{_≤_, _<_}
 use mathlib.Core.Path.{_≡_}
-use Rattle.reading.specs.Basics.{ℕ, true, [], length, getD, ltb, every}
+use Rattle.reading.specs.Basics.{ℕ, true, List, [], length, getD, ltb, every}
+use Rattle.reading.specs.Reading.{refused}
 use Rattle.net.specs.Net.{always, Net, sizeOf, setsOf, placeAt, flatPlaceCount, variablesOf, bindingSpace}
+use Rattle.net_file.specs.NetFile.{readNet}
 
 pub record Limits (n : Net) : Type 0 where
   -- at most 16 sets, each of 1 to 64 colours
@@ -19,3 +21,7 @@ pub record Limits (n : Net) : Type 0 where
   pub transitions : length (n .transitions) ≤ 32
   pub few-variables : (t : ℕ) → t < length (n .transitions) → length (variablesOf n (getD (n .transitions) t (record { guard = always; arcs = [] }))) ≤ 4
   pub space : bindingSpace n (n .transitions) ≤ 65536
+
+-- a refusal's number is at most 15, and its place at most 16,384
+abbrev pub RefusalsFit : Type 0
+RefusalsFit = (s : List ℕ) (number place : ℕ) → readNet s ≡ refused number place → (number ≤ 15) × (place ≤ 16384)

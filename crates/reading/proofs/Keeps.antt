@@ -1,6 +1,8 @@
 -- What has gone on has passed its checks, and what every step of a part keeps holds of the whole part. Assumes nothing.
 use mathlib.Core.Path.{_≡_, refl, ap, _∙_}
+use Prim.Native.Nat.{_≤_}
 use native.Mathlib.Omega.{arith}
+use borrow.Author.Tests.{ltb-false, eqb-true}
 use Rattle.reading.specs.Basics.{ℕ, zero, suc, _+_, Bool, true, false, _&&_, List, [], _∷_, Option, some, none, Option·map, length, ltb, eqb, if_then_else_, given, find, byteAt}
 use Rattle.reading.specs.Reading.{Answer, fine, fault, _andThen_, under, accepted, outcome, Check, _unless_, failing, checked, Command, command, obey, standing, needed, Part, onward, repeat, file}
 use Rattle.reading.proofs.Lists.{All, end, also}
@@ -48,37 +50,43 @@ module _ {A B P : Type 0} where
   under-went f (fault k p) e h = no-value e
 
 -- ---- commands
--- what follows where a command's checks hold and it goes on to a value
+-- what follows where a command stands whole at a place, its checks hold and it goes on to a value
+abbrev pub Stood : {A : Type 0} → List ℕ → ℕ → A → ℕ → Type 0 → Command A → Type 0
+Stood s at b last P c = byteAt s at ≡ c .byte → at + (1 + c .width) ≤ length s → Held (c .checks) → c .goes (at + (1 + c .width)) ≡ fine b last → P
+
+-- what follows of its checks and its value alone
 abbrev pub Went : {A : Type 0} → A → ℕ → Type 0 → Command A → Type 0
 Went b last P c = Held (c .checks) → (next : ℕ) → c .goes next ≡ fine b last → P
 
 module _ {A : Type 0} (s : List ℕ) (at : ℕ) {b : A} {last : ℕ} where
   -- a command that gave a value was whole and its checks hold; so was the one of a list that stood there
-  obey-went : {P : Type 0} (c : Command A) → Went b last P c → obey s at c ≡ fine b last → P
+  obey-stood : {P : Type 0} (c : Command A) → Stood s at b last P c → byteAt s at ≡ c .byte → obey s at c ≡ fine b last → P
   unfolding obey
-  obey-went {P} c h e = by-length (ltb (length s) (at + (1 + c .width))) e
+  obey-stood {P} c h stands e = by-length (ltb (length s) (at + (1 + c .width))) refl e
     where
-      by-checks : (o : Option ℕ) → failing (c .checks) ≡ o → (given o (c .goes (at + (1 + c .width))) λ number. fault number at) ≡ fine b last → P
-      by-checks none f q = h (held (c .checks) f) (at + (1 + c .width)) q
-      by-checks (some k) f q = no-value q
+      by-checks : at + (1 + c .width) ≤ length s → (o : Option ℕ) → failing (c .checks) ≡ o
+          → (given o (c .goes (at + (1 + c .width))) λ number. fault number at) ≡ fine b last → P
+      by-checks fits none f q = h stands fits (held (c .checks) f) q
+      by-checks fits (some k) f q = no-value q
 
-      by-length : (t : Bool) → (if t then fault 2 (length s) else given (failing (c .checks)) (c .goes (at + (1 + c .width))) λ number. fault number at) ≡ fine b last → P
-      by-length true q = no-value q
-      by-length false q = by-checks (failing (c .checks)) refl q
+      by-length : (t : Bool) → ltb (length s) (at + (1 + c .width)) ≡ t
+          → (if t then fault 2 (length s) else given (failing (c .checks)) (c .goes (at + (1 + c .width))) λ number. fault number at) ≡ fine b last → P
+      by-length true f q = no-value q
+      by-length false f q = by-checks (ltb-false (length s) (at + (1 + c .width)) f) (failing (c .checks)) refl q
 
-  pub standing-went : {P : Type 0} {commands : List (Command A)} → All (Went b last P) commands → standing s commands at ≡ some (fine b last) → P
+  pub standing-stood : {P : Type 0} {commands : List (Command A)} → All (Stood s at b last P) commands → standing s commands at ≡ some (fine b last) → P
   unfolding standing find
-  standing-went end e = let z : _≡_ {A = ℕ} 0 1 = cc in absurd (omega arith)
-  standing-went {P} (also {a = c} {l = commands} h hs) e = go (eqb (byteAt s at) (c .byte)) (standing-went hs) e
+  standing-stood end e = let z : _≡_ {A = ℕ} 0 1 = cc in absurd (omega arith)
+  standing-stood {P} (also {a = c} {l = commands} h hs) e = go (eqb (byteAt s at) (c .byte)) refl (standing-stood hs) e
     where
-      go : (t : Bool) → (standing s commands at ≡ some (fine b last) → P)
+      go : (t : Bool) → eqb (byteAt s at) (c .byte) ≡ t → (standing s commands at ≡ some (fine b last) → P)
           → Option·map (obey s at) (if t then some c else find (λ d. eqb (byteAt s at) (d .byte)) commands) ≡ some (fine b last) → P
-      go true ih q = obey-went c h (cc)
-      go false ih q = ih q
+      go true f ih q = obey-stood c h (eqb-true (byteAt s at) (c .byte) f) (cc)
+      go false f ih q = ih q
 
-  pub needed-went : {P : Type 0} {commands : List (Command A)} → All (Went b last P) commands → needed s commands at ≡ fine b last → P
+  pub needed-stood : {P : Type 0} {commands : List (Command A)} → All (Stood s at b last P) commands → needed s commands at ≡ fine b last → P
   unfolding needed
-  needed-went {P} {commands} hs e = go (standing s commands at) refl e
+  needed-stood {P} {commands} hs e = go (standing s commands at) refl e
     where
       stray : (t : Bool) → _≡_ {A = Answer A} (if t then fault 3 at else fault 2 (length s)) (fine b last) → P
       stray true q = no-value q
@@ -86,31 +94,55 @@ module _ {A : Type 0} (s : List ℕ) (at : ℕ) {b : A} {last : ℕ} where
 
       go : (o : Option (Answer A)) → standing s commands at ≡ o → (given o (if ltb at (length s) then fault 3 at else fault 2 (length s)) λ answer. answer) ≡ fine b last → P
       go none f q = stray (ltb at (length s)) q
-      go (some answer) f q = standing-went hs (f ∙ ap some q)
+      go (some answer) f q = standing-stood hs (f ∙ ap some q)
+
+  -- where the byte and the place do not matter
+  went-stood : {P : Type 0} {commands : List (Command A)} → All (Went b last P) commands → All (Stood s at b last P) commands
+  went-stood end = end
+  went-stood (also {a = c} h hs) = also (λ stands fits holds q. h holds (at + (1 + c .width)) q) (went-stood hs)
+
+  pub standing-went : {P : Type 0} {commands : List (Command A)} → All (Went b last P) commands → standing s commands at ≡ some (fine b last) → P
+  standing-went hs e = standing-stood (went-stood hs) e
+
+  pub needed-went : {P : Type 0} {commands : List (Command A)} → All (Went b last P) commands → needed s commands at ≡ fine b last → P
+  needed-went hs e = needed-stood (went-stood hs) e
 
 -- ---- parts
-pub repeat-keeps : {A : Type 0} (part : Part A) (P : A → Type 0) → ((a b : A) (at next : ℕ) → P a → part a at ≡ some (fine b next) → P b)
-    → (fuel : ℕ) {a b : A} (at : ℕ) {next : ℕ} → P a → repeat part fuel a at ≡ fine b next → P b
+-- of the value and the place, and of the value alone
+pub repeat-keeps-at : {A : Type 0} (part : Part A) (P : A → ℕ → Type 0) → ((a b : A) (at next : ℕ) → P a at → part a at ≡ some (fine b next) → P b next)
+    → (fuel : ℕ) {a b : A} (at : ℕ) {next : ℕ} → P a at → repeat part fuel a at ≡ fine b next → P b next
 unfolding repeat
-repeat-keeps part P step zero {a} {b} at p e = let q : a ≡ b = cc in rw (← q) p
-repeat-keeps {A} part P step (suc fuel) {a} {b} at {next} p e = go (part a at) refl (λ c more q r. repeat-keeps part P step fuel more (step a c at more p q) r) e
+repeat-keeps-at part P step zero {a} {b} at {next} p e = let q : a ≡ b = cc in let r : at ≡ next = cc in rw (← q, ← r) p
+repeat-keeps-at {A} part P step (suc fuel) {a} {b} at {next} p e = go (part a at) refl (λ c more q r. repeat-keeps-at part P step fuel more (step a c at more p q) r) e
   where
-    go : (o : Option (Answer A)) → part a at ≡ o → ((c : A) (more : ℕ) → part a at ≡ some (fine c more) → repeat part fuel c more ≡ fine b next → P b)
-        → onward (repeat part fuel) a at o ≡ fine b next → P b
-    go none f ih q = let r : a ≡ b = cc in rw (← r) p
+    go : (o : Option (Answer A)) → part a at ≡ o → ((c : A) (more : ℕ) → part a at ≡ some (fine c more) → repeat part fuel c more ≡ fine b next → P b next)
+        → onward (repeat part fuel) a at o ≡ fine b next → P b next
+    go none f ih q = let r : a ≡ b = cc in let t : at ≡ next = cc in rw (← r, ← t) p
     go (some (fine c more)) f ih q = ih c more f q
     go (some (fault k place)) f ih q = no-value q
 
+pub repeat-keeps : {A : Type 0} (part : Part A) (P : A → Type 0) → ((a b : A) (at next : ℕ) → P a → part a at ≡ some (fine b next) → P b)
+    → (fuel : ℕ) {a b : A} (at : ℕ) {next : ℕ} → P a → repeat part fuel a at ≡ fine b next → P b
+repeat-keeps part P step fuel at p e = repeat-keeps-at part (λ a place. P a) step fuel at p e
+
 -- ---- files
-pub file-went : {A P : Type 0} (opening : ℕ) (content : ℕ → Answer A) (closing : ℕ) (s : List ℕ) {a : A} {last : ℕ} → file opening content closing s ≡ fine a last
-    → ((start next : ℕ) → content start ≡ fine a next → P) → P
+-- the first two bytes, the content from 2 on, and the end command behind it, the last byte
+pub file-stood : {A P : Type 0} (opening : ℕ) (content : ℕ → Answer A) (closing : ℕ) (s : List ℕ) {a : A} {last : ℕ} → file opening content closing s ≡ fine a last
+    → ((next : ℕ) → byteAt s 0 ≡ opening → byteAt s 1 ≡ 1 → 2 ≤ length s → content 2 ≡ fine a next → byteAt s next ≡ closing → next + 1 ≡ length s → P) → P
 unfolding file
-file-went opening content closing s {a} {last} e h =
+file-stood opening content closing s {a} {last} e h =
     then-went (needed s (command opening 1 ((5 unless eqb (byteAt s 1) 1) ∷ []) content ∷ []) 0) _ e λ b at f g.
     then-went (needed s (command closing 0 [] (fine b) ∷ []) at) _ g λ c more i j.
-    needed-went s at (also (λ holds next q. needed-went s 0 (also (λ ok start r.
-    let k : c ≡ a = checked-went more ((15 unless eqb more (length s)) ∷ []) c more j .1 in
-    let l : b ≡ a = cc in h start at (rw (← l) r)) end) f) end) i
+    needed-stood s at (also (λ closes fits ok q. needed-stood s 0 (also (λ opens long edition r.
+    let (tail, k) = checked-went more ((15 unless eqb more (length s)) ∷ []) c more j in
+    let l : b ≡ a = cc in
+    let m : at + 1 ≡ more = cc in
+    h at opens (eqb-true (byteAt s 1) 1 (edition .0)) long (rw (← l) r) closes (m ∙ eqb-true more (length s) (tail .0))) end) f) end) i
+
+-- the content alone
+pub file-went : {A P : Type 0} (opening : ℕ) (content : ℕ → Answer A) (closing : ℕ) (s : List ℕ) {a : A} {last : ℕ} → file opening content closing s ≡ fine a last
+    → ((start next : ℕ) → content start ≡ fine a next → P) → P
+file-went opening content closing s e h = file-stood opening content closing s e λ next opens edition long reads closes all. h 2 next reads
 
 -- an accepted value was read
 pub outcome-went : {A P : Type 0} (x : Answer A) {a : A} → outcome x ≡ accepted a → ((next : ℕ) → x ≡ fine a next → P) → P

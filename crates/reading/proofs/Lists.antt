@@ -1,7 +1,7 @@
 -- Laws of lists: membership, keys that differ, where an element stands, numbers from a number on, lengths. Assumes nothing.
 use mathlib.Core.Path.{_≡_, refl, sym, ap, ap₂, _∙_}
 use mathlib.Core.Logic.{⊎-elim}
-use mathlib.Core.List.{List·Memᴰ, List·Memᴰ·head, List·Memᴰ·tail, List·Memᴰ·not-nil, List·Memᴰ·cases-cons, List·Memᴰ·append-cases, Memᴰ·append-left, Memᴰ·append-right, Memᴰ·of-map, filterMap-cons-none, filterMap-cons-some}
+use mathlib.Core.List.{List·Memᴰ, List·Memᴰ·head, List·Memᴰ·tail, List·Memᴰ·not-nil, List·Memᴰ·cases-cons, List·Memᴰ·append-cases, Memᴰ·append-left, Memᴰ·append-right, Memᴰ·of-map, append-assoc, append-nil, filterMap-cons-none, filterMap-cons-some}
 use Prim.Native.Nat.{_≤_, _<_}
 use native.Mathlib.Omega.{arith}
 use native.Mathlib.Numerals.{add-one}
@@ -273,6 +273,16 @@ module _ {A : Type 0} where
   unfolding flatMap
   map-flat f g [] = refl
   map-flat f g (a ∷ l) = ap (λ m. g (f a) ++ m) (map-flat f g l)
+
+  -- what is made of two joined lists, and of one more at the end
+  pub flat-append : {B : Type 0} (f : A → List B) (l m : List A) → flatMap f (l ++ m) ≡ flatMap f l ++ flatMap f m
+  unfolding flatMap
+  flat-append f [] m = refl
+  flat-append f (a ∷ l) m = ap (λ k. f a ++ k) (flat-append f l m) ∙ sym (append-assoc (f a) (flatMap f l) (flatMap f m))
+
+  pub flat-with : {B : Type 0} (f : A → List B) (l : List A) (a : A) → flatMap f (with l a) ≡ flatMap f l ++ f a
+  unfolding flatMap
+  flat-with f l a = flat-append f l (a ∷ []) ∙ ap (λ k. flatMap f l ++ k) (append-nil (f a))
 
   -- a test of every element
   pub every-in : (test : A → Bool) (l : List A) → every test l ≡ true → All (λ a. test a ≡ true) l

@@ -83,6 +83,9 @@ abbrev pub line : ℕ → ℕ → List ℕ
 line number place =
     (0x72 ∷ 0x65 ∷ 0x66 ∷ 0x75 ∷ 0x73 ∷ 0x65 ∷ 0x64 ∷ 0x20 ∷ []) ++ decimal 5 number ++ (0x20 ∷ 0x61 ∷ 0x74 ∷ 0x20 ∷ []) ++ decimal 5 place ++ (0x0A ∷ [])
 
--- what it writes: the flat file, of 64 KiB at most, or the line of a refusal
+-- what it writes: the flat file, of 64 KiB at most (14), or the line of a refusal
+abbrev pub fitsProgram : Net → List Check
+fitsProgram n = (14 unless leb (length (flatFile n)) 65536) ∷ []
+
 unfoldable pub program : List ℕ → List ℕ
-program s = on (permitted (λ n. (14 unless leb (length (flatFile n)) 65536) ∷ []) (readNet s)) line flatFile
+program s = on (permitted fitsProgram (readNet s)) line flatFile

@@ -8,7 +8,7 @@ use native.Mathlib.Nat.{mul-le-mul}
 use borrow.Author.Tests.{ltb-true}
 use lib.ListN.{length-append, length-map}
 use Rattle.reading.specs.Basics.{ℕ, zero, suc, _+_, Bool, true, false, List, [], _∷_, _++_, map, flatMap, none, length, getD, getElem?, take, ltb, if_then_else_, given, keep, numbersFrom, below, sum, product, every}
-use Rattle.reading.proofs.Lists.{map-same, map-from, length-from}
+use Rattle.reading.proofs.Lists.{map-same, map-from, length-from, flat-append}
 use Rattle.reading.proofs.Gives.{both-first, both-second}
 use Rattle.firing.specs.Arcs.{Arc, arcsOf}
 use Rattle.net.specs.Net.{Transition, Net, single, sizeOf, setsOf, coloursOf, placeAt, flatPlaceCount, arcOn}
@@ -104,17 +104,11 @@ start-low n p = go (n .places) p
     go (a ∷ l) (suc p) = let h = go l p in omega arith
 
 -- ---- all places of a kind
--- pieces of two joined lists, and of a list made piece by piece
-module _ {B C : Type 0} (f : B → List C) where
-  pub flat-append : (l m : List B) → flatMap f (l ++ m) ≡ flatMap f l ++ flatMap f m
-  unfolding flatMap
-  flat-append [] m = refl
-  flat-append (b ∷ l) m = ap (λ k. f b ++ k) (flat-append l m) ∙ sym (append-assoc (f b) (flatMap f l) (flatMap f m))
-
-  pub flat-flat : {A : Type 0} (g : A → List B) (l : List A) → flatMap f (flatMap g l) ≡ flatMap (λ a. flatMap f (g a)) l
-  unfolding flatMap
-  flat-flat g [] = refl
-  flat-flat g (a ∷ l) = flat-append (g a) (flatMap g l) ∙ ap (λ k. flatMap f (g a) ++ k) (flat-flat g l)
+-- pieces of a list made piece by piece
+pub flat-flat : {A B C : Type 0} (f : B → List C) (g : A → List B) (l : List A) → flatMap f (flatMap g l) ≡ flatMap (λ a. flatMap f (g a)) l
+unfolding flatMap
+flat-flat f g [] = refl
+flat-flat f g (a ∷ l) = flat-append f (g a) (flatMap g l) ∙ ap (λ k. flatMap f (g a) ++ k) (flat-flat f g l)
 
 -- one more number at the end
 pub flat-more : {A : Type 0} (f : ℕ → List A) (a p : ℕ) → flatMap f (numbersFrom a (suc p)) ≡ flatMap f (numbersFrom a p) ++ f (a + p)

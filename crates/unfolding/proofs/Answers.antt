@@ -1,11 +1,11 @@
 -- Each order is answered as its image is, and so is each list of orders. Assumes nothing.
-use mathlib.Core.Path.{_≡_, refl, ap, _∙_}
+use mathlib.Core.Path.{_≡_, refl, sym, ap, ap₂, _∙_}
 use Prim.Native.Nat.{_≤_, _<_}
 use native.Mathlib.Omega.{arith}
 use borrow.Author.Tests.{lt-ltb, le-ltb}
 use lib.ListN.{length-map}
 use Rattle.reading.specs.Basics.{ℕ, Bool, true, false, List, [], _∷_, map, Option, none, some, length, getElem?, if_then_else_, given, below, any, items, longAt}
-use Rattle.reading.proofs.Lists.{All, end, also, in-all, at-map, below-at, getD-at}
+use Rattle.reading.proofs.Lists.{All, end, also, in-all, at-map, below-at, getD-at, every-in}
 use Rattle.reading.proofs.Items.{items-joined, of-six}
 use Rattle.firing.specs.Firing.{Weights, fired, lacks, hindered, moved, spills, fire, run}
 use Rattle.firing.specs.Arcs.{row, weights, rowOf}
@@ -15,8 +15,9 @@ use Rattle.net.specs.Net.{Net, flatPlaceCount}
 use Rattle.net_file.specs.Limits.{Limits}
 use Rattle.bindings.specs.Effect.{Binding, effect}
 use Rattle.bindings.specs.Orders.{named, fireOrder}
+use Rattle.bindings.proofs.Clash.{clash}
 use Rattle.row_numbers.specs.Unfolding.{Rowed, rows, unfolded, rowNumber, image, images}
-use Rattle.unfolding.specs.Demand3.{Marking, asRow, ListsAgree}
+use Rattle.unfolding.specs.Demand3.{Marking, guardHolds, asRow, ListsAgree, RowsFireAlike}
 use Rattle.firing.proofs.Weighted.{row-agrees}
 use Rattle.unfolding.proofs.Standing.{Stands, without, within, stands}
 use Rattle.row_numbers.proofs.Rows.{noRow, rows-few}
@@ -95,3 +96,25 @@ module _ (n : Net) where
     lists-agree m orders sized sixes =
         ap (run (fireImage (unfolded n)) m) (items-joined 5 (omega arith) (λ order. image (rowNumber n order)) (in-all (items 6 orders) (λ order i. refl)))
         ∙ in-turn m sized (of-six orders sixes .0)
+
+    -- ---- where every guard holds no answer is 2
+    guarded-as-row : (order m : List ℕ) → length order ≡ 6 → guardHolds n order ≡ true → asRow (fireOrder n order m) ≡ fireOrder n order m
+    guarded-as-row order m six holds = go (stands n limits order six)
+      where
+        go : Stands n order → asRow (fireOrder n order m) ≡ fireOrder n order m
+        go (without e g f) = clash refl holds g
+        go (within i w e at g f) = rw (f m) (fire-as-row w m)
+
+    all-as-rows : (m : List ℕ) {orders : List (List ℕ)} → All (λ order. length order ≡ 6) orders → All (λ order. guardHolds n order ≡ true) orders
+        → map asRow (run (fireOrder n) m orders) ≡ run (fireOrder n) m orders
+    unfolding run
+    all-as-rows m end end = refl
+    all-as-rows m (also {a = order} six rest) (also holds others) = ap₂ _∷_ (guarded-as-row order m six holds) (all-as-rows (fireOrder n order m .marking) rest others)
+
+    -- the rows of such a list fire as its orders do
+    pub rows-fire-alike : RowsFireAlike n (unfolded n)
+    rows-fire-alike m numbers orders sized ordered =
+        let split : items 5 (images n orders) ≡ map image numbers = ap (items 5) (ordered .carried) ∙ items-joined 5 (omega arith) image (in-all numbers (λ i m. refl)) in
+        ap (run (fireImage (unfolded n)) m) (sym split)
+        ∙ lists-agree m orders sized (ordered .sixes)
+        ∙ all-as-rows m (of-six orders (ordered .sixes) .0) (every-in (guardHolds n) (items 6 orders) (ordered .guards))

@@ -5,7 +5,7 @@ use native.Mathlib.Omega.{arith}
 use borrow.Author.Tests.{lt-ltb, le-ltb}
 use lib.ListN.{length-append}
 use Rattle.reading.specs.Basics.{ℕ, zero, suc, _+_, _-_, _/_, _%_, List, [], _∷_, _++_, length, Bool, true, false, ltb, if_then_else_}
-use Rattle.row_numbers.specs.Unfolding.{decimal, line}
+use Rattle.row_numbers.specs.Unfolding.{decimal}
 use Rattle.flat_file.specs.internal.Output.{Appended}
 use Rattle.flat_file.proofs.Appending.{append-none, append-then}
 
@@ -44,7 +44,3 @@ module _ (digits n : ℕ) where
         → Appended entry exit at next (decimal digits n)
     unfolding decimal
     decimal-more h x y = let e : digits ≡ suc (digits - 1) = omega arith in rw (e, le-ltb n 10 h) (append-then x y)
-
--- the line of a refusal is short
-pub line-length : (number place : ℕ) → length (line number place) ≤ 23
-line-length number place = simp length-append (omega (arith, length-decimal 5 number, length-decimal 5 place))

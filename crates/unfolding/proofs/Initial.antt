@@ -7,12 +7,12 @@ use native.Mathlib.Nat.{add-zero}
 use native.Mathlib.Numerals.{add-one}
 use lib.Seq.{take-suc, take-length}
 use Rattle.reading.specs.Basics.{ℕ, zero, suc, _+_, List, [], _∷_, _++_, map, flatMap, length, getD, take, given, with, numbersFrom, below, sum}
-use Rattle.reading.proofs.Lists.{map-map, map-same, of-from}
+use Rattle.reading.proofs.Lists.{map-map, map-same, of-from, flat-append}
 use Rattle.net.specs.Net.{Net, coloursOf, placeAt, flatPlaceCount, tokensOn}
 use Rattle.net_transitions.proofs.Spaces.{below-next}
 use Rattle.bindings.specs.Effect.{FlatPlace, flatPlaces}
 use Rattle.rows.specs.internal.Drawing.{startOf}
-use Rattle.rows.proofs.Split.{flat-append, start-next, start-low}
+use Rattle.rows.proofs.Split.{start-next, start-low}
 use Rattle.row_numbers.specs.Unfolding.{unfolded, initialAt}
 
 -- so many elements more

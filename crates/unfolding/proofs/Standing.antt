@@ -1,16 +1,25 @@
 -- How an order stands to the rows of a net. Assumes nothing.
 use mathlib.Core.Path.{_≡_, refl}
 use native.Mathlib.Omega.{arith}
-use Rattle.reading.specs.Basics.{ℕ, true, false, List, Option, none, some, length, getElem?}
+use Rattle.reading.specs.Basics.{ℕ, Bool, true, false, List, Option, none, some, length, getElem?, if_then_else_, given}
 use Rattle.firing.specs.Firing.{Weights, fired, fire}
 use Rattle.net.specs.Net.{Net}
 use Rattle.net_file.specs.Limits.{Limits}
-use Rattle.bindings.specs.Effect.{Binding, effect}
+use Rattle.bindings.specs.Effect.{Binding, transitionAt, weightsOf, colouring, guardTrue, effect}
 use Rattle.bindings.specs.Orders.{named, fireOrder}
 use Rattle.bindings.proofs.Named.{named-order}
 use Rattle.row_numbers.specs.Unfolding.{rows, rowNumber}
 use Rattle.unfolding.specs.Demand3.{guardHolds, asRow}
 use Rattle.row_numbers.proofs.Rows.{rowed, noRow, absent-row, present-row}
+
+-- a binding has an effect exactly where its guard holds
+guard-told : (n : Net) (b : Binding) {o : Option Weights} → effect n b ≡ o → guardTrue n b ≡ given o false (λ w. true)
+unfolding effect
+guard-told n b e = rw (← e) (go (guardTrue n b))
+  where
+    go : (t : Bool) → t ≡ given (if t then some (weightsOf n (transitionAt n (b .transition)) (colouring n b)) else none) false (λ w. true)
+    go true = refl
+    go false = refl
 
 -- how an order stands to the rows: it has none, for it names no binding or the guard is false; or it has one, with its effect
 pub data Stands (n : Net) (order : List ℕ) : Type 0 where
@@ -26,11 +35,11 @@ module _ (n : Net) (limits : Limits n) where
     where
       by-effect : (b : Binding) → named n order ≡ some b → (o : Option Weights) → effect n b ≡ o → Stands n order
       by-effect b e none f =
-          without (absent-row n limits order (λ c w g h. let z : _≡_ {A = ℕ} 0 1 = cc in absurd (omega arith))) (rw (e, f)) (λ m. rw (e, f))
+          without (absent-row n limits order (λ c w g h. let z : _≡_ {A = ℕ} 0 1 = cc in absurd (omega arith))) (rw e (guard-told n b f)) (λ m. rw (e, f))
       by-effect b e (some w) f =
           let (m, q) = named-order n (limits .few-variables) order six e in
           let (i, r, g) = present-row n limits order m q f in
-          within i w r g (rw (e, f)) (λ m. rw (e, f))
+          within i w r g (rw e (guard-told n b f)) (λ m. rw (e, f))
 
       by-name : (o : Option Binding) → named n order ≡ o → Stands n order
       by-name none e = without (absent-row n limits order (λ b w g h. let z : _≡_ {A = ℕ} 0 1 = cc in absurd (omega arith))) (rw e) (λ m. rw e)

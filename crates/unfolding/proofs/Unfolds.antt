@@ -5,7 +5,7 @@ use native.Mathlib.Omega.{arith}
 use borrow.Author.Tests.{le-leb, lt-leb, leb-true, leb-false}
 use lib.ListN.{length-append}
 use lib.Seq.{length-take-le}
-use Rattle.reading.specs.Basics.{ℕ, _+_, _*_, _/_, Bool, true, false, not, List, [], _∷_, _++_, flatMap, length, getD, take, leb, below, over}
+use Rattle.reading.specs.Basics.{ℕ, _+_, _*_, _/_, Bool, true, false, not, List, [], _∷_, _++_, flatMap, length, getD, take, drop, leb, below, over}
 use Rattle.reading.specs.Reading.{Outcome, accepted, refused, failing}
 use Rattle.flat_file.specs.Flat.{rowBytes, writeFlat}
 use Rattle.flat_file.proofs.Written.{placeBytes, length-places}
@@ -27,8 +27,7 @@ use Rattle.row_numbers.specs.internal.Walked.{Tables}
 use Rattle.row_bytes.specs.internal.RowBytes.{transitionBytes, Ruled, Small, Tabled}
 use Rattle.row_numbers.specs.internal.Marks.{Marked, Counted}
 use Rattle.flat_file.specs.internal.Output.{Appended}
-use Rattle.flat_file.proofs.Appending.{append-then, append-all, append-count, front}
-use Rattle.unfolding.proofs.Decimals.{line-length}
+use Rattle.flat_file.proofs.Appending.{append-then, append-all, append-count}
 use Rattle.row_bytes.proofs.RowBytes.{rows-bytes, tables-ready}
 use Rattle.unfolding.proofs.Initial.{initial-counted}
 
@@ -125,7 +124,7 @@ abbrev called : Outcome ℕ → List ℕ → WriteCall
 called result out = record { result = result; out = out }
 
 data Shown (s out : List ℕ) : Type 0 where
-  whole : (n : Net) → length (flatFile n) ≤ 65536 → unfoldCall s out ≡ called (accepted (length (flatFile n))) (over (flatFile n) out) → program s ≡ flatFile n → Shown s out
+  whole : (n : Net) → unfoldCall s out ≡ called (accepted (length (flatFile n))) (over (flatFile n) out) → program s ≡ flatFile n → Shown s out
   short : (number place : ℕ) → unfoldCall s out ≡ called (refused number place) out → program s ≡ line number place → Shown s out
 
 shown : (s out : List ℕ) → length out ≡ 65536 → Shown s out
@@ -135,7 +134,7 @@ shown s out sized = by-net (readNet s) refl
     by-space : (n : Net) → readNet s ≡ accepted n → (t : Bool) → leb (length (flatFile n)) 65536 ≡ t → Shown s out
     by-space n f true t =
         let le = leb-true (length (flatFile n)) 65536 t in
-        whole n le (sym (unfold-whole s out f (omega arith))) (rw (f, t))
+        whole n (sym (unfold-whole s out f (omega arith))) (rw (f, t))
     by-space n f false t =
         let lt = leb-false (length (flatFile n)) 65536 t in
         short 14 0 (sym (unfold-short s out f (omega arith))) (rw (f, t))
@@ -146,14 +145,13 @@ shown s out sized = by-net (readNet s) refl
 
 module _ (s out exit : List ℕ) (sized : length out ≡ 65536) where
   -- a file that was written is what the program writes
-  pub program-writes : (k : ℕ) → called (accepted k) exit ≡ unfoldCall s out → (k ≤ 65536) × (take k exit ≡ program s)
+  pub program-writes : (k : ℕ) → called (accepted k) exit ≡ unfoldCall s out → (k ≡ length (program s)) × (exit ≡ over (program s) out)
   program-writes k e = go (shown s out sized)
     where
-      go : Shown s out → (k ≤ 65536) × (take k exit ≡ program s)
-      go (whole n le q p) =
+      go : Shown s out → (k ≡ length (program s)) × (exit ≡ over (program s) out)
+      go (whole n q p) =
           let i : k ≡ length (flatFile n) = let r : accepted k ≡ accepted (length (flatFile n)) = ap (λ c. c .result) (e ∙ q) in cc in
-          let j : exit ≡ over (flatFile n) out = ap (λ c. c .out) (e ∙ q) in
-          (omega arith, rw (i, j, p) (front (flatFile n) out))
+          rw p (i, ap (λ c. c .out) (e ∙ q))
       go (short number place q p) =
           let r : accepted k ≡ refused number place = ap (λ c. c .result) (e ∙ q) in let z : _≡_ {A = ℕ} 0 1 = cc in absurd (omega arith)
 
@@ -162,7 +160,7 @@ module _ (s out exit : List ℕ) (sized : length out ≡ 65536) where
   program-refuses number place e = go (shown s out sized)
     where
       go : Shown s out → (exit ≡ out) × (line number place ≡ program s)
-      go (whole n le q p) = let r : refused number place ≡ accepted (length (flatFile n)) = ap (λ c. c .result) (e ∙ q) in let z : _≡_ {A = ℕ} 0 1 = cc in absurd (omega arith)
+      go (whole n q p) = let r : refused number place ≡ accepted (length (flatFile n)) = ap (λ c. c .result) (e ∙ q) in let z : _≡_ {A = ℕ} 0 1 = cc in absurd (omega arith)
       go (short a b q p) =
           let r : refused number place ≡ refused a b = ap (λ c. c .result) (e ∙ q) in
           let i : number ≡ a = cc in
@@ -171,7 +169,11 @@ module _ (s out exit : List ℕ) (sized : length out ≡ 65536) where
 
   -- the line, written
   pub program-line : (number place : ℕ) {k : ℕ} {written : List ℕ} → called (refused number place) exit ≡ unfoldCall s out → k ≡ length (line number place)
-      → written ≡ over (line number place) exit → (k ≤ 65536) × (take k written ≡ program s)
+      → written ≡ over (line number place) exit → (k ≡ length (program s)) × (written ≡ over (program s) out)
   program-line number place e i j =
-      let p = program-refuses number place e .1 in
-      (omega (arith, line-length number place), rw (i, j) (front (line number place) exit ∙ p))
+      let (kept, p) = program-refuses number place e in
+      rw (← p) (i, rw (← kept) j)
+
+-- what the program writes has room in the lent list
+pub program-within : (s out : List ℕ) {k : ℕ} {exit : List ℕ} → k ≡ length (program s) → exit ≡ over (program s) out → k ≤ length exit
+program-within s out i j = rw j (omega (arith, length-append (program s) (drop (length (program s)) out)))

@@ -3,15 +3,13 @@ use crate::call::UnfoldReply;
 use crate::call::unfold;
 use crate::text::write_line;
 ghost use mathlib.Core.Path.{_≡_};
-ghost use Prim.Native.Nat.{_≤_};
-ghost use lib.ListN.{length, take};
+ghost use lib.ListN.{length};
+ghost use Rattle.reading.specs.Basics.{over};
 ghost use Rattle.row_numbers.specs.Unfolding.{program};
 
-// The flat file of a net file, or the line of its refusal; it gives the number of bytes.
-pub fn write_reply(net: &[u8], out: &mut [u8]) -> usize
-    requires { ⌜ length (now out) ≡ 65536 ⌝ }
-    ensures fits { λ r. ⌜ r ≤ 65536 ⌝ }
-    ensures is { λ r. ⌜ take r (now (out .exit)) ≡ program (now (net .entry)) ⌝ }
+// The flat file of a net file, or the line of its refusal, over the front of `out`; it gives the number of bytes.
+pub fn write_reply(net: &[u8], out: &mut [u8; 65536]) -> usize
+    ensures { λ r. ⌜ (r ≡ length (program (now (net .entry)))) × (now (out .exit) ≡ over (program (now (net .entry))) (now (out .entry))) ⌝ }
 {
     match unfold(net, out) {
         UnfoldReply::Written { length } => length,

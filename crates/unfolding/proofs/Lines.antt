@@ -1,0 +1,84 @@
+-- The line of a refusal spells its number and its place. Assumes nothing.
+use mathlib.Core.Path.{_≡_, refl, sym, _∙_}
+use Prim.Native.Nat.{_≤_, _<_, _^_}
+use native.Mathlib.Omega.{arith}
+use native.Mathlib.Nat.{pow-suc}
+use borrow.Author.Tests.{ltb-true, ltb-false}
+use lib.ListN.{length-append, List·getD-append}
+use Rattle.reading.specs.Basics.{ℕ, zero, suc, _+_, _*_, _-_, _/_, _%_, Bool, true, false, Option, none, some, List, [], _∷_, _++_, length, ltb, leb, if_then_else_, given, byteAt}
+use Rattle.reading.specs.Reading.{Outcome, accepted, refused, failing, permitted}
+use Rattle.net.specs.Net.{Net}
+use Rattle.net_file.specs.NetFile.{readNet}
+use Rattle.net_file.proofs.Refusals.{refusals-fit}
+use Rattle.row_numbers.specs.Unfolding.{flatFile, decimal, fitsProgram}
+use Rattle.unfolding.specs.Line.{numeralFrom, numeral, Spells, LineTells}
+use Rattle.unfolding.proofs.Decimals.{digit}
+
+-- ---- a number in tens
+-- one digit more
+numeral-more : (n : ℕ) (l : List ℕ) (d : ℕ) → numeralFrom n (l ++ (d ∷ [])) ≡ 10 * numeralFrom n l + (d - 0x30)
+unfolding numeralFrom
+numeral-more n [] d = refl
+numeral-more n (x ∷ l) d = numeral-more (10 * n + (x - 0x30)) l d
+
+-- digits enough for a number stand for it
+value : (digits n : ℕ) → n < 10 ^ digits → numeral (decimal digits n) ≡ n
+unfolding numeralFrom decimal
+value zero n h = omega arith
+value (suc k) n h = go (ltb n 10) refl (value k (n / 10) (omega (arith, pow-suc 10 k)))
+  where
+    go : (t : Bool) → ltb n 10 ≡ t → numeral (decimal k (n / 10)) ≡ n / 10 → numeral ((if t then [] else decimal k (n / 10)) ++ digit n) ≡ n
+    go true e before = let lt = ltb-true n 10 e in omega arith
+    go false e before = numeral-more 0 (decimal k (n / 10)) (0x30 + n % 10) ∙ rw before (omega arith)
+
+-- and only 0 begins with 0
+no-zero : (k n : ℕ) → n < 10 ^ suc k → byteAt (decimal (suc k) n) 0 ≡ 0x30 → n ≡ 0
+unfolding decimal
+no-zero zero n h e = go (ltb n 10) e
+  where
+    go : (t : Bool) → byteAt ((if t then [] else []) ++ digit n) 0 ≡ 0x30 → n ≡ 0
+    go true q = omega arith
+    go false q = omega arith
+no-zero (suc k) n h e = go (ltb n 10) refl (no-zero k (n / 10) (omega (arith, pow-suc 10 (suc k)))) e
+  where
+    front : List ℕ
+    front = decimal (suc k) (n / 10)
+
+    go : (t : Bool) → ltb n 10 ≡ t → (byteAt front 0 ≡ 0x30 → n / 10 ≡ 0) → byteAt ((if t then [] else front) ++ digit n) 0 ≡ 0x30 → n ≡ 0
+    go true f before q = let lt = ltb-true n 10 f in omega arith
+    go false f before q =
+        let least = ltb-false n 10 f in
+        let some-digit : 0 < length front = rw length-append (omega arith) in
+        let none = before (sym (List·getD-append front (digit n) 0 0 some-digit) ∙ q) in
+        omega arith
+
+-- ---- the line
+spells : (n : ℕ) → n < 100000 → Spells (decimal 5 n) n
+spells n h = record { value = value 5 n h; no-zero = no-zero 4 n h }
+
+pub line-tells : LineTells
+unfolding failing
+line-tells s number place e = (spells number (let f = small .0 in omega arith), spells place (let f = small .1 in omega arith))
+  where
+    by-space : (n : Net) (o : Option ℕ) → failing (fitsProgram n) ≡ o → (given o (accepted n) λ k. refused k 0) ≡ refused number place → (number ≤ 15) × (place ≤ 16384)
+    by-space n none f q = let z : _≡_ {A = ℕ} 0 1 = cc in absurd (omega arith)
+    by-space n (some k) f q = by-number (leb (length (flatFile n)) 65536) f
+      where
+        by-number : (t : Bool) → (if t then none else some 14) ≡ some k → (number ≤ 15) × (place ≤ 16384)
+        by-number true g = let z : _≡_ {A = ℕ} 0 1 = cc in absurd (omega arith)
+        by-number false g =
+            let i : number ≡ k = cc in
+            let j : place ≡ 0 = cc in
+            let l : 14 ≡ k = cc in
+            (omega arith, omega arith)
+
+    by-net : (o : Outcome Net) → readNet s ≡ o → permitted fitsProgram o ≡ refused number place → (number ≤ 15) × (place ≤ 16384)
+    by-net (accepted n) f q = by-space n (failing (fitsProgram n)) refl q
+    by-net (refused k p) f q =
+        let fits = refusals-fit s k p f in
+        let i : number ≡ k = cc in
+        let j : place ≡ p = cc in
+        rw (i, j) fits
+
+    small : (number ≤ 15) × (place ≤ 16384)
+    small = by-net (readNet s) refl e
