@@ -3,15 +3,17 @@ use mathlib.Core.Path.{_≡_, refl, sym, _∙_}
 use Prim.Native.Nat.{_≤_, _<_, _^_}
 use native.Mathlib.Omega.{arith}
 use native.Mathlib.Nat.{pow-suc}
-use borrow.Author.Tests.{ltb-true, ltb-false}
+use borrow.Author.Tests.{ltb-true, ltb-false, le-leb}
 use lib.ListN.{length-append, List·getD-append}
-use Rattle.reading.specs.Basics.{ℕ, zero, suc, _+_, _*_, _-_, _/_, _%_, Bool, true, false, Option, none, some, List, [], _∷_, _++_, length, ltb, leb, if_then_else_, given, byteAt}
+use Rattle.reading.specs.Basics.{ℕ, zero, suc, _+_, _*_, _-_, _/_, _%_, Bool, true, false, Option, none, some, List, [], _∷_, _++_, length, ltb, leb, if_then_else_, given, every, byteAt}
 use Rattle.reading.specs.Reading.{Outcome, accepted, refused, failing, permitted}
+use Rattle.reading.proofs.Commands.{both-hold}
+use Rattle.reading.proofs.Lists.{all-with, every-in, in-every}
 use Rattle.net.specs.Net.{Net}
 use Rattle.net_file.specs.NetFile.{readNet}
 use Rattle.net_file.proofs.Refusals.{refusals-fit}
-use Rattle.row_numbers.specs.Unfolding.{flatFile, decimal, fitsProgram}
-use Rattle.unfolding.specs.Line.{numeralFrom, numeral, Spells, LineTells}
+use Rattle.row_numbers.specs.Unfolding.{flatFile, decimal, line, fitsProgram}
+use Rattle.unfolding.specs.Line.{numeralFrom, numeral, isDigit, Spells, LineTells}
 use Rattle.unfolding.proofs.Decimals.{digit}
 
 -- ---- a number in tens
@@ -20,6 +22,19 @@ numeral-more : (n : ℕ) (l : List ℕ) (d : ℕ) → numeralFrom n (l ++ (d ∷
 unfolding numeralFrom
 numeral-more n [] d = refl
 numeral-more n (x ∷ l) d = numeral-more (10 * n + (x - 0x30)) l d
+
+-- its digits are digits
+digit-is : (n : ℕ) → isDigit (0x30 + n % 10) ≡ true
+digit-is n = both-hold _ _ (le-leb 0x30 (0x30 + n % 10) (omega arith)) (le-leb (0x30 + n % 10) 0x39 (omega arith))
+
+all-digits : (digits n : ℕ) → every isDigit (decimal digits n) ≡ true
+unfolding decimal every
+all-digits zero n = refl
+all-digits (suc k) n = go (ltb n 10) (all-digits k (n / 10))
+  where
+    go : (t : Bool) → every isDigit (decimal k (n / 10)) ≡ true → every isDigit ((if t then [] else decimal k (n / 10)) ++ digit n) ≡ true
+    go true before = both-hold _ _ (digit-is n) refl
+    go false before = in-every isDigit (all-with (every-in isDigit (decimal k (n / 10)) before) (digit-is n))
 
 -- digits enough for a number stand for it
 value : (digits n : ℕ) → n < 10 ^ digits → numeral (decimal digits n) ≡ n
@@ -53,12 +68,12 @@ no-zero (suc k) n h e = go (ltb n 10) refl (no-zero k (n / 10) (omega (arith, po
         omega arith
 
 -- ---- the line
-spells : (n : ℕ) → n < 100000 → Spells (decimal 5 n) n
-spells n h = record { value = value 5 n h; no-zero = no-zero 4 n h }
+spells : (k n : ℕ) → n < 10 ^ suc k → Spells (decimal (suc k) n) n
+spells k n h = record { all-digits = all-digits (suc k) n; value = value (suc k) n h; no-zero = no-zero k n h }
 
 pub line-tells : LineTells
 unfolding failing
-line-tells s number place e = (spells number (let f = small .0 in omega arith), spells place (let f = small .1 in omega arith))
+line-tells s number place e = (spells _ number (let f = small .0 in omega arith), spells _ place (let f = small .1 in omega arith))
   where
     by-space : (n : Net) (o : Option ℕ) → failing (fitsProgram n) ≡ o → (given o (accepted n) λ k. refused k 0) ≡ refused number place → (number ≤ 15) × (place ≤ 16384)
     by-space n none f q = let z : _≡_ {A = ℕ} 0 1 = cc in absurd (omega arith)
@@ -82,3 +97,12 @@ line-tells s number place e = (spells number (let f = small .0 in omega arith), 
 
     small : (number ≤ 15) × (place ≤ 16384)
     small = by-net (readNet s) refl e
+
+-- document 01's example, byte by byte, and what its digits stand for
+line-9-27 : line 9 27 ≡ 0x72 ∷ 0x65 ∷ 0x66 ∷ 0x75 ∷ 0x73 ∷ 0x65 ∷ 0x64 ∷ 0x20 ∷ 0x39 ∷ 0x20 ∷ 0x61 ∷ 0x74 ∷ 0x20 ∷ 0x32 ∷ 0x37 ∷ 0x0A ∷ []
+unfolding decimal
+line-9-27 = refl
+
+numeral-27 : numeral (0x32 ∷ 0x37 ∷ []) ≡ 27
+unfolding numeralFrom
+numeral-27 = refl

@@ -1,6 +1,6 @@
 -- The line of a refusal, stated: its digits are the refusal's own numbers. Types only, no proof.
 use mathlib.Core.Path.{_≡_}
-use Rattle.reading.specs.Basics.{ℕ, _+_, _*_, _-_, List, [], _∷_, byteAt}
+use Rattle.reading.specs.Basics.{ℕ, _+_, _*_, _-_, Bool, true, _&&_, List, [], _∷_, leb, every, byteAt}
 use Rattle.reading.specs.Reading.{refused, permitted}
 use Rattle.net_file.specs.NetFile.{readNet}
 use Rattle.row_numbers.specs.Unfolding.{fitsProgram, decimal}
@@ -13,8 +13,13 @@ numeralFrom n (digit ∷ digits) = numeralFrom (10 * n + (digit - 0x30)) digits
 abbrev pub numeral : List ℕ → ℕ
 numeral digits = numeralFrom 0 digits
 
--- digits that stand for a number, with no 0 in front of others
+-- the bytes of digits, 0 to 9
+abbrev pub isDigit : ℕ → Bool
+isDigit b = leb 0x30 b && leb b 0x39
+
+-- bytes that spell a number: digits, which stand for it, with no 0 in front of others
 pub record Spells (digits : List ℕ) (n : ℕ) : Type 0 where
+  pub all-digits : every isDigit digits ≡ true
   pub value : numeral digits ≡ n
   pub no-zero : byteAt digits 0 ≡ 0x30 → n ≡ 0
 
