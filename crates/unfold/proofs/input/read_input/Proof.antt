@@ -5,10 +5,6 @@ use lib.ListN.{length}
 use mathlib.Core.Path.{_≡_, _∙_}
 use Rattle.unfold.proofs.input.read_input.Statement.{statement}
 use Rattle.unfold.proofs.input.read_input.Tie as tie
-use Rattle.unfold.proofs.input.read_input.Reads as reads
-use Rattle.unfold.proofs.input.read_input.Lts as lts
-use Rattle.io.proofs.count.Reads as count-reads
-use Rattle.libc.proofs.read.Reads as read-reads
 
 abbrev Inv-loop : tie.InvT-loop
 Inv-loop net₀ done₀ net done = (length net ≡ length net₀) × (done ≤ length net)
@@ -16,99 +12,27 @@ Inv-loop net₀ done₀ net done = (length net ≡ length net₀) × (done ≤ l
 abbrev μ-loop : tie.MeasureT-loop
 μ-loop net₀ done₀ net done = length net - done
 
--- src/input.rt:18:5
-loop-holds : tie.Need-loop-holds Inv-loop μ-loop
-loop-holds c = search needs
-
--- src/input.rt:19:44
-sub-read : tie.Need-sub-read Inv-loop μ-loop
-sub-read c = search needs
-
--- src/input.rt:19:44
-part-read-start : tie.Need-part-read-start Inv-loop μ-loop
-part-read-start c = search needs
-
--- src/input.rt:19:44
-part-read-end : tie.Need-part-read-end Inv-loop μ-loop
-part-read-end c = search needs
-
--- src/input.rt:19:13
-read-requires : tie.Need-read-requires Inv-loop μ-loop
-read-requires c κs = search needs
-
--- src/input.rt:21:13
-same-length : tie.Need-same-length Inv-loop μ-loop
-same-length c = c .before .before .net .given .1 ∙ c .before .before .before .before .before .before .loop .inv .0
-
--- src/input.rt:21:13
-returns : tie.Need-returns Inv-loop μ-loop
-returns c = search needs
-
--- src/input.rt:23:35
-sub-count : tie.Need-sub-count Inv-loop μ-loop
-sub-count c = search needs
-
--- src/input.rt:23:35
-part-count-start : tie.Need-part-count-start Inv-loop μ-loop
-part-count-start c = search needs
-
--- src/input.rt:23:35
-part-count-end : tie.Need-part-count-end Inv-loop μ-loop
-part-count-end c = search needs
-
--- src/input.rt:23:13
-count-requires : tie.Need-count-requires Inv-loop μ-loop
-count-requires c κs = search needs
-
--- src/input.rt:25:13
-same-length-2 : tie.Need-same-length-2 Inv-loop μ-loop
-same-length-2 c = c .before .before .before .before .before .before .net .given .1 ∙ c .before .before .before .before .before .before .before .before .before .before .loop .inv .0
-
--- src/input.rt:25:13
-returns-2 : tie.Need-returns-2 Inv-loop μ-loop
-returns-2 c = search needs
-
--- src/input.rt:27:9
-add-done : tie.Need-add-done Inv-loop μ-loop
-add-done c = omega (arith, c .before .count .ensures .0 .0, c .before .before .before .before .before .before .net .given .1, c .before .before .before .before .before .before .before .before .before .before .loop .inv .0)
-
--- src/input.rt:18:5
-loop-less : tie.Need-loop-less Inv-loop μ-loop
-loop-less c = search needs
-
--- src/input.rt:18:5
-loop-again : tie.Need-loop-again Inv-loop μ-loop
-loop-again c = search needs
-
--- src/input.rt:14:1
-same-length-3 : tie.Need-same-length-3 Inv-loop μ-loop
-same-length-3 c = c .before .loop .inv .0
-
--- src/input.rt:14:1
-returns-3 : tie.Need-returns-3 Inv-loop μ-loop
-returns-3 c = search needs
-
 pub read-input-spec : {M : Type 1} → statement M
 read-input-spec =
     tie.close
     (tie.spec
     Inv-loop
     μ-loop
-    loop-holds
-    sub-read
-    part-read-start
-    part-read-end
-    read-requires
-    same-length
-    returns
-    sub-count
-    part-count-start
-    part-count-end
-    count-requires
-    same-length-2
-    returns-2
-    add-done
-    loop-less
-    loop-again
-    same-length-3
-    returns-3)
+    (λ c. search needs)
+    (λ c. search needs)
+    (λ c. search needs)
+    (λ c. search needs)
+    (λ c κs. search needs)
+    (λ c. c .before .before .net .given .1 ∙ c .before .before .before .before .before .before .loop .inv .0)
+    (λ c. search needs)
+    (λ c. search needs)
+    (λ c. search needs)
+    (λ c. search needs)
+    (λ c κs. search needs)
+    (λ c. c .before .before .before .before .before .before .net .given .1 ∙ c .before .before .before .before .before .before .before .before .before .before .loop .inv .0)
+    (λ c. search needs)
+    (λ c. omega (arith, c .before .count .ensures .0 .0, c .before .before .before .before .before .before .net .given .1, c .before .before .before .before .before .before .before .before .before .before .loop .inv .0))
+    (λ c. search needs)
+    (λ c. search needs)
+    (λ c. c .before .loop .inv .0)
+    (λ c. search needs))
