@@ -1,13 +1,13 @@
 // The calls of the flat side: each reads its buffers, and runs on exactly their lengths.
-use crate::input::file_buffer;
-use crate::input::marking_buffer;
-use crate::input::read_bytes;
-use crate::input::read_counts;
-use crate::text::say;
-use crate::text::say_bytes;
-use crate::text::say_counts;
-use crate::text::say_number;
-use crate::text::say_refused;
+use streams::file_buffer;
+use streams::marking_buffer;
+use streams::read_bytes;
+use streams::read_counts;
+use streams::say;
+use streams::say_bytes;
+use streams::say_counts;
+use streams::say_number;
+use streams::say_refused;
 
 pub fn sizes_case() {
     let mut file = file_buffer();

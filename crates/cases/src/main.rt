@@ -1,21 +1,19 @@
 // The test program: reads a stream of cases, makes their calls, and writes what each returned and every buffer that was lent for writing.
 // tests/README.md tells both forms.
 mod flat_calls;
-mod input;
 mod net_calls;
-mod text;
 
 use flat_calls::fire_case;
 use flat_calls::first_case;
 use flat_calls::sizes_case;
-use input::read_call;
 use net_calls::first_order_case;
 use net_calls::images_case;
 use net_calls::net_sizes_case;
 use net_calls::order_case;
 use net_calls::orders_case;
 use net_calls::unfold_case;
-use text::say_case;
+use streams::read_call;
+use streams::say_case;
 
 // Runs one call by its number, and answers whether there is such a call.
 fn run(call: u8, number: u64) -> bool {

@@ -1,4 +1,4 @@
-// Unfolds net files into flat files, and says what the program writes; that drawing and flat net behave alike is stated in specs/ and proved.
+// Unfolds net files into flat files, and says what the program writes.
 mod call;
 mod program;
 mod text;

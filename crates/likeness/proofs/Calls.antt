@@ -17,9 +17,9 @@ use Rattle.net_file.specs.Limits.{Limits}
 use Rattle.net_file.proofs.Limits.{limits}
 use Rattle.bindings.specs.Orders.{fireOrder, fireOrders}
 use Rattle.row_numbers.specs.Unfolding.{unfolded, flatFile, rowNumber, image, images, WriteCall, writing, unfoldCall, imagesCall}
-use Rattle.unfolding.specs.Demand3.{twoAsOne, asRow, asRows, FireCallsAgree}
-use Rattle.unfolding.proofs.Answers.{lists-agree}
-use Rattle.unfolding.proofs.Likeness.{place-count, alike}
+use Rattle.likeness.specs.Demand3.{twoAsOne, asRow, asRows, FireCallsAgree}
+use Rattle.likeness.proofs.Answers.{lists-agree}
+use Rattle.likeness.proofs.Likeness.{place-count, alike}
 
 -- ---- what a call wrote
 -- what a writing call gives, by what was read and permitted

@@ -2,8 +2,8 @@
 use borrow.Author.Needs.{needs}
 use Prim.Native.Nat.{_-_}
 use lib.ListN.{length}
-use Rattle.cases.proofs.text.say_bytes.Statement.{statement}
-use Rattle.cases.proofs.text.say_bytes.Tie as tie
+use Rattle.streams.proofs.text.say_bytes.Statement.{statement}
+use Rattle.streams.proofs.text.say_bytes.Tie as tie
 
 abbrev Inv-loop : tie.InvT-loop
 Inv-loop name bytes i₀ t4 t5 i = Unit {0}

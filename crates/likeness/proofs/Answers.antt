@@ -17,9 +17,9 @@ use Rattle.bindings.specs.Effect.{Binding, effect}
 use Rattle.bindings.specs.Orders.{named, fireOrder}
 use Rattle.bindings.proofs.Clash.{clash}
 use Rattle.row_numbers.specs.Unfolding.{Rowed, rows, unfolded, rowNumber, image, images}
-use Rattle.unfolding.specs.Demand3.{Marking, guardHolds, asRow, ListsAgree, RowsFireAlike}
+use Rattle.likeness.specs.Demand3.{Marking, guardHolds, asRow, ListsAgree, RowsFireAlike}
 use Rattle.firing.proofs.Weighted.{row-agrees}
-use Rattle.unfolding.proofs.Standing.{Stands, without, within, stands}
+use Rattle.likeness.proofs.Standing.{Stands, without, within, stands}
 use Rattle.row_numbers.proofs.Rows.{noRow, rows-few}
 
 -- an image carries its number

@@ -9,7 +9,7 @@ use Rattle.bindings.specs.Effect.{Binding, transitionAt, weightsOf, colouring, 
 use Rattle.bindings.specs.Orders.{named, fireOrder}
 use Rattle.bindings.proofs.Named.{named-order}
 use Rattle.row_numbers.specs.Unfolding.{rows, rowNumber}
-use Rattle.unfolding.specs.Demand3.{guardHolds, asRow}
+use Rattle.likeness.specs.Demand3.{guardHolds, asRow}
 use Rattle.row_numbers.proofs.Rows.{rowed, noRow, absent-row, present-row}
 
 -- a binding has an effect exactly where its guard holds

@@ -21,12 +21,12 @@ use Rattle.bindings.specs.Orders.{fireOrder}
 use Rattle.bindings.proofs.Clash.{clash}
 use Rattle.rows.proofs.FlatPlaces.{flat-places}
 use Rattle.row_numbers.specs.Unfolding.{Rowed, rows, initialAt, unfolded, rowNumber, orderOfRow, image, images}
-use Rattle.unfolding.specs.Demand3.{Orders, guardHolds, RowsHaveOrders, ImagesTell, WayBack, InBytes, SomeFires, Alike, Demand3}
+use Rattle.likeness.specs.Demand3.{Orders, guardHolds, RowsHaveOrders, ImagesTell, WayBack, InBytes, SomeFires, Alike, Demand3}
 use Rattle.firing.proofs.Weighted.{row-proper}
-use Rattle.unfolding.proofs.Standing.{Stands, without, within, stands}
+use Rattle.likeness.proofs.Standing.{Stands, without, within, stands}
 use Rattle.row_numbers.proofs.Rows.{rows-few, row-order, number-of-order, order-of-number}
-use Rattle.unfolding.proofs.Answers.{image-back, order-answered, row-fires, lists-agree, rows-fire-alike}
-use Rattle.unfolding.proofs.InBytes.{bytes-joined, image-bytes, images-bytes, guarded-bytes}
+use Rattle.likeness.proofs.Answers.{image-back, order-answered, row-fires, lists-agree, rows-fire-alike}
+use Rattle.likeness.proofs.InBytes.{bytes-joined, image-bytes, images-bytes, guarded-bytes}
 
 -- ---- the flat net keeps to the flat file's limits
 pub row-count : (n : Net) → length (unfolded n .rows) ≡ length (rows n)

@@ -3,8 +3,8 @@ use borrow.Author.Needs.{needs}
 use native.Mathlib.Omega.{arith}
 use lib.ListN.{length-append}
 use Rattle.io.proofs.Counting.{counts, front}
-use Rattle.cases.proofs.input.read_bytes.Statement.{statement}
-use Rattle.cases.proofs.input.read_bytes.Tie as tie
+use Rattle.streams.proofs.input.read_bytes.Statement.{statement}
+use Rattle.streams.proofs.input.read_bytes.Tie as tie
 
 pub read-bytes-spec : {M : Type 1} → statement M
 read-bytes-spec =

@@ -16,11 +16,11 @@ use Rattle.bindings.specs.Effect.{Binding, bindings, effect}
 use Rattle.bindings.specs.Orders.{orderOf, fireOrder, firstOrder}
 use Rattle.bindings.proofs.Named.{order-names}
 use Rattle.row_numbers.specs.Unfolding.{Rowed, rows, unfolded, flatFile, orderOfRow, image, unfoldCall, orderCall}
-use Rattle.unfolding.specs.Demand3.{Marking, FirstAlike, both-found, both-nothing, both-refused, FirstCallsAgree}
+use Rattle.likeness.specs.Demand3.{Marking, FirstAlike, both-found, both-nothing, both-refused, FirstCallsAgree}
 use Rattle.row_numbers.proofs.Rows.{rowed, rowedIf, rowed-is}
-use Rattle.unfolding.proofs.Answers.{image-back, row-fires}
-use Rattle.unfolding.proofs.Likeness.{place-count, row-count, alike}
-use Rattle.unfolding.proofs.Calls.{writing-went, front}
+use Rattle.likeness.proofs.Answers.{image-back, row-fires}
+use Rattle.likeness.proofs.Likeness.{place-count, row-count, alike}
+use Rattle.likeness.proofs.Calls.{writing-went, front}
 
 -- ---- any candidates, of which some pass
 -- two that are first go together, or there are none

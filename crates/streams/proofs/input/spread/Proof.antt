@@ -6,8 +6,8 @@ use Prim.Native.Nat.{_-_, _≤_}
 use mathlib.Core.Path.{_≡_}
 use lib.ListN.{length, length-set}
 use Rattle.io.proofs.Counting.{counts}
-use Rattle.cases.proofs.input.spread.Statement.{statement}
-use Rattle.cases.proofs.input.spread.Tie as tie
+use Rattle.streams.proofs.input.spread.Statement.{statement}
+use Rattle.streams.proofs.input.spread.Tie as tie
 
 abbrev Inv-loop : tie.InvT-loop
 Inv-loop bytes marking₀ i₀ marking i = (i ≤ length marking) × (length marking ≡ length marking₀)

@@ -15,7 +15,7 @@ use Rattle.bindings.proofs.Clash.{clash}
 use Rattle.bindings.proofs.Named.{let-through}
 use Rattle.row_numbers.specs.Unfolding.{rows, rowNumber, image, images}
 use Rattle.row_numbers.proofs.Rows.{noRow, rows-few}
-use Rattle.unfolding.specs.Demand3.{guardHolds}
+use Rattle.likeness.specs.Demand3.{guardHolds}
 
 -- ---- any lists
 -- each element is a byte

@@ -2,8 +2,8 @@
 use borrow.Author.Needs.{needs}
 use Prim.Native.Nat.{_-_}
 use lib.ListN.{length}
-use Rattle.cases.proofs.text.say_counts.Statement.{statement}
-use Rattle.cases.proofs.text.say_counts.Tie as tie
+use Rattle.streams.proofs.text.say_counts.Statement.{statement}
+use Rattle.streams.proofs.text.say_counts.Tie as tie
 
 abbrev Inv-loop : tie.InvT-loop
 Inv-loop name counts i₀ t4 t5 i = Unit {0}

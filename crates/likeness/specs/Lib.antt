@@ -1,0 +1,2 @@
+-- The meaning.
+pub mod Demand3
