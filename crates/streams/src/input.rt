@@ -12,11 +12,11 @@ pub fn file_buffer() -> [u8; 131072]
     [0u8; 131072]
 }
 
-// A buffer for a marking.
-pub fn marking_buffer() -> [u16; 8192]
-    ensures { λ r. ⌜ 8192 ≡ length r ⌝ }
+// A buffer for a marking; wrong ones of twice 4,096 counts and one more have room in it.
+pub fn marking_buffer() -> [u16; 16384]
+    ensures { λ r. ⌜ 16384 ≡ length r ⌝ }
 {
-    [0u16; 8192]
+    [0u16; 16384]
 }
 
 // The number of the next call, 0 at the input's end.
