@@ -11,7 +11,7 @@ use lib.Seq.{getD-set-same, getD-set-other, getD-at}
 use lib.Pow.{pow-pos}
 use Rattle.reading.specs.Basics.{ℕ, zero, suc, _+_, _*_, _/_, _%_, Bool, true, false, List, [], _∷_, map, length, getD, ltb, eqb, if_then_else_, with, below, numbersFrom, keep}
 use Rattle.reading.proofs.Lists.{In, at-in, at-below, getD-at as getD-in}
-use Rattle.net.specs.Net.{Net, always, variablesOf, inTransition}
+use Rattle.net.specs.Net.{Net, variablesOf, inTransition, noTransition}
 use Rattle.net.specs.internal.ReaderEnums.{bits, member}
 use Rattle.net_file.specs.Limits.{Limits}
 use Rattle.net_file.specs.Formed.{Formed}
@@ -197,7 +197,7 @@ module _ (n : Net) {sizes vars : List ℕ} (uses : List ℕ) (es : n .sets ≡ s
   unfolding variablesOf
   row-listed t lt e listed k less =
       let it = at-below (n .transitions) t lt in
-      let at : In (transitionAt n t) (n .transitions) = subst (λ u. In u (n .transitions)) (sym (getD-in (n .transitions) t (record { guard = always; arcs = [] }) (it .1))) (at-in (n .transitions) t (it .1)) in
+      let at : In (transitionAt n t) (n .transitions) = subst (λ u. In u (n .transitions)) (sym (getD-in (n .transitions) t noTransition (it .1))) (at-in (n .transitions) t (it .1)) in
       rw (es, ev) (rw ev at (listed .slots (λ v. inTransition v (transitionAt n t)) (length (n .variables)) (e ∙ used t lt) (l .variables) (used-below n formed (transitionAt n t) at) (l .few-variables t lt) k less))
 
   pub rows-go : {u : ℕ} {own after : List ℕ} (t : ℕ) → t < length (n .transitions) → u ≡ getD uses t 0 → Listed u sizes vars (t * 4) own after → Rows n own t → Rows n after (t + 1)

@@ -10,7 +10,7 @@ use lib.ListN.{length-map, List·getD-eq-default}
 use lib.Seq.{take-all, take-suc}
 use Rattle.reading.specs.Basics.{ℕ, zero, suc, _+_, _*_, Bool, true, false, List, [], _∷_, map, length, getD, take, ltb, eqb, if_then_else_, replicate, below, keep, product}
 use Rattle.reading.proofs.Lists.{In, here, there, in-cases, Apart, alone, new, apart-from, in-from, of-from, at-in, at-below, getD-at}
-use Rattle.net.specs.Net.{Net, always, sizeOf, sizesOf, variablesOf, inTransition}
+use Rattle.net.specs.Net.{Net, sizeOf, sizesOf, variablesOf, inTransition, noTransition}
 use Rattle.net_file.specs.Limits.{Limits}
 use Rattle.net_file.specs.Formed.{Formed}
 use Rattle.bindings.specs.Effect.{transitionAt, standsFor}
@@ -104,7 +104,7 @@ module _ (n : Net) (t : ℕ) where
   pub held-binds : (env : List ℕ) → Formed n → t < length (n .transitions) → Binds n (binding t (coloursIn env theirs)) env
   held-binds env f lt v e =
       let it = at-below (n .transitions) t lt in
-      let at : In (transitionAt n t) (n .transitions) = subst (λ u. In u (n .transitions)) (sym (getD-at (n .transitions) t (record { guard = always; arcs = [] }) (it .1))) (at-in (n .transitions) t (it .1)) in
+      let at : In (transitionAt n t) (n .transitions) = subst (λ u. In u (n .transitions)) (sym (getD-at (n .transitions) t noTransition (it .1))) (at-in (n .transitions) t (it .1)) in
       sym (held-stands env theirs (theirs-all v (used-below n f (transitionAt n t) at v e) e))
 
 -- ---- the first binding

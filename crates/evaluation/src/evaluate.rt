@@ -2,11 +2,11 @@
 // Nothing is asked of the bytes: where they hold a tree, what comes out is the tree's.
 use net::entry;
 ghost use mathlib.Core.Path.{_≡_};
-ghost use mathlib.Core.List.{List, []};
+ghost use mathlib.Core.List.{List};
 ghost use Prim.Native.Nat.{ℕ, _≤_, _<_, _+_, _^_};
 ghost use lib.ListN.{length};
 ghost use Rattle.reading.specs.Basics.{if_then_else_, ltb, eqb};
-ghost use Rattle.net.specs.Net.{net, Place, equal, less};
+ghost use Rattle.net.specs.Net.{Place, equal, less, scope};
 ghost use Rattle.net.specs.Reader.{readColour, readGuard, comparison, amount};
 ghost use Rattle.evaluation.specs.internal.Evaluated.{Valued, Held, Ranks, placeBy, after, before};
 
@@ -41,8 +41,8 @@ fn before_in(size: u8, c: u16) -> u16
 // The colour expression at a place, with so many levels left. The file and the tables are handed on by address.
 fn colour_at(s: &&[u8], sizes: &&[u8], vars: &&[u8], env: &[u8; 32], left: u8, at: usize) -> Value
     requires { ⌜ length (now (now s)) < 2 ^ 63 ⌝ }
-    ensures is { λ r. ⌜ ((places : List Place) → Valued (net (now (now (sizes .entry))) (now (now (vars .entry))) places [] []) (now (env .entry)) r
-        (readColour (now (now (s .entry))) (net (now (now (sizes .entry))) (now (now (vars .entry))) places [] []) left at)) ⌝ }
+    ensures is { λ r. ⌜ ((places : List Place) → Valued (scope (now (now (sizes .entry))) (now (now (vars .entry))) places) (now (env .entry)) r
+        (readColour (now (now (s .entry))) (scope (now (now (sizes .entry))) (now (now (vars .entry))) places) left at)) ⌝ }
     ensures small { λ r. ⌜ r .colour ≤ 255 + left ⌝ }
 {
     let file = *s;
@@ -116,9 +116,9 @@ fn compared_at(
     next: usize,
 ) -> Tested
     requires { ⌜ length (now (now s)) < 2 ^ 63 ⌝ }
-    ensures { λ r. ⌜ ((places : List Place) (at : ℕ) → Held (net (now (now (sizes .entry))) (now (now (vars .entry))) places [] []) (now (env .entry)) r
-        (comparison (net (now (now (sizes .entry))) (now (now (vars .entry))) places [] [])
-        (readColour (now (now (s .entry))) (net (now (now (sizes .entry))) (now (now (vars .entry))) places [] []) left) (if lesser then less else equal) at next)) ⌝ }
+    ensures { λ r. ⌜ ((places : List Place) (at : ℕ) → Held (scope (now (now (sizes .entry))) (now (now (vars .entry))) places) (now (env .entry)) r
+        (comparison (scope (now (now (sizes .entry))) (now (now (vars .entry))) places)
+        (readColour (now (now (s .entry))) (scope (now (now (sizes .entry))) (now (now (vars .entry))) places) left) (if lesser then less else equal) at next)) ⌝ }
 {
     let file = *s;
     if next < file.len() {
@@ -147,8 +147,8 @@ fn compared_at(
 // The guard at a place, with so many levels left.
 fn guard_at(s: &&[u8], sizes: &&[u8], vars: &&[u8], env: &[u8; 32], left: u8, at: usize) -> Tested
     requires { ⌜ length (now (now s)) < 2 ^ 63 ⌝ }
-    ensures { λ r. ⌜ ((places : List Place) → Held (net (now (now (sizes .entry))) (now (now (vars .entry))) places [] []) (now (env .entry)) r
-        (readGuard (now (now (s .entry))) (net (now (now (sizes .entry))) (now (now (vars .entry))) places [] []) left at)) ⌝ }
+    ensures { λ r. ⌜ ((places : List Place) → Held (scope (now (now (sizes .entry))) (now (now (vars .entry))) places) (now (env .entry)) r
+        (readGuard (now (now (s .entry))) (scope (now (now (sizes .entry))) (now (now (vars .entry))) places) left at)) ⌝ }
 {
     let file = *s;
     if file.len() <= at {
@@ -214,8 +214,8 @@ pub fn eval_guard(
     left: u8,
     at: usize,
 ) -> Tested
-    ensures { λ r. ⌜ ((places : List Place) → Held (net (now (sizes .entry)) (now (vars .entry)) places [] []) (now (env .entry)) r
-        (readGuard (now (s .entry)) (net (now (sizes .entry)) (now (vars .entry)) places [] []) left at)) ⌝ }
+    ensures { λ r. ⌜ ((places : List Place) → Held (scope (now (sizes .entry)) (now (vars .entry)) places) (now (env .entry)) r
+        (readGuard (now (s .entry)) (scope (now (sizes .entry)) (now (vars .entry)) places) left at)) ⌝ }
 {
     guard_at(&s, &sizes, &vars, env, left, at)
 }
@@ -237,9 +237,9 @@ fn rank_at(
     next: usize,
 ) -> Ranked
     requires { ⌜ length (now (now s)) < 2 ^ 63 ⌝ }
-    ensures { λ r. ⌜ ((places : List Place) (first second count at : ℕ) → Ranks (net (now (now (sizes .entry))) (now (now (vars .entry))) places [] []) (now (env .entry)) count r
-        (amount (net (now (now (sizes .entry))) (now (now (vars .entry))) places [] [])
-        (readColour (now (now (s .entry))) (net (now (now (sizes .entry))) (now (now (vars .entry))) places [] []) left) (placeBy paired first second) count at next)) ⌝ }
+    ensures { λ r. ⌜ ((places : List Place) (first second count at : ℕ) → Ranks (scope (now (now (sizes .entry))) (now (now (vars .entry))) places) (now (env .entry)) count r
+        (amount (scope (now (now (sizes .entry))) (now (now (vars .entry))) places)
+        (readColour (now (now (s .entry))) (scope (now (now (sizes .entry))) (now (now (vars .entry))) places) left) (placeBy paired first second) count at next)) ⌝ }
 {
     let a = colour_at(s, sizes, vars, env, left, next);
     if paired {
@@ -266,9 +266,9 @@ pub fn eval_rank(
     left: u8,
     next: usize,
 ) -> Ranked
-    ensures { λ r. ⌜ ((places : List Place) (first second count at : ℕ) → Ranks (net (now (sizes .entry)) (now (vars .entry)) places [] []) (now (env .entry)) count r
-        (amount (net (now (sizes .entry)) (now (vars .entry)) places [] [])
-        (readColour (now (s .entry)) (net (now (sizes .entry)) (now (vars .entry)) places [] []) left) (placeBy paired first second) count at next)) ⌝ }
+    ensures { λ r. ⌜ ((places : List Place) (first second count at : ℕ) → Ranks (scope (now (sizes .entry)) (now (vars .entry)) places) (now (env .entry)) count r
+        (amount (scope (now (sizes .entry)) (now (vars .entry)) places)
+        (readColour (now (s .entry)) (scope (now (sizes .entry)) (now (vars .entry)) places) left) (placeBy paired first second) count at next)) ⌝ }
 {
     rank_at(&s, &sizes, &vars, env, paired, left, next)
 }

@@ -8,12 +8,12 @@ use Rattle.reading.specs.Basics.{ℕ, Bool, true, false, List, [], _∷_, map, 
 use Rattle.reading.proofs.Lists.{All, end, also, in-all, at-map, below-at, getD-at, every-in}
 use Rattle.reading.proofs.Items.{items-joined, of-six}
 use Rattle.firing.specs.Firing.{Weights, fired, lacks, hindered, moved, spills, fire, run}
-use Rattle.firing.specs.Arcs.{row, weights, rowOf}
+use Rattle.firing.specs.Arcs.{row, weights}
 use Rattle.firing.proofs.Agree.{fire-same, fire-length}
 use Rattle.flat_file.specs.Flat.{fireRow, fireImage}
 use Rattle.net.specs.Net.{Net, flatPlaceCount}
 use Rattle.net_file.specs.Limits.{Limits}
-use Rattle.bindings.specs.Effect.{Binding, effect}
+use Rattle.bindings.specs.Effect.{Binding, effect, flatRow}
 use Rattle.bindings.specs.Orders.{named, fireOrder}
 use Rattle.bindings.proofs.Clash.{clash}
 use Rattle.row_numbers.specs.Unfolding.{Rowed, rows, unfolded, rowNumber, image, images}
@@ -58,19 +58,19 @@ module _ (n : Net) where
   pub row-fires : (i : ℕ) {r : Rowed} (m : List ℕ) → Marking n m → getElem? (rows n) i ≡ some r → fireImage (unfolded n) (image i) m ≡ fire (r .weights) m
   unfolding fireImage fireRow unfolded
   row-fires i {r} m sized e =
-      let lt : i < length (map (λ x. rowOf (flatPlaceCount n) (x .weights)) (rows n)) = rw length-map (below-at (rows n) i e) in
+      let lt : i < length (map (λ x. flatRow n (x .weights)) (rows n)) = rw length-map (below-at (rows n) i e) in
       rw (
         image-back i,
-        lt-ltb i (length (map (λ x. rowOf (flatPlaceCount n) (x .weights)) (rows n))) lt,
-        getD-at (map (λ x. rowOf (flatPlaceCount n) (x .weights)) (rows n)) i (row [] [] []) (at-map (λ x. rowOf (flatPlaceCount n) (x .weights)) (rows n) i e),
+        lt-ltb i (length (map (λ x. flatRow n (x .weights)) (rows n))) lt,
+        getD-at (map (λ x. flatRow n (x .weights)) (rows n)) i (row [] [] []) (at-map (λ x. flatRow n (x .weights)) (rows n) i e),
       )
-      (fire-same (weights (rowOf (flatPlaceCount n) (r .weights))) (r .weights) m (rw sized (row-agrees (flatPlaceCount n) (r .weights))))
+      (fire-same (weights (flatRow n (r .weights))) (r .weights) m (rw sized (row-agrees (flatPlaceCount n) (r .weights))))
 
   -- no such row
   pub no-row-fires : (i : ℕ) (m : List ℕ) → length (rows n) ≤ i → fireImage (unfolded n) (image i) m ≡ fired 1 m
   unfolding fireImage fireRow unfolded
   no-row-fires i m le =
-      rw (image-back i, le-ltb i (length (map (λ x. rowOf (flatPlaceCount n) (x .weights)) (rows n))) (rw length-map le))
+      rw (image-back i, le-ltb i (length (map (λ x. flatRow n (x .weights)) (rows n))) (rw length-map le))
 
   module _ (limits : Limits n) where
     -- one order

@@ -8,7 +8,7 @@ use lib.ListN.{length-map}
 use Rattle.reading.specs.Basics.{ℕ, Bool, true, false, List, [], _∷_, map, flatMap, Option, none, some, Option·map, length, getD, getElem?, ltb, eqb, if_then_else_, given, items, longAt, Bytes}
 use Rattle.reading.proofs.Lists.{All, end, also, all-in, in-all, at-below, below-at, at-map, all-map, getD-at, map-flat, flatMap-same, every-in, in-every}
 use Rattle.reading.proofs.Items.{items-joined, of-six, joined-sixes}
-use Rattle.firing.specs.Arcs.{row, rowOf}
+use Rattle.firing.specs.Arcs.{row}
 use Rattle.flat_file.specs.Flat.{fireImage}
 use Rattle.flat_file.specs.Flat as flat
 use Rattle.flat_file.proofs.RoundTrip.{round-trip}
@@ -16,7 +16,7 @@ use Rattle.flat_file.proofs.OneFile.{one-file}
 use Rattle.net.specs.Net.{Net, flatPlaceCount}
 use Rattle.net_file.specs.Limits.{Limits}
 use Rattle.net_file.proofs.Limits.{limits}
-use Rattle.bindings.specs.Effect.{flatPlaces}
+use Rattle.bindings.specs.Effect.{flatPlaces, flatRow}
 use Rattle.bindings.specs.Orders.{fireOrder}
 use Rattle.bindings.proofs.Clash.{clash}
 use Rattle.rows.proofs.FlatPlaces.{flat-places}
@@ -31,16 +31,16 @@ use Rattle.likeness.proofs.InBytes.{bytes-joined, image-bytes, images-b
 -- ---- the flat net keeps to the flat file's limits
 pub row-count : (n : Net) → length (unfolded n .rows) ≡ length (rows n)
 unfolding unfolded
-row-count n = length-map (rows n) (λ r. rowOf (flatPlaceCount n) (r .weights))
+row-count n = length-map (rows n) (λ r. flatRow n (r .weights))
 
 pub place-count : (n : Net) → length (unfolded n .initial) ≡ flatPlaceCount n
 unfolding unfolded
 place-count n = length-map (flatPlaces n) (initialAt n) ∙ flat-places n
 
 -- the row at a number
-row-at : (n : Net) (i : ℕ) {r : Rowed} → getElem? (rows n) i ≡ some r → getD (unfolded n .rows) i (row [] [] []) ≡ rowOf (flatPlaceCount n) (r .weights)
+row-at : (n : Net) (i : ℕ) {r : Rowed} → getElem? (rows n) i ≡ some r → getD (unfolded n .rows) i (row [] [] []) ≡ flatRow n (r .weights)
 unfolding unfolded
-row-at n i e = getD-at (unfolded n .rows) i (row [] [] []) (at-map (λ r. rowOf (flatPlaceCount n) (r .weights)) (rows n) i e)
+row-at n i e = getD-at (unfolded n .rows) i (row [] [] []) (at-map (λ r. flatRow n (r .weights)) (rows n) i e)
 
 -- within the limits
 pub unfolded-limits : (n : Net) → Limits n → flat.Limits (unfolded n)

@@ -1,25 +1,21 @@
 -- How an order stands to the rows of a net. Assumes nothing.
-use mathlib.Core.Path.{_≡_, refl}
+use mathlib.Core.Path.{_≡_, refl, sym, _∙_}
 use native.Mathlib.Omega.{arith}
-use Rattle.reading.specs.Basics.{ℕ, Bool, true, false, List, Option, none, some, length, getElem?, if_then_else_, given}
+use Rattle.reading.specs.Basics.{ℕ, true, false, List, Option, none, some, length, getElem?, given}
 use Rattle.firing.specs.Firing.{Weights, fired, fire}
 use Rattle.net.specs.Net.{Net}
 use Rattle.net_file.specs.Limits.{Limits}
-use Rattle.bindings.specs.Effect.{Binding, transitionAt, weightsOf, colouring, guardTrue, effect}
+use Rattle.bindings.specs.Effect.{Binding, guardTrue, effect}
 use Rattle.bindings.specs.Orders.{named, fireOrder}
 use Rattle.bindings.proofs.Named.{named-order}
 use Rattle.row_numbers.specs.Unfolding.{rows, rowNumber}
 use Rattle.likeness.specs.Demand3.{guardHolds, asRow}
 use Rattle.row_numbers.proofs.Rows.{rowed, noRow, absent-row, present-row}
+use Rattle.bindings.proofs.Legal.{legal-is, legal-told}
 
 -- a binding has an effect exactly where its guard holds
 guard-told : (n : Net) (b : Binding) {o : Option Weights} → effect n b ≡ o → guardTrue n b ≡ given o false (λ w. true)
-unfolding effect
-guard-told n b e = rw (← e) (go (guardTrue n b))
-  where
-    go : (t : Bool) → t ≡ given (if t then some (weightsOf n (transitionAt n (b .transition)) (colouring n b)) else none) false (λ w. true)
-    go true = refl
-    go false = refl
+guard-told n b e = sym (legal-is n b) ∙ legal-told n b e
 
 -- how an order stands to the rows: it has none, for it names no binding or the guard is false; or it has one, with its effect
 pub data Stands (n : Net) (order : List ℕ) : Type 0 where

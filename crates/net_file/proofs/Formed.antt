@@ -9,7 +9,7 @@ use Rattle.reading.specs.Reading.{fault, under, accepted, refused, outcome, _un
 use Rattle.reading.proofs.Lists.{In, in-cases, here, there, All, end, also, all-with, in-all, all-in, in-every, every-in}
 use Rattle.reading.proofs.Commands.{both-hold}
 use Rattle.reading.proofs.Gives.{both-first, both-second, Gives, gives, stops, GivesIf, anything, of-outcome, checked-gives, repeat-gives, then-gives, under-gives, standing-gives, given-gives, file-gives}
-use Rattle.net.specs.Net.{Colour, variable, constant, successor, predecessor, Guard, always, opposite, both, either, equal, less, Expression, one, two, all, plus, minus, times, Place, Arc, Transition, Tokens, Net, net, setsOf, coloursOf, placeAt, arcOn, tokensOn, setOf, ceiling, variablesOf, bindingSpace}
+use Rattle.net.specs.Net.{Colour, variable, constant, successor, predecessor, Guard, always, opposite, both, either, equal, less, Expression, one, two, all, plus, minus, times, Place, Arc, Transition, Tokens, Net, net, setsOf, coloursOf, placeAt, arcOn, tokensOn, setOf, ceiling, variablesOf, bindingSpace, scope}
 use Rattle.net.specs.Reader.{readExpression, readGuardIf}
 use Rattle.net_parts.specs.Parts.{setPart, variablePart, placePart, tokensPart}
 use Rattle.net_transitions.specs.Transitions.{arcPart, ended, transitionPart}
@@ -165,14 +165,14 @@ content-keeps : (s : List ℕ) (start : ℕ) → Gives (Good s) (content s start
 unfolding once
 content-keeps s start =
     then-gives (anything (whole s (setPart s) [] start)) (λ sets at a.
-    then-gives (anything (whole s (variablePart s (net sets [] [] [] [])) [] at)) (λ variables at b.
-    then-gives (anything (whole s (placePart s (net sets variables [] [] [])) [] at)) (λ places at c.
-    then-gives (repeat-gives _ (transition-keeps s (net sets variables places [] [])) _ [] at (record { formed = end; words = λ bytes. end })) (λ transitions at d.
+    then-gives (anything (whole s (variablePart s (scope sets [] [])) [] at)) (λ variables at b.
+    then-gives (anything (whole s (placePart s (scope sets variables [])) [] at)) (λ places at c.
+    then-gives (repeat-gives _ (transition-keeps s (scope sets variables places)) _ [] at (record { formed = end; words = λ bytes. end })) (λ transitions at d.
     then-gives (repeat-gives _ (tokens-keep s (net sets variables places transitions [])) _ [] at (record { formed = end; single = refl; words = λ bytes. end })) (λ tokens at e.
     let n : Net = net sets variables places transitions tokens in
     gives (record {
       formed = record {
-        transitions = in-every (transitionFormed n) (in-all transitions (λ t m. sym (same-transition (net sets variables places [] []) n refl refl refl t) ∙ all-in (d .formed) m));
+        transitions = in-every (transitionFormed n) (in-all transitions (λ t m. sym (same-transition (scope sets variables places) n refl refl refl t) ∙ all-in (d .formed) m));
         tokens = in-every (tokensFormed n) (e .formed);
         tokens-once = e .single;
       };

@@ -8,7 +8,7 @@ use Rattle.reading.specs.Basics.{ℕ, _+_, _-_, Bool, true, false, _&&_, List, 
 use Rattle.reading.specs.Reading.{fine, fault, accepted, refused, outcome, _unless_, checked, whole, file}
 use Rattle.reading.proofs.Lists.{All, end, also, all-with, all-getD}
 use Rattle.reading.proofs.Keeps.{no-value, both-true, checked-went, then-went, standing-went, repeat-keeps, file-went, outcome-went}
-use Rattle.net.specs.Net.{always, Place, single, pair, Transition, Tokens, Net, net, setsOf, coloursOf, variablesOf, bindingSpace}
+use Rattle.net.specs.Net.{Place, single, pair, Transition, Tokens, Net, net, setsOf, coloursOf, variablesOf, bindingSpace, noTransition, scope}
 use Rattle.net.specs.Reader.{readGuardIf}
 use Rattle.net_parts.specs.Parts.{setPart, variablePart, placePart, tokensPart}
 use Rattle.net_transitions.specs.Transitions.{arcPart, transitionPart}
@@ -85,7 +85,7 @@ transition-keeps s n transitions more at next k e = standing-went s at (also (λ
 -- ---- the whole net
 -- the parts together
 kept : (sets variables : List ℕ) (places : List Place) (transitions : List Transition) (tokens : List Tokens)
-    → SetsKeep sets → VariablesKeep sets variables → PlacesKeep (net sets variables [] [] []) places → TransitionsKeep (net sets variables places [] []) transitions
+    → SetsKeep sets → VariablesKeep sets variables → PlacesKeep (scope sets variables []) places → TransitionsKeep (scope sets variables places) transitions
     → Limits (net sets variables places transitions tokens)
 unfolding variablesOf
 kept sets variables places transitions tokens a b c d =
@@ -98,7 +98,7 @@ kept sets variables places transitions tokens a b c d =
       place-sets = λ p lt. all-getD p (single 0) (c .1) lt;
       flat-places = c .2;
       transitions = d .0;
-      few-variables = λ t lt. all-getD t (record { guard = always; arcs = [] }) (d .1) lt;
+      few-variables = λ t lt. all-getD t noTransition (d .1) lt;
       space = d .2;
     }
 
@@ -106,16 +106,16 @@ kept sets variables places transitions tokens a b c d =
 content-keeps : (s : List ℕ) (start : ℕ) {n : Net} {last : ℕ} → content s start ≡ fine n last → Limits n
 content-keeps s start {n} {last} e =
     then-went (whole s (setPart s) [] start) _ e λ sets at₁ f e.
-    then-went (whole s (variablePart s (net sets [] [] [] [])) [] at₁) _ e λ variables at₂ g e.
-    then-went (whole s (placePart s (net sets variables [] [] [])) [] at₂) _ e λ places at₃ h e.
-    then-went (whole s (transitionPart s (net sets variables places [] [])) [] at₃) _ e λ transitions at₄ i e.
+    then-went (whole s (variablePart s (scope sets [] [])) [] at₁) _ e λ variables at₂ g e.
+    then-went (whole s (placePart s (scope sets variables [])) [] at₂) _ e λ places at₃ h e.
+    then-went (whole s (transitionPart s (scope sets variables places)) [] at₃) _ e λ transitions at₄ i e.
     then-went (whole s (tokensPart s (net sets variables places transitions [])) [] at₄) _ e λ tokens at₅ j e.
     let is : net sets variables places transitions tokens ≡ n = cc in
     rw (← is) (kept sets variables places transitions tokens
     (repeat-keeps (setPart s) SetsKeep (set-keeps s) (length s - start) start (omega arith, end) f)
-    (repeat-keeps (variablePart s (net sets [] [] [] [])) (VariablesKeep sets) (variable-keeps s (net sets [] [] [] [])) (length s - at₁) at₁ (omega arith, end) g)
-    (repeat-keeps (placePart s (net sets variables [] [] [])) (PlacesKeep (net sets variables [] [] [])) (place-keeps s (net sets variables [] [] [])) (length s - at₂) at₂ (omega arith, end, omega arith) h)
-    (repeat-keeps (transitionPart s (net sets variables places [] [])) (TransitionsKeep (net sets variables places [] [])) (transition-keeps s (net sets variables places [] [])) (length s - at₃) at₃
+    (repeat-keeps (variablePart s (scope sets [] [])) (VariablesKeep sets) (variable-keeps s (scope sets [] [])) (length s - at₁) at₁ (omega arith, end) g)
+    (repeat-keeps (placePart s (scope sets variables [])) (PlacesKeep (scope sets variables [])) (place-keeps s (scope sets variables [])) (length s - at₂) at₂ (omega arith, end, omega arith) h)
+    (repeat-keeps (transitionPart s (scope sets variables places)) (TransitionsKeep (scope sets variables places)) (transition-keeps s (scope sets variables places)) (length s - at₃) at₃
     (omega arith, end, omega arith) i))
 
 -- a file that is accepted has 16,384 bytes at most

@@ -8,7 +8,7 @@ use Rattle.reading.specs.Reading.{Answer, fault, outcome, refused, _unless_, ne
 use Rattle.reading.proofs.Lists.{end, also}
 use Rattle.reading.proofs.Within.{by-test}
 use Rattle.reading.proofs.Faults.{Fits, goes, tells, From, Steps, checks-fit, given-fits, repeat-fits, of-refusal, then-fits, under-fits, standing-fits, needed-fits, file-fits}
-use Rattle.net.specs.Net.{Colour, successor, predecessor, Guard, opposite, both, either, equal, less, Expression, plus, minus, times, Place, single, pair, Transition, Net, net, placeAt, setOf, ceiling, variablesOf, bindingSpace}
+use Rattle.net.specs.Net.{Colour, successor, predecessor, Guard, opposite, both, either, equal, less, Expression, plus, minus, times, Place, single, pair, Transition, Net, net, placeAt, setOf, ceiling, variablesOf, bindingSpace, scope}
 use Rattle.net.specs.Reader.{twoOf, colourCommands, readColour, comparison, guardCommands, readGuard, amount, capped, expressionCommands, readExpression, readGuardIf}
 use Rattle.net.proofs.Shut.{commands}
 use Rattle.net_parts.specs.Parts.{setPart, variablePart, placePart, tokensPart}
@@ -130,9 +130,9 @@ module _ (s : List ℕ) (n : Net) where
 content-fits : (s : List ℕ) → From (length s) (content s)
 content-fits s at le =
     then-fits (repeat-fits _ (set-fits s) _ [] at le) (λ sets at le.
-    then-fits (repeat-fits _ (variable-fits s (net sets [] [] [] [])) _ [] at le) (λ variables at le.
-    then-fits (repeat-fits _ (place-fits s (net sets variables [] [] [])) _ [] at le) (λ places at le.
-    then-fits (repeat-fits _ (transition-fits s (net sets variables places [] [])) _ [] at le) (λ transitions at le.
+    then-fits (repeat-fits _ (variable-fits s (scope sets [] [])) _ [] at le) (λ variables at le.
+    then-fits (repeat-fits _ (place-fits s (scope sets variables [])) _ [] at le) (λ places at le.
+    then-fits (repeat-fits _ (transition-fits s (scope sets variables places)) _ [] at le) (λ transitions at le.
     then-fits (repeat-fits _ (tokens-fit s (net sets variables places transitions [])) _ [] at le) (λ tokens at le. goes le)))))
 
 -- a file that is not overlong has 16,384 bytes at most

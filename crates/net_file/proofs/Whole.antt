@@ -7,7 +7,7 @@ use lib.Seq.{length-take-le, getD-take}
 use Rattle.reading.specs.Basics.{ℕ, _+_, List, [], _∷_, some, length, getD, take, eqb, byteAt}
 use Rattle.reading.proofs.Commands.{end, other, passes, done, fails, needed-past, needed-stray, needs-cut, needs-fails, needs-goes}
 use Rattle.reading.specs.Reading.{Answer, fine, fault, _andThen_, outcome, accepted, refused, _unless_, checked, command, needed, whole, file}
-use Rattle.net.specs.Net.{Place, single, Transition, Tokens, Net, net, variablesOf, bindingSpace}
+use Rattle.net.specs.Net.{Place, single, Transition, Tokens, Net, net, variablesOf, bindingSpace, scope}
 use Rattle.net.specs.Reader.{widthOf}
 use Rattle.net_parts.specs.Parts.{setPart, variablePart, placePart, tokensPart}
 use Rattle.net_transitions.specs.Transitions.{transitionPart}
@@ -33,13 +33,13 @@ afterTransitions s sets variables places transitions at =
     whole s (tokensPart s (net sets variables places transitions [])) [] at andThen λ tokens at. fine (net sets variables places transitions tokens) at
 
 abbrev pub afterPlaces : List ℕ → List ℕ → List ℕ → List Place → ℕ → Answer Net
-afterPlaces s sets variables places at = whole s (transitionPart s (net sets variables places [] [])) [] at andThen afterTransitions s sets variables places
+afterPlaces s sets variables places at = whole s (transitionPart s (scope sets variables places)) [] at andThen afterTransitions s sets variables places
 
 abbrev pub afterVariables : List ℕ → List ℕ → List ℕ → ℕ → Answer Net
-afterVariables s sets variables at = whole s (placePart s (net sets variables [] [] [])) [] at andThen afterPlaces s sets variables
+afterVariables s sets variables at = whole s (placePart s (scope sets variables [])) [] at andThen afterPlaces s sets variables
 
 abbrev pub afterSets : List ℕ → List ℕ → ℕ → Answer Net
-afterSets s sets at = whole s (variablePart s (net sets [] [] [] [])) [] at andThen afterVariables s sets
+afterSets s sets at = whole s (variablePart s (scope sets [] [])) [] at andThen afterVariables s sets
 
 -- a part that is whole hands its value and the next place on; a fault of it is the file's
 goes : {A : Type 0} (s : List ℕ) (f : A → ℕ → Answer Net) {x : Answer A} {a : A} {at : ℕ} → Left s (x andThen f) → fine a at ≡ x → Left s (f a at)
@@ -56,25 +56,25 @@ module _ (s : List ℕ) (start : ℕ) (l : Left s (content s start)) where
   sets-stop e = stops s (afterSets s) l e
 
 module _ (s sets : List ℕ) (start : ℕ) (l : Left s (afterSets s sets start)) where
-  pub variables-go : {variables : List ℕ} {at : ℕ} → fine variables at ≡ whole s (variablePart s (net sets [] [] [] [])) [] start → Left s (afterVariables s sets variables at)
+  pub variables-go : {variables : List ℕ} {at : ℕ} → fine variables at ≡ whole s (variablePart s (scope sets [] [])) [] start → Left s (afterVariables s sets variables at)
   variables-go e = goes s (afterVariables s sets) l e
 
-  pub variables-stop : {k p : ℕ} → fault k p ≡ whole s (variablePart s (net sets [] [] [] [])) [] start → readNet s ≡ refused k p
+  pub variables-stop : {k p : ℕ} → fault k p ≡ whole s (variablePart s (scope sets [] [])) [] start → readNet s ≡ refused k p
   variables-stop e = stops s (afterVariables s sets) l e
 
 module _ (s sets variables : List ℕ) (start : ℕ) (l : Left s (afterVariables s sets variables start)) where
-  pub places-go : {places : List Place} {at : ℕ} → fine places at ≡ whole s (placePart s (net sets variables [] [] [])) [] start → Left s (afterPlaces s sets variables places at)
+  pub places-go : {places : List Place} {at : ℕ} → fine places at ≡ whole s (placePart s (scope sets variables [])) [] start → Left s (afterPlaces s sets variables places at)
   places-go e = goes s (afterPlaces s sets variables) l e
 
-  pub places-stop : {k p : ℕ} → fault k p ≡ whole s (placePart s (net sets variables [] [] [])) [] start → readNet s ≡ refused k p
+  pub places-stop : {k p : ℕ} → fault k p ≡ whole s (placePart s (scope sets variables [])) [] start → readNet s ≡ refused k p
   places-stop e = stops s (afterPlaces s sets variables) l e
 
 module _ (s sets variables : List ℕ) (places : List Place) (start : ℕ) (l : Left s (afterPlaces s sets variables places start)) where
-  pub transitions-go : {transitions : List Transition} {at : ℕ} → fine transitions at ≡ whole s (transitionPart s (net sets variables places [] [])) [] start
+  pub transitions-go : {transitions : List Transition} {at : ℕ} → fine transitions at ≡ whole s (transitionPart s (scope sets variables places)) [] start
       → Left s (afterTransitions s sets variables places transitions at)
   transitions-go e = goes s (afterTransitions s sets variables places) l e
 
-  pub transitions-stop : {k p : ℕ} → fault k p ≡ whole s (transitionPart s (net sets variables places [] [])) [] start → readNet s ≡ refused k p
+  pub transitions-stop : {k p : ℕ} → fault k p ≡ whole s (transitionPart s (scope sets variables places)) [] start → readNet s ≡ refused k p
   transitions-stop e = stops s (afterTransitions s sets variables places) l e
 
 module _ (s sets variables : List ℕ) (places : List Place) (transitions : List Transition) (start : ℕ) (l : Left s (afterTransitions s sets variables places transitions start)) where
@@ -87,13 +87,13 @@ module _ (s sets variables : List ℕ) (places : List Place) (transitions : List
 
 -- ---- what the tables hold
 space-same : (sets variables : List ℕ) (places : List Place) (ts : List Transition) (tokens : List Tokens)
-    → bindingSpace (net sets variables places ts tokens) ts ≡ bindingSpace (net sets variables places [] []) ts
+    → bindingSpace (net sets variables places ts tokens) ts ≡ bindingSpace (scope sets variables places) ts
 unfolding variablesOf
 space-same sets variables places ts tokens = refl
 
 -- where places begin goes by the sets alone
 pub started-over : {sets variables : List ℕ} {places : List Place} {ts : List Transition} {tokens : List Tokens} {starts : List ℕ} {count total : ℕ}
-    → Started (net sets [] [] [] []) places starts count total → Started (net sets variables places ts tokens) places starts count total
+    → Started (scope sets [] []) places starts count total → Started (net sets variables places ts tokens) places starts count total
 started-over h = record { few = h .few; small = h .small; are = h .are; all = h .all; begin = h .begin }
 
 -- what is told of tokens that were read
@@ -103,7 +103,7 @@ tokens-by s n start starts initial e h = rw e at h
 
 module _ (s sizes vars firsts seconds starts : List ℕ) {sets variables places total : ℕ} (few-sets : sets ≤ 16) (few-variables : variables ≤ 32)
     (first-sized : length firsts ≡ 32) (second-sized : length seconds ≡ 32)
-    (started : Started (net (take sets sizes) [] [] [] []) (placesOf (take places firsts) (take places seconds)) starts places total) where
+    (started : Started (scope (take sets sizes) [] []) (placesOf (take places firsts) (take places seconds)) starts places total) where
   place-by : (p : ℕ) → p < places → placeOf (getD firsts p 0) (getD seconds p 0) ≡ getD (placesOf (take places firsts) (take places seconds)) p (single 0)
   place-by p lt =
       let a = length-take-le places firsts (omega (arith, started .few)) in let b = length-take-le places seconds (omega (arith, started .few)) in

@@ -1,9 +1,9 @@
 -- What an accepted net keeps to, and what a refusal does.
 use Prim.Native.Nat.{_≤_, _<_}
 use mathlib.Core.Path.{_≡_}
-use Rattle.reading.specs.Basics.{ℕ, true, List, [], length, getD, ltb, every}
+use Rattle.reading.specs.Basics.{ℕ, true, List, length, getD, ltb, every}
 use Rattle.reading.specs.Reading.{refused}
-use Rattle.net.specs.Net.{always, Net, sizeOf, setsOf, placeAt, flatPlaceCount, variablesOf, bindingSpace}
+use Rattle.net.specs.Net.{Net, sizeOf, setsOf, placeAt, flatPlaceCount, variablesOf, bindingSpace, noTransition}
 use Rattle.net_file.specs.NetFile.{readNet}
 
 pub record Limits (n : Net) : Type 0 where
@@ -19,7 +19,7 @@ pub record Limits (n : Net) : Type 0 where
   pub flat-places : flatPlaceCount n ≤ 4096
   -- at most 32 transitions, each of at most 4 variables, with at most 65,536 bindings together
   pub transitions : length (n .transitions) ≤ 32
-  pub few-variables : (t : ℕ) → t < length (n .transitions) → length (variablesOf n (getD (n .transitions) t (record { guard = always; arcs = [] }))) ≤ 4
+  pub few-variables : (t : ℕ) → t < length (n .transitions) → length (variablesOf n (getD (n .transitions) t noTransition)) ≤ 4
   pub space : bindingSpace n (n .transitions) ≤ 65536
 
 -- a refusal's number is at most 15, and its place at most 16,384

@@ -1,7 +1,7 @@
 -- Reading a whole net file.
 use Rattle.reading.specs.Basics.{ℕ, List, [], length, ltb, if_then_else_}
 use Rattle.reading.specs.Reading.{Answer, fine, _andThen_, Outcome, outcome, refused, whole, file}
-use Rattle.net.specs.Net.{Net, net}
+use Rattle.net.specs.Net.{Net, net, scope}
 use Rattle.net_parts.specs.Parts.{setPart, variablePart, placePart, tokensPart}
 use Rattle.net_transitions.specs.Transitions.{transitionPart}
 
@@ -9,9 +9,9 @@ use Rattle.net_transitions.specs.Transitions.{transitionPart}
 abbrev pub content : List ℕ → ℕ → Answer Net
 content s start =
     whole s (setPart s) [] start andThen λ sets at.
-    whole s (variablePart s (net sets [] [] [] [])) [] at andThen λ variables at.
-    whole s (placePart s (net sets variables [] [] [])) [] at andThen λ places at.
-    whole s (transitionPart s (net sets variables places [] [])) [] at andThen λ transitions at.
+    whole s (variablePart s (scope sets [] [])) [] at andThen λ variables at.
+    whole s (placePart s (scope sets variables [])) [] at andThen λ places at.
+    whole s (transitionPart s (scope sets variables places)) [] at andThen λ transitions at.
     whole s (tokensPart s (net sets variables places transitions [])) [] at andThen λ tokens at.
     fine (net sets variables places transitions tokens) at
 

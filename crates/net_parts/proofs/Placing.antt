@@ -11,7 +11,7 @@ use lib.Seq.{length-take-le, take-suc-set, take-append-le, take-all, getD-set-sa
 use Rattle.reading.specs.Basics.{ℕ, suc, _+_, _*_, List, [], _∷_, some, map, sum, length, getD, take, with}
 use Rattle.reading.specs.Reading.{fine, fault, whole}
 use Rattle.reading.proofs.Parts.{Reading, begins, goes-on, ends, stops}
-use Rattle.net.specs.Net.{Place, pair, Net, net, coloursOf}
+use Rattle.net.specs.Net.{Place, pair, Net, coloursOf, scope}
 use Rattle.net_parts.specs.Parts.{placePart}
 use Rattle.net.specs.internal.ReaderEnums.{placeOf}
 use Rattle.net_parts.specs.internal.Steps.{placeStep}
@@ -83,9 +83,9 @@ pub record Placing (s sets : List ℕ) (start : ℕ) (firsts seconds starts : Li
   pub first-sized : length firsts ≡ 32
   pub second-sized : length seconds ≡ 32
   pub start-sized : length starts ≡ 33
-  pub started : Started (net sets [] [] [] []) (fronts firsts seconds count) starts count total
-  pub reading : (variables : List ℕ) → Reading s (placePart s (net sets variables [] [] [])) (fronts firsts seconds count) at
-      (whole s (placePart s (net sets variables [] [] [])) [] start)
+  pub started : Started (scope sets [] []) (fronts firsts seconds count) starts count total
+  pub reading : (variables : List ℕ) → Reading s (placePart s (scope sets variables [])) (fronts firsts seconds count) at
+      (whole s (placePart s (scope sets variables [])) [] start)
 
 pub placing-begins : (s sets : List ℕ) (start : ℕ) (firsts seconds starts : List ℕ) → length firsts ≡ 32 → length seconds ≡ 32 → length starts ≡ 33
     → Placing s sets start firsts seconds (set starts 0 0) 0 0 start
@@ -94,21 +94,21 @@ placing-begins s sets start firsts seconds starts a b c = record {
   first-sized = a;
   second-sized = b;
   start-sized = length-set starts 0 0 ∙ c;
-  started = starts-none (net sets [] [] [] []) starts (omega arith);
-  reading = λ variables. begins s (placePart s (net sets variables [] [] [])) [] start;
+  started = starts-none (scope sets [] []) starts (omega arith);
+  reading = λ variables. begins s (placePart s (scope sets variables [])) [] start;
 }
 
 module _ {s sets : List ℕ} {start : ℕ} {firsts seconds starts : List ℕ} {count total at : ℕ} (here : Placing s sets start firsts seconds starts count total at) where
   -- one more place, with its sets in the tables
-  placing-goes : (a b more next : ℕ) → count < 32 → more ≤ 4096 → more ≡ total + coloursOf (net sets [] [] [] []) (placeOf a b) → at < next → next ≤ length s
-      → ((variables : List ℕ) → placePart s (net sets variables [] [] []) (fronts firsts seconds count) at ≡ some (fine (with (fronts firsts seconds count) (placeOf a b)) next))
+  placing-goes : (a b more next : ℕ) → count < 32 → more ≤ 4096 → more ≡ total + coloursOf (scope sets [] []) (placeOf a b) → at < next → next ≤ length s
+      → ((variables : List ℕ) → placePart s (scope sets variables []) (fronts firsts seconds count) at ≡ some (fine (with (fronts firsts seconds count) (placeOf a b)) next))
       → Placing s sets start (set firsts count a) (set seconds count b) (set starts (count + 1) more) (count + 1) more next
   placing-goes a b more next room small e lt le step = record {
     first-sized = length-set firsts count a ∙ here .first-sized;
     second-sized = length-set seconds count b ∙ here .second-sized;
     start-sized = length-set starts (count + 1) more ∙ here .start-sized;
-    started = rw grown (starts-more (net sets [] [] [] []) (placeOf a b) more (here .started) room small (omega arith) e);
-    reading = λ variables. rw grown (goes-on s (placePart s (net sets variables [] [] [])) (with (fronts firsts seconds count) (placeOf a b)) next (here .reading variables) lt le (step variables));
+    started = rw grown (starts-more (scope sets [] []) (placeOf a b) more (here .started) room small (omega arith) e);
+    reading = λ variables. rw grown (goes-on s (placePart s (scope sets variables [])) (with (fronts firsts seconds count) (placeOf a b)) next (here .reading variables) lt le (step variables));
   }
     where
       grown : fronts (set firsts count a) (set seconds count b) (count + 1) ≡ with (fronts firsts seconds count) (placeOf a b)
@@ -116,8 +116,8 @@ module _ {s sets : List ℕ} {start : ℕ} {firsts seconds starts : List ℕ} {c
 
   -- what a step of the code says
   module _ (r : PlaceStep) (is : (variables : List ℕ) (places : List Place) → length places ≡ count
-      → sum (map (coloursOf (net sets variables [] [] [])) places) ≡ total → placePart s (net sets variables [] [] []) places at ≡ placeStep places r) (room : PlaceRoom sets (length s) count total at r) where
-    said : (variables : List ℕ) → placePart s (net sets variables [] [] []) (fronts firsts seconds count) at ≡ placeStep (fronts firsts seconds count) r
+      → sum (map (coloursOf (scope sets variables [])) places) ≡ total → placePart s (scope sets variables []) places at ≡ placeStep places r) (room : PlaceRoom sets (length s) count total at r) where
+    said : (variables : List ℕ) → placePart s (scope sets variables []) (fronts firsts seconds count) at ≡ placeStep (fronts firsts seconds count) r
     said variables = is variables (fronts firsts seconds count) (here .started .are) (here .started .all)
 
     pub placing-one : {a more next : ℕ} → r ≡ One a more next → Placing s sets start (set firsts count a) (set seconds count 255) (set starts (count + 1) more) (count + 1) more next
@@ -129,11 +129,11 @@ module _ {s sets : List ℕ} {start : ℕ} {firsts seconds starts : List ℕ} {c
     placing-two {a} {b} {more} {next} few e =
         let h = rw e at room in
         let z : placeOf a b ≡ pair a b = rw (ne-eqb b 255 (λ q. omega arith)) in
-        placing-goes a b more next (h .0) (h .1) (h .2 ∙ ap (λ k. total + k) (ap (λ k. getD sets a 0 * k) (sym (mul-one (getD sets b 0))) ∙ ap (coloursOf (net sets [] [] [] [])) (sym z))) (h .3) (h .4)
+        placing-goes a b more next (h .0) (h .1) (h .2 ∙ ap (λ k. total + k) (ap (λ k. getD sets a 0 * k) (sym (mul-one (getD sets b 0))) ∙ ap (coloursOf (scope sets [] [])) (sym z))) (h .3) (h .4)
         (λ variables. rw z (rw e at (said variables)))
 
-    pub placing-ends : r ≡ Done → (variables : List ℕ) → fine (fronts firsts seconds count) at ≡ whole s (placePart s (net sets variables [] [] [])) [] start
-    placing-ends e variables = ends s (placePart s (net sets variables [] [] [])) (here .reading variables) (rw e at (said variables))
+    pub placing-ends : r ≡ Done → (variables : List ℕ) → fine (fronts firsts seconds count) at ≡ whole s (placePart s (scope sets variables [])) [] start
+    placing-ends e variables = ends s (placePart s (scope sets variables [])) (here .reading variables) (rw e at (said variables))
 
-    pub placing-stops : {k p : ℕ} → r ≡ Stop k p → (variables : List ℕ) → fault k p ≡ whole s (placePart s (net sets variables [] [] [])) [] start
-    placing-stops e variables = stops s (placePart s (net sets variables [] [] [])) (here .reading variables) (rw e at room) (rw e at (said variables))
+    pub placing-stops : {k p : ℕ} → r ≡ Stop k p → (variables : List ℕ) → fault k p ≡ whole s (placePart s (scope sets variables [])) [] start
+    placing-stops e variables = stops s (placePart s (scope sets variables [])) (here .reading variables) (rw e at room) (rw e at (said variables))

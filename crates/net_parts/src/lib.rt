@@ -14,7 +14,7 @@ ghost use Prim.Native.Nat.{ℕ, _≤_, _<_};
 ghost use lib.ListN.{length};
 ghost use Rattle.reading.specs.Basics.{sum, byteAt};
 ghost use Rattle.reading.specs.Reading.{whole};
-ghost use Rattle.net.specs.Net.{net, Place, coloursOf};
+ghost use Rattle.net.specs.Net.{Place, coloursOf, scope};
 ghost use Rattle.net_parts.specs.Parts.{setPart, variablePart, placePart};
 ghost use Rattle.net_parts.specs.internal.Steps.{setStep, setsRead, Room, RoomFor, Few, placeStep};
 ghost use Rattle.net_parts.specs.internal.Tables.{PlaceRoom};
@@ -95,7 +95,7 @@ pub fn read_sets(s: &[u8], sizes: &mut [u8], start: usize) -> Part
 // The variable command at a place, after so many variables.
 fn variable_at(s: &[u8], sets: &[u8], count: usize, at: usize) -> SetStep
     ensures is { λ r. ⌜ ((variables : List ℕ) → length variables ≡ count
-        → variablePart (now (s .entry)) (net (now (sets .entry)) [] [] [] []) variables at ≡ setStep variables r) ⌝ }
+        → variablePart (now (s .entry)) (scope (now (sets .entry)) [] []) variables at ≡ setStep variables r) ⌝ }
     ensures room { λ r. ⌜ RoomFor 32 (length (now (s .entry))) count at r ⌝ }
 {
     if s.len() <= at {
@@ -122,7 +122,7 @@ fn variable_at(s: &[u8], sets: &[u8], count: usize, at: usize) -> SetStep
 pub fn read_variables(s: &[u8], sets: &[u8], vars: &mut [u8], start: usize) -> Part
     requires { ⌜ length (now vars) ≡ 32 ⌝ }
     ensures few { λ r. ⌜ Few 32 r ⌝ }
-    ensures is { λ r. ⌜ setsRead (now (vars .exit)) r ≡ whole (now (s .entry)) (variablePart (now (s .entry)) (net (now (sets .entry)) [] [] [] [])) [] start ⌝ }
+    ensures is { λ r. ⌜ setsRead (now (vars .exit)) r ≡ whole (now (s .entry)) (variablePart (now (s .entry)) (scope (now (sets .entry)) [] [])) [] start ⌝ }
 {
     let mut count: usize = 0;
     let mut at = start;
@@ -176,8 +176,8 @@ fn one_set(s: &[u8], sets: &[u8], count: usize, total: usize, at: usize) -> Plac
     requires { ⌜ at < length (now s) ⌝ }
     requires { ⌜ byteAt (now s) at ≡ 0x12 ⌝ }
     ensures is { λ r. ⌜ ((variables : List ℕ) (places : List Place) → length places ≡ count
-        → sum (map (coloursOf (net (now (sets .entry)) variables [] [] [])) places) ≡ total
-        → placePart (now (s .entry)) (net (now (sets .entry)) variables [] [] []) places at ≡ placeStep places r) ⌝ }
+        → sum (map (coloursOf (scope (now (sets .entry)) variables [])) places) ≡ total
+        → placePart (now (s .entry)) (scope (now (sets .entry)) variables []) places at ≡ placeStep places r) ⌝ }
     ensures room { λ r. ⌜ PlaceRoom (now (sets .entry)) (length (now (s .entry))) count total at r ⌝ }
 {
     let next = after(s, at);
@@ -208,8 +208,8 @@ fn two_sets(s: &[u8], sets: &[u8], count: usize, total: usize, at: usize) -> Pla
     requires { ⌜ at < length (now s) ⌝ }
     requires { ⌜ byteAt (now s) at ≡ 0x13 ⌝ }
     ensures is { λ r. ⌜ ((variables : List ℕ) (places : List Place) → length places ≡ count
-        → sum (map (coloursOf (net (now (sets .entry)) variables [] [] [])) places) ≡ total
-        → placePart (now (s .entry)) (net (now (sets .entry)) variables [] [] []) places at ≡ placeStep places r) ⌝ }
+        → sum (map (coloursOf (scope (now (sets .entry)) variables [])) places) ≡ total
+        → placePart (now (s .entry)) (scope (now (sets .entry)) variables []) places at ≡ placeStep places r) ⌝ }
     ensures room { λ r. ⌜ PlaceRoom (now (sets .entry)) (length (now (s .entry))) count total at r ⌝ }
 {
     let next = after(s, at);
@@ -244,8 +244,8 @@ fn two_sets(s: &[u8], sets: &[u8], count: usize, total: usize, at: usize) -> Pla
 fn place_at(s: &[u8], sets: &[u8], count: usize, total: usize, at: usize) -> PlaceStep
     requires { ⌜ total ≤ 4096 ⌝ }
     ensures is { λ r. ⌜ ((variables : List ℕ) (places : List Place) → length places ≡ count
-        → sum (map (coloursOf (net (now (sets .entry)) variables [] [] [])) places) ≡ total
-        → placePart (now (s .entry)) (net (now (sets .entry)) variables [] [] []) places at ≡ placeStep places r) ⌝ }
+        → sum (map (coloursOf (scope (now (sets .entry)) variables [])) places) ≡ total
+        → placePart (now (s .entry)) (scope (now (sets .entry)) variables []) places at ≡ placeStep places r) ⌝ }
     ensures room { λ r. ⌜ PlaceRoom (now (sets .entry)) (length (now (s .entry))) count total at r ⌝ }
 {
     if s.len() <= at {

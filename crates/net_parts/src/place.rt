@@ -7,7 +7,7 @@ ghost use mathlib.Core.List.{List, []};
 ghost use Prim.Native.Nat.{ℕ, _≤_};
 ghost use lib.ListN.{length};
 ghost use Rattle.reading.specs.Reading.{whole};
-ghost use Rattle.net.specs.Net.{net};
+ghost use Rattle.net.specs.Net.{scope};
 ghost use Rattle.net_parts.specs.Parts.{placePart};
 ghost use Rattle.net_parts.specs.internal.Tables.{placesRead, PlacesHeld};
 
@@ -25,7 +25,7 @@ pub fn read_places(
     requires { ⌜ length (now seconds) ≡ 32 ⌝ }
     requires { ⌜ length (now starts) ≡ 33 ⌝ }
     ensures is { λ r. ⌜ ((variables : List ℕ) → placesRead (now (firsts .exit)) (now (seconds .exit)) r
-        ≡ whole (now (s .entry)) (placePart (now (s .entry)) (net (now (sets .entry)) variables [] [] [])) [] start) ⌝ }
+        ≡ whole (now (s .entry)) (placePart (now (s .entry)) (scope (now (sets .entry)) variables [])) [] start) ⌝ }
     ensures held { λ r. ⌜ PlacesHeld (now (sets .entry)) (now (firsts .exit)) (now (seconds .exit)) (now (starts .exit)) r ⌝ }
 {
     let mut count: usize = 0;

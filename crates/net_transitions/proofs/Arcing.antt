@@ -11,7 +11,7 @@ use Rattle.reading.specs.Basics.{ℕ, zero, suc, _+_, _*_, List, [], _∷_, Opt
 use Rattle.reading.specs.Reading.{Answer, fine, fault, under, whole}
 use Rattle.reading.proofs.Commands.{end, other, passes, done, fails, later, standing-past, standing-none, stands-cut, stands-fails, stands-goes, both-hold, first-fails, second-fails}
 use Rattle.reading.proofs.Parts.{Reading, begins, goes-on, ends, stops}
-use Rattle.net.specs.Net.{Expression, Place, single, Arc, Net, net, placeAt, arcOn, ceiling, inExpression}
+use Rattle.net.specs.Net.{Expression, Place, single, Arc, Net, placeAt, arcOn, ceiling, inExpression, scope}
 use Rattle.net.specs.Reader.{widthOf, readExpression}
 use Rattle.net_transitions.specs.Transitions.{arcPart}
 use Rattle.net.specs.internal.ReaderEnums.{bits, told, placeOf}
@@ -297,7 +297,7 @@ module _ (s sizes vars f g row : List ℕ) (at : ℕ) (even : length g ≡ lengt
       step-again full arcs holds = arc-again s (over sizes vars f g) arcs at row holds (byteAt s at - 0x16) (kind-is s at low high) (stands-there s at low high) (rw is-next at whole-there) (byteAt s (at + 1)) refl known-place full
 
       module _ (free : getD row ((byteAt s at - 0x16) * 32 + byteAt s (at + 1)) 0 ≡ 0) {r : Read}
-          (e : (places : List Place) → r ≡ expressionTold (readExpression s (net sizes vars places [] []) (placeOf (getD f (byteAt s (at + 1)) 0) (getD g (byteAt s (at + 1)) 0)) 16 next)) where
+          (e : (places : List Place) → r ≡ expressionTold (readExpression s (scope sizes vars places) (placeOf (getD f (byteAt s (at + 1)) 0) (getD g (byteAt s (at + 1)) 0)) 16 next)) where
         told-there : r ≡ expressionTold (readExpression s (over sizes vars f g) (placeAt (over sizes vars f g) (byteAt s (at + 1))) 16 (at + 2))
         told-there = rw (place-at f g (byteAt s (at + 1)) lt even) (rw is-next at (e (placesOf f g)))
 

@@ -9,7 +9,7 @@ use lib.Seq.{getD-append-seam, getD-set-same, getD-set-other}
 use Rattle.reading.specs.Basics.{ℕ, _+_, _*_, List, [], _∷_, length, getD, with}
 use Rattle.reading.specs.Reading.{fault, whole}
 use Rattle.reading.proofs.Parts.{Reading, begins, goes-on, ends, stops}
-use Rattle.net.specs.Net.{always, Transition, Net, bindingSpace}
+use Rattle.net.specs.Net.{Transition, Net, bindingSpace, noTransition}
 use Rattle.net_transitions.specs.Transitions.{transitionPart}
 use Rattle.net_transitions.specs.internal.TransitionTables.{TransitionHolds, TransitionRead, TransitionTold, TransitionRoom, TransitionFew, TransitionsHold, TransitionsRead}
 use Rattle.net_transitions.specs.declared.transition.TransitionStep.{TransitionStep}
@@ -23,20 +23,20 @@ module _ (s : List ℕ) (n : Net) (few : length (n .places) ≤ 32) (uses guards
       → TransitionsHold s n (with ts x) (set uses count used) (set guards count guard) left
   transitions-more x guard used new here t lt = ⊎-elim last earlier (eq-or-lt-of-le (let h : t ≤ count = omega (arith, length-append ts (x ∷ [])) in h))
     where
-      is-there : TransitionHolds s n (getD (with ts x) count (record { guard = always; arcs = [] })) (getD (set guards count guard) count 0) (getD (set uses count used) count 0) (λ i. getD left (count * 96 + i) 0)
+      is-there : TransitionHolds s n (getD (with ts x) count noTransition) (getD (set guards count guard) count 0) (getD (set uses count used) count 0) (λ i. getD left (count * 96 + i) 0)
       is-there = rw (
-        ap (λ k. getD (with ts x) k (record { guard = always; arcs = [] })) (sym are) ∙ getD-append-seam ts x [] (record { guard = always; arcs = [] }),
+        ap (λ k. getD (with ts x) k noTransition) (sym are) ∙ getD-append-seam ts x [] noTransition,
         getD-set-same guards count guard 0 guards-room,
         getD-set-same uses count used 0 uses-room,
       ) new
 
-      last : t ≡ count → TransitionHolds s n (getD (with ts x) t (record { guard = always; arcs = [] })) (getD (set guards count guard) t 0) (getD (set uses count used) t 0) (λ i. getD left (t * 96 + i) 0)
+      last : t ≡ count → TransitionHolds s n (getD (with ts x) t noTransition) (getD (set guards count guard) t 0) (getD (set uses count used) t 0) (λ i. getD left (t * 96 + i) 0)
       last e = rw e is-there
 
-      earlier : t < count → TransitionHolds s n (getD (with ts x) t (record { guard = always; arcs = [] })) (getD (set guards count guard) t 0) (getD (set uses count used) t 0) (λ i. getD left (t * 96 + i) 0)
+      earlier : t < count → TransitionHolds s n (getD (with ts x) t noTransition) (getD (set guards count guard) t 0) (getD (set uses count used) t 0) (λ i. getD left (t * 96 + i) 0)
       earlier l =
           let old = here t (omega arith) in
-          rw (List·getD-append ts (x ∷ []) (record { guard = always; arcs = [] }) t (omega arith), getD-set-other guards count t guard 0 (λ z. omega arith), getD-set-other uses count t used 0 (λ z. omega arith))
+          rw (List·getD-append ts (x ∷ []) noTransition t (omega arith), getD-set-other guards count t guard 0 (λ z. omega arith), getD-set-other uses count t used 0 (λ z. omega arith))
           (record {
             guarded = old .guarded;
             arced = row-same s n few (λ i. getD arcs (t * 96 + i) 0) (λ i. getD left (t * 96 + i) 0) (λ i z. sym (kept (t * 96 + i) (omega arith))) _ (old .arced);

@@ -10,7 +10,7 @@ use lib.Seq.{length-take-le, getD-append-add, getD-take}
 use Rattle.reading.specs.Basics.{ℕ, _+_, _*_, List, [], _∷_, _++_, Option, some, none, Option·map, given, if_then_else_, length, getD, take, drop, with, eqb, ltb, byteAt}
 use Rattle.reading.specs.Reading.{Answer, fine, fault, standing, whole}
 use Rattle.reading.proofs.Commands.{past, end, other, passes, done, fails, standing-past, standing-none, stands-fails, stands-goes}
-use Rattle.net.specs.Net.{Guard, always, Arc, Transition, Place, Net, net, placeAt, arcOn, variablesOf, bindingSpace, inGuard, inTransition}
+use Rattle.net.specs.Net.{Guard, always, Arc, Transition, Place, Net, placeAt, arcOn, variablesOf, bindingSpace, inGuard, inTransition, scope}
 use Rattle.net.specs.Reader.{widthOf, command, readGuard, readGuardIf, readExpression}
 use Rattle.net_transitions.specs.Transitions.{arcPart, ended, transitionPart}
 use Rattle.net.specs.internal.ReaderEnums.{bits, guardTold}
@@ -98,7 +98,7 @@ module _ (s : List ℕ) (n : Net) (transitions : List Transition) (at next : ℕ
       }
 
 -- ---- a transition by what the code's calls tell: of its guard, of its arcs, and of its end
-module _ (s sizes vars f g : List ℕ) (next : ℕ) {guard : Read} (of-guard : (places : List Place) → guard ≡ guardTold (readGuardIf s (net sizes vars places [] []) next)) where
+module _ (s sizes vars f g : List ℕ) (next : ℕ) {guard : Read} (of-guard : (places : List Place) → guard ≡ guardTold (readGuardIf s (scope sizes vars places) next)) where
   pub stops-in-guard : (at : ℕ) {k p : ℕ} → guard ≡ read.Fault k p → (transitions : List Transition) → some (inside s (over sizes vars f g) transitions at next) ≡ some (fault k p)
   stops-in-guard at q transitions = guard-faults s (over sizes vars f g) transitions at next (heard-fault (λ g. 0) inGuard (readGuardIf s (over sizes vars f g) next) (sym q ∙ of-guard (placesOf f g)))
 
@@ -119,7 +119,7 @@ module _ (s sizes vars f g : List ℕ) (next : ℕ) {guard : Read} (of-guard : (
 
         module _ (space : ℕ) (closed : Read)
             (of-end : (places : List Place) (transitions : List Transition) (t : Transition) → bitOr used uses ≡ bits (λ v. inTransition v t) 32
-            → bindingSpace (net sizes vars places [] []) transitions ≡ space → ClosedTold s (net sizes vars places [] []) transitions at t last closed)
+            → bindingSpace (scope sizes vars places) transitions ≡ space → ClosedTold s (scope sizes vars places) transitions at t last closed)
             (transitions : List Transition) (so-far : bindingSpace (over sizes vars f g) transitions ≡ space) where
           told-end : ClosedTold s (over sizes vars f g) transitions at (record { guard = heard-guard .value; arcs = heard-arcs .arcs }) last closed
           told-end = of-end (placesOf f g) transitions (record { guard = heard-guard .value; arcs = heard-arcs .arcs }) (variables-joined s (over sizes vars f g) transitions at next heard-guard heard-arcs) so-far

@@ -8,10 +8,10 @@ use net::fault;
 use net::read_guard_if;
 use reading::byte_at;
 ghost use mathlib.Core.Path.{_≡_};
-ghost use mathlib.Core.List.{List, []};
+ghost use mathlib.Core.List.{List};
 ghost use Prim.Native.Nat.{ℕ, _≤_, _<_, _+_, _*_};
 ghost use lib.ListN.{length, getD};
-ghost use Rattle.net.specs.Net.{net, Place, Transition, bindingSpace, inTransition};
+ghost use Rattle.net.specs.Net.{Place, Transition, bindingSpace, inTransition, scope};
 ghost use Rattle.net.specs.internal.ReaderEnums.{bits};
 ghost use Rattle.net_transitions.specs.internal.TransitionTables.{over, guardPlace, ClosedTold, ClosedRoom, inside, transitionStopped, TransitionTold, TransitionRoom, TransitionFew};
 ghost use Rattle.net_transitions.specs.Transitions.{transitionPart};
@@ -30,8 +30,8 @@ fn close_at(
     requires { ⌜ length (now vars) ≤ 32 ⌝ }
     requires { ⌜ space ≤ 65536 ⌝ }
     ensures is { λ r. ⌜ ((places : List Place) (transitions : List Transition) (t : Transition) → set ≡ bits (λ v. inTransition v t) 32
-        → bindingSpace (net (now (sizes .entry)) (now (vars .entry)) places [] []) transitions ≡ space
-        → ClosedTold (now (s .entry)) (net (now (sizes .entry)) (now (vars .entry)) places [] []) transitions at t end r) ⌝ }
+        → bindingSpace (scope (now (sizes .entry)) (now (vars .entry)) places) transitions ≡ space
+        → ClosedTold (now (s .entry)) (scope (now (sizes .entry)) (now (vars .entry)) places) transitions at t end r) ⌝ }
     ensures room { λ r. ⌜ ClosedRoom r ⌝ }
 {
     if byte_at(s, end) == 0x15 {

@@ -3,10 +3,9 @@ use mathlib.Core.Path.{refl}
 use Prim.Native.Nat.{_≤_, _<_}
 use native.Mathlib.Omega.{arith}
 use Rattle.reading.specs.Basics.{ℕ, _+_, _*_, List, flatMap, length, getD, below, product}
-use Rattle.firing.specs.Arcs.{rowOf}
 use Rattle.flat_file.proofs.Written.{length-row}
-use Rattle.net.specs.Net.{sizesOf, flatPlaceCount}
-use Rattle.bindings.specs.Effect.{transitionAt}
+use Rattle.net.specs.Net.{sizesOf}
+use Rattle.bindings.specs.Effect.{transitionAt, flatRow}
 use Rattle.row_lengths.specs.internal.MostRows.{MostRow}
 use Rattle.row_bytes.specs.internal.RowBytes.{transitionBytes, Ruled}
 use Rattle.row_numbers.specs.internal.Walked.{entries}
@@ -30,7 +29,7 @@ module _ {s sizes vars own guards arcs marks rows : List ℕ} {transitions : ℕ
   transition-most told =
       rw (counted .row t lt) (rows-told _≤_ (omega arith) (λ a b c d p q. omega arith) (ruled .net) t refl (λ i w inside e. omega (
         arith,
-        length-row (rowOf (flatPlaceCount (ruled .net)) w),
+        length-row (flatRow (ruled .net) w),
         told (ruled .net) guards (ruled .ready .read) (ruled .ready .drawing) (omega (arith, ruled .ready .transitions-are)) i w inside e,
       )))
 

@@ -7,16 +7,16 @@ use borrow.Author.Tests.{le-ltb}
 use lib.ListN.{length-append}
 use Rattle.reading.specs.Basics.{ℕ, zero, suc, _+_, _*_, _-_, true, false, List, [], _∷_, _++_, map, flatMap, filterMap, Option, none, some, length, getD, getElem?, given, numbersFrom, below, product}
 use Rattle.firing.specs.Firing.{Weights}
-use Rattle.firing.specs.Arcs.{Row, rowOf}
+use Rattle.firing.specs.Arcs.{Row}
 use Rattle.firing.specs.internal.RowLists.{rowIn}
 use Rattle.firing.specs.declared.Ends.{Ends}
 use Rattle.flat_file.specs.Flat.{rowBytes}
-use Rattle.net.specs.Net.{Net, sizesOf, flatPlaceCount}
+use Rattle.net.specs.Net.{Net, sizesOf}
 use Rattle.net_file.specs.Limits.{Limits}
 use Rattle.net_file.specs.Formed.{Formed}
 use Rattle.net_file.proofs.Limits.{limits}
 use Rattle.net_file.proofs.Formed.{formed}
-use Rattle.bindings.specs.Effect.{Binding, transitionAt, choices, bindings, effect}
+use Rattle.bindings.specs.Effect.{Binding, transitionAt, choices, bindings, effect, flatRow}
 use Rattle.bindings.specs.internal.Numbers.{digits}
 use Rattle.bindings.specs.internal.Bindings.{Binds, numbered}
 use Rattle.rows.specs.internal.Drawing.{RowLoaded}
@@ -66,20 +66,20 @@ choices-are sizes =
 module _ (n : Net) where
   -- what a binding gives
   abbrev gives : Binding → List ℕ
-  gives b = given (effect n b) [] λ w. rowBytes (rowOf (flatPlaceCount n) w)
+  gives b = given (effect n b) [] λ w. rowBytes (flatRow n w)
 
-  abbrev flatRow : Rowed → Row
-  flatRow r = rowOf (flatPlaceCount n) (r .weights)
+  abbrev rowOfRowed : Rowed → Row
+  rowOfRowed r = flatRow n (r .weights)
 
-  rows-gather : (l : List Binding) → flatMap rowBytes (map flatRow (filterMap (rowedIf n) l)) ≡ flatMap gives l
+  rows-gather : (l : List Binding) → flatMap rowBytes (map rowOfRowed (filterMap (rowedIf n) l)) ≡ flatMap gives l
   unfolding flatMap filterMap
   rows-gather [] = refl
   rows-gather (b ∷ l) = go (effect n b) refl (rows-gather l)
     where
-      go : (o : Option Weights) → effect n b ≡ o → flatMap rowBytes (map flatRow (filterMap (rowedIf n) l)) ≡ flatMap gives l
-          → flatMap rowBytes (map flatRow (filterMap (rowedIf n) (b ∷ l))) ≡ gives b ++ flatMap gives l
+      go : (o : Option Weights) → effect n b ≡ o → flatMap rowBytes (map rowOfRowed (filterMap (rowedIf n) l)) ≡ flatMap gives l
+          → flatMap rowBytes (map rowOfRowed (filterMap (rowedIf n) (b ∷ l))) ≡ gives b ++ flatMap gives l
       go none e ih = rw e ih
-      go (some w) e ih = rw e (ap (λ k. rowBytes (rowOf (flatPlaceCount n) w) ++ k) ih)
+      go (some w) e ih = rw e (ap (λ k. rowBytes (flatRow n w) ++ k) ih)
 
   transition-gives : (t : ℕ) → flatMap gives (bindingsOf n t) ≡ transitionBytes n t
   unfolding transitionBytes bindingBytes
@@ -107,7 +107,7 @@ no-effect : (n : Net) (t i : ℕ) → takesEffect n t i ≡ false → bindingByt
 unfolding bindingBytes
 no-effect n t i e = go (effect n (numbered n t i)) e
   where
-    go : (o : Option Weights) → (given o false λ w. true) ≡ false → (given o [] λ w. rowBytes (rowOf (flatPlaceCount n) w)) ≡ []
+    go : (o : Option Weights) → (given o false λ w. true) ≡ false → (given o [] λ w. rowBytes (flatRow n w)) ≡ []
     go none q = refl
     go (some w) q = let z : _≡_ {A = ℕ} 0 1 = cc in absurd (omega arith)
 

@@ -6,11 +6,10 @@ use native.Mathlib.Nat.{zero-mul, suc-mul, mul-le-mul}
 use lib.ListN.{length-append}
 use Rattle.reading.specs.Basics.{ℕ, zero, suc, _+_, _*_, Bool, true, false, List, [], _∷_, _++_, flatMap, Option, none, some, length, if_then_else_, given, keep, numbersFrom, below, product}
 use Rattle.firing.specs.Firing.{Weights}
-use Rattle.firing.specs.Arcs.{rowOf}
 use Rattle.flat_file.specs.Flat.{rowBytes}
 use Rattle.flat_file.proofs.Written.{length-row}
-use Rattle.net.specs.Net.{Net, sizesOf, flatPlaceCount}
-use Rattle.bindings.specs.Effect.{transitionAt, effect}
+use Rattle.net.specs.Net.{Net, sizesOf}
+use Rattle.bindings.specs.Effect.{transitionAt, effect, flatRow}
 use Rattle.bindings.specs.internal.Bindings.{numbered}
 use Rattle.row_lengths.specs.internal.Steady.{SteadyRow, SteadyWithin}
 use Rattle.row_lengths.specs.declared.steady.Steady.{Steady}
@@ -22,13 +21,13 @@ use Rattle.row_numbers.specs.internal.Marks.{effects}
 -- ---- what is told of each row is told of all: that it has so many bytes, or no more
 module _ (R : ℕ → ℕ → Type 0) (nothing : R 0 0) (adds : (a b c d : ℕ) → R a b → R c d → R (a + c) (b + d)) where
   -- what one binding gives: a row's bytes, or none
-  bytes-if : (n : Net) (t i row : ℕ) → ((w : Weights) → effect n (numbered n t i) ≡ some w → R (length (rowBytes (rowOf (flatPlaceCount n) w))) row)
+  bytes-if : (n : Net) (t i row : ℕ) → ((w : Weights) → effect n (numbered n t i) ≡ some w → R (length (rowBytes (flatRow n w))) row)
       → R (length (bindingBytes n t i)) (if takesEffect n t i then row else 0)
   unfolding bindingBytes
   bytes-if n t i row told = go (effect n (numbered n t i)) refl
     where
       go : (o : Option Weights) → effect n (numbered n t i) ≡ o
-          → R (length (given o [] λ w. rowBytes (rowOf (flatPlaceCount n) w))) (if (given o false λ w. true) then row else 0)
+          → R (length (given o [] λ w. rowBytes (flatRow n w))) (if (given o false λ w. true) then row else 0)
       go none e = nothing
       go (some w) e = told w e
 
@@ -53,7 +52,7 @@ module _ (R : ℕ → ℕ → Type 0) (nothing : R 0 0) (adds : (a b c d : ℕ) 
       go false = join 0 (length kept * row) (omega arith)
 
   pub rows-told : (n : Net) (t : ℕ) {many row : ℕ} → many ≡ product (sizesOf n (transitionAt n t))
-      → ((i : ℕ) (w : Weights) → i < product (sizesOf n (transitionAt n t)) → effect n (numbered n t i) ≡ some w → R (length (rowBytes (rowOf (flatPlaceCount n) w))) row)
+      → ((i : ℕ) (w : Weights) → i < product (sizesOf n (transitionAt n t)) → effect n (numbered n t i) ≡ some w → R (length (rowBytes (flatRow n w))) row)
       → R (length (flatMap (bindingBytes n t) (below many))) (effects n t many * row)
   rows-told n t {many} {row} is told =
       pieces-told (bindingBytes n t) (takesEffect n t) row 0 many (λ i a b. bytes-if n t i row (λ w e. told i w (omega arith) e))
@@ -73,7 +72,7 @@ pub rows-long : {s sizes vars own arcs marks : List ℕ} {guard t many base : �
     → r ≡ steady.Arcs long → SteadyRow s arcs t r → RowsLong (known .net) t (1 + 5 * long)
 rows-long {s = s} {sizes = sizes} {vars = vars} {arcs = arcs} {t = t} known {r} {long} e told i w inside f =
     let q = subst (SteadyRow s arcs t) e told (known .net) sizes vars (known .guards) (known .read) (known .drawing) (known .stands) i w inside f in
-    length-row (rowOf (flatPlaceCount (known .net)) w) ∙ omega (arith, q)
+    length-row (flatRow (known .net) w) ∙ omega (arith, q)
 
 -- and that is within bounds
 pub long-most : {r : Steady} {long : ℕ} → r ≡ steady.Arcs long → SteadyWithin 6291360 r → long ≤ 6291360

@@ -4,18 +4,18 @@ use Prim.Native.Nat.{_≤_, _<_}
 use native.Mathlib.Omega.{arith}
 use lib.ListN.{length-append}
 use lib.Seq.{take-all}
-use Rattle.reading.specs.Basics.{ℕ, _+_, _*_, _/_, _%_, Bool, true, false, List, [], flatMap, Option, none, some, Option·map, length, getD, take, eqb, if_then_else_}
+use Rattle.reading.specs.Basics.{ℕ, _+_, _*_, _/_, _%_, Bool, List, flatMap, Option, none, some, Option·map, length, getD, take, eqb}
 use Rattle.reading.specs.Reading.{fine}
 use Rattle.net.specs.Net as net
-use Rattle.net.specs.Net.{Expression, Transition, Place, Net, net, placeAt, coloursOf, flatPlaceCount, arcOn, variablesOf, sizesOf}
-use Rattle.net.specs.Values.{holds}
+use Rattle.net.specs.Net.{Expression, Transition, Place, Net, placeAt, coloursOf, arcOn, variablesOf, sizesOf, scope}
 use Rattle.net.specs.Reader.{readExpression}
 use Rattle.evaluation.specs.internal.Evaluated.{placeBy}
-use Rattle.firing.specs.Arcs.{Arc, rowOf}
+use Rattle.firing.specs.Arcs.{Arc}
 use Rattle.net_transitions.specs.internal.TransitionTables.{Slot}
 use Rattle.row_lengths.specs.internal.MostArcs.{most}
 use Rattle.row_lengths.proofs.MostArcs.{arcs-most}
-use Rattle.bindings.specs.Effect.{transitionAt, standsFor, weightsOf, effect}
+use Rattle.bindings.specs.Effect.{transitionAt, standsFor, weightsOf, flatRow}
+use Rattle.bindings.specs.internal.Bindings.{numbered}
 use Rattle.bindings.specs.internal.Numbers.{digits}
 use Rattle.rows.specs.internal.Packed.{holding}
 use Rattle.rows.specs.internal.Drawing.{startOf, placeArcs, kindArcs, Drawing}
@@ -23,11 +23,12 @@ use Rattle.row_lengths.specs.internal.Steady.{arcsOfRow}
 use Rattle.row_lengths.specs.internal.MostRows.{MostKind, MostRow}
 use Rattle.rows.proofs.Split.{split}
 use Rattle.rows.proofs.Drawn.{place-by, slot, row-few, entry-past, entry-there, row-gives, Entered, entered, arcs-given}
+use Rattle.bindings.proofs.Legal.{effect-weighs}
 
 -- what the code tells of the expression that stands at a place of the file
 abbrev pub MostArc : List ℕ → List ℕ → List ℕ → Bool → ℕ → ℕ → ℕ → Type 0
 MostArc s sizes vars paired ranks at more =
-    (known : List Place) (first second next : ℕ) (e : Expression) → readExpression s (net sizes vars known [] []) (placeBy paired first second) 16 at ≡ fine e next → more ≡ most ranks e
+    (known : List Place) (first second next : ℕ) (e : Expression) → readExpression s (scope sizes vars known) (placeBy paired first second) 16 at ≡ fine e next → more ≡ most ranks e
 
 module _ {s : List ℕ} {n : Net} {sizes vars guards arcs : List ℕ} (d : Drawing s n sizes vars guards arcs) (value : ℕ → ℕ)
     {t k base : ℕ} (ht : t < length (n .transitions)) (hk : k < 3) (hb : base ≡ t * 96 + k * 32) where
@@ -54,13 +55,13 @@ module _ {s : List ℕ} {n : Net} {sizes vars guards arcs : List ℕ} (d : Drawi
       p = en .place
 
       -- its most is that of the place's expression
-      tells : (x : Expression) (next : ℕ) → readExpression s (net sizes vars (n .places) [] []) (placeAt n p) 16 (getD (d .slots) (base + p) 0) ≡ fine x next → more ≡ most (coloursOf n (placeAt n p)) x
+      tells : (x : Expression) (next : ℕ) → readExpression s (scope sizes vars (n .places)) (placeAt n p) 16 (getD (d .slots) (base + p) 0) ≡ fine x next → more ≡ most (coloursOf n (placeAt n p)) x
       tells x next reads =
           let by = place-by (placeAt n p) in
           rw (en .ranks, en .stands-at, en .paired) at told (n .places) (by .0) (by .1) next x (rw (by .2) reads)
 
       here : (o : Option net.Arc) → arcOn (transitionAt n t .arcs) (0x16 + k) p ≡ o
-          → Slot (readExpression s (net sizes vars (n .places) [] []) (placeAt n p) 16) (Option·map (λ a. a .expression) o) (getD (d .slots) (base + p) 0)
+          → Slot (readExpression s (scope sizes vars (n .places)) (placeAt n p) 16) (Option·map (λ a. a .expression) o) (getD (d .slots) (base + p) 0)
           → length (placeArcs n (transitionAt n t) value (0x16 + k) p) ≤ more
       here none q sl = absurd (omega (arith, en .held))
       here (some a) q sl =
@@ -112,9 +113,8 @@ module _ {s sizes vars arcs : List ℕ} {base : ℕ} where
 -- ---- the rows of a transition
 pub row-most : {s sizes vars arcs : List ℕ} {t takes puts hinders : ℕ} → MostKind s sizes vars arcs (t * 96) takes → MostKind s sizes vars arcs (t * 96 + 32) puts
     → MostKind s sizes vars arcs (t * 96 + 64) hinders → MostRow s sizes vars arcs t (takes + puts + hinders)
-unfolding effect
 row-most {t = t} {takes = takes} {puts = puts} {hinders = hinders} first second third n guards read d ht i w inside e =
-    go (holds n env (u .guard)) e
+    subst (λ x. arcsOfRow (flatRow n x) ≤ takes + puts + hinders) (effect-weighs n (numbered n t i) e) few
   where
     u : Transition
     u = transitionAt n t
@@ -122,7 +122,7 @@ row-most {t = t} {takes = takes} {puts = puts} {hinders = hinders} first second 
     env : ℕ → ℕ
     env = standsFor (variablesOf n u) (digits (sizesOf n u) i)
 
-    few : arcsOfRow (rowOf (flatPlaceCount n) (weightsOf n u env)) ≤ takes + puts + hinders
+    few : arcsOfRow (flatRow n (weightsOf n u env)) ≤ takes + puts + hinders
     few =
         omega (
           arith,
@@ -133,7 +133,3 @@ row-most {t = t} {takes = takes} {puts = puts} {hinders = hinders} first second 
           ap length (split n u env 0x18),
           third n guards t 2 d ht (omega arith) (omega arith) env,
         )
-
-    go : (h : Bool) → (if h then some (weightsOf n u env) else none) ≡ some w → arcsOfRow (rowOf (flatPlaceCount n) w) ≤ takes + puts + hinders
-    go true q = let z : weightsOf n u env ≡ w = cc in subst (λ x. arcsOfRow (rowOf (flatPlaceCount n) x) ≤ takes + puts + hinders) z few
-    go false q = let z : _≡_ {A = ℕ} 0 1 = cc in absurd (omega arith)

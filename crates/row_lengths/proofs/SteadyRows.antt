@@ -9,15 +9,15 @@ use Rattle.reading.specs.Basics.{ℕ, _+_, _*_, _/_, _%_, Bool, true, false, _&
 use Rattle.reading.proofs.Lists.{In, at-below, getD-at, at-in}
 use Rattle.reading.proofs.Gives.{both-second}
 use Rattle.net.specs.Net as net
-use Rattle.net.specs.Net.{always, Transition, Net, net, placeAt, flatPlaceCount, arcOn, variablesOf, sizesOf}
-use Rattle.net.specs.Values.{holds}
-use Rattle.firing.specs.Arcs.{Arc, arcsOf, rowOf}
+use Rattle.net.specs.Net.{Transition, Net, placeAt, flatPlaceCount, arcOn, variablesOf, sizesOf, noTransition, scope}
+use Rattle.firing.specs.Arcs.{Arc, arcsOf}
 use Rattle.net.specs.Reader.{readExpression}
 use Rattle.net_file.specs.Formed.{Fitting, Formed, expressionFormed}
 use Rattle.net_transitions.specs.internal.TransitionTables.{Slot}
 use Rattle.net_file.proofs.Limits.{limits}
 use Rattle.net_file.proofs.Formed.{formed, found-in, its-expression}
-use Rattle.bindings.specs.Effect.{transitionAt, bindings, standsFor, weightsOf, effect}
+use Rattle.bindings.specs.Effect.{transitionAt, bindings, standsFor, weightsOf, flatRow}
+use Rattle.bindings.specs.internal.Bindings.{numbered}
 use Rattle.bindings.specs.internal.Numbers.{digits, before}
 use Rattle.rows.specs.internal.Packed.{holding}
 use Rattle.rows.specs.internal.Drawing.{startOf, placeArcs, kindArcs, Drawing}
@@ -29,6 +29,7 @@ use Rattle.rows.proofs.Drawn.{slot, row-few, entry-past, entry-there, row-gives
 use Rattle.row_lengths.proofs.Lengths.{steady-long}
 use Rattle.bindings.proofs.Digits.{bindings-at}
 use Rattle.row_lengths.proofs.Values.{binding-stands}
+use Rattle.bindings.proofs.Legal.{effect-weighs}
 
 -- what is found passes the test
 found-passes : {A : Type 0} (test : A → Bool) (l : List A) {a : A} → find test l ≡ some a → test a ≡ true
@@ -46,7 +47,7 @@ module _ {s : List ℕ} {n : Net} {sizes vars guards arcs : List ℕ} (d : Drawi
   on-place : (p : ℕ) (a : net.Arc) → arcOn (transitionAt n t .arcs) (0x16 + k) p ≡ some a → expressionFormed n (placeAt n p) (a .expression) ≡ true
   on-place p a q =
       let (u, e) = at-below (n .transitions) t ht in
-      let i : In (transitionAt n t) (n .transitions) = rw (getD-at (n .transitions) t (record { guard = always; arcs = [] }) e) (at-in (n .transitions) t e) in
+      let i : In (transitionAt n t) (n .transitions) = rw (getD-at (n .transitions) t noTransition e) (at-in (n .transitions) t e) in
       let z = eqb-true (a .place) p (both-second (eqb (a .kind) (0x16 + k)) (eqb (a .place) p) (found-passes (λ a. eqb (a .kind) (0x16 + k) && eqb (a .place) p) (transitionAt n t .arcs) q)) in
       subst (λ p. expressionFormed n (placeAt n p) (a .expression) ≡ true) z (its-expression formed i (found-in (λ a. eqb (a .kind) (0x16 + k) && eqb (a .place) p) (transitionAt n t .arcs) q))
 
@@ -73,13 +74,13 @@ module _ {s : List ℕ} {n : Net} {sizes vars guards arcs : List ℕ} (d : Drawi
       p = en .place
 
       here : (o : Option net.Arc) → arcOn (transitionAt n t .arcs) (0x16 + k) p ≡ o
-          → Slot (readExpression s (net sizes vars (n .places) [] []) (placeAt n p) 16) (Option·map (λ a. a .expression) o) (getD (d .slots) (base + p) 0)
+          → Slot (readExpression s (scope sizes vars (n .places)) (placeAt n p) 16) (Option·map (λ a. a .expression) o) (getD (d .slots) (base + p) 0)
           → length (placeArcs n (transitionAt n t) value (0x16 + k) p) ≡ more
       here none q sl = absurd (omega (arith, en .held))
       here (some a) q sl =
           sym (ap length (arcs-given value d ht hk hb p a q))
           ∙ steady-long n value fits (startOf n p) (placeAt n p) (a .expression) more (on-place p a q)
-          (rw (en .ranks, en .stands-at) at told (net sizes vars (n .places) [] []) (placeAt n p) (sl .1 .next) (a .expression) (sl .1 .reads))
+          (rw (en .ranks, en .stands-at) at told (scope sizes vars (n .places)) (placeAt n p) (sl .1 .next) (a .expression) (sl .1 .reads))
 
   -- no entry is left
   pub all-added : (i total : ℕ) → length (holding (d .slots) base (length (n .places))) ≤ i → total ≡ length (so-many i)
@@ -122,9 +123,8 @@ module _ {s arcs : List ℕ} {base : ℕ} where
 -- ---- the rows of a transition
 pub row-steady : {s arcs : List ℕ} {t takes puts hinders : ℕ} → SteadyKind s arcs (t * 96) (steady.Arcs takes) → SteadyKind s arcs (t * 96 + 32) (steady.Arcs puts)
     → SteadyKind s arcs (t * 96 + 64) (steady.Arcs hinders) → SteadyRow s arcs t (steady.Arcs (takes + puts + hinders))
-unfolding effect
 row-steady {s} {arcs} {t} {takes} {puts} {hinders} first second third n sizes vars guards read d ht i w inside e =
-    go (holds n env (u .guard)) e
+    subst (λ x. arcsOfRow (flatRow n x) ≡ takes + puts + hinders) (effect-weighs n (numbered n t i) e) (omega (arith, takes-long, puts-long, hinders-long))
   where
     u : Transition
     u = transitionAt n t
@@ -146,10 +146,6 @@ row-steady {s} {arcs} {t} {takes} {puts} {hinders} first second third n sizes va
 
     hinders-long : length (arcsOf (flatPlaceCount n) (weightsOf n u env .hinder)) ≡ hinders
     hinders-long = ap length (split n u env 0x18) ∙ third n sizes vars guards t 2 d f ht (omega arith) (omega arith) env fits
-
-    go : (h : Bool) → (if h then some (weightsOf n u env) else none) ≡ some w → arcsOfRow (rowOf (flatPlaceCount n) w) ≡ takes + puts + hinders
-    go true q = let z : weightsOf n u env ≡ w = cc in subst (λ x. arcsOfRow (rowOf (flatPlaceCount n) x) ≡ takes + puts + hinders) z (omega (arith, takes-long, puts-long, hinders-long))
-    go false q = let z : _≡_ {A = ℕ} 0 1 = cc in absurd (omega arith)
 
 -- ---- what a result tells, once its case is known
 module _ {r : Steady} {count : ℕ} (e : r ≡ steady.Arcs count) where

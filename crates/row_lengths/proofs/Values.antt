@@ -6,14 +6,15 @@ use borrow.Author.Tests.{eqb-true}
 use Rattle.reading.specs.Basics.{ℕ, Bool, true, false, List, [], _∷_, map, Option, none, some, length, getD, getElem?, eqb, if_then_else_, given}
 use Rattle.reading.proofs.Lists.{In, at-below, getD-at, at-in}
 use Rattle.firing.specs.Firing.{Weights}
-use Rattle.net.specs.Net.{always, Transition, Net, sizeOf, arcOn, variablesOf}
-use Rattle.net.specs.Values.{holds, weight}
+use Rattle.net.specs.Net.{Net, sizeOf, arcOn, variablesOf, noTransition}
+use Rattle.net.specs.Values.{weight}
 use Rattle.net_file.specs.Limits.{Limits}
 use Rattle.net_file.specs.Formed.{Fitting, Words}
 use Rattle.net_file.proofs.Formed.{found-in}
 use Rattle.row_lengths.proofs.Ranges.{weight-word}
-use Rattle.bindings.specs.Effect.{Binding, transitionAt, bindings, standsFor, FlatPlace, flatPlaces, arcWeight, weightsOf, effect}
+use Rattle.bindings.specs.Effect.{Binding, transitionAt, bindings, standsFor, FlatPlace, flatPlaces, arcWeight, weightsOf, effect, colouring}
 use Rattle.bindings.proofs.Bindings.{Fit, more, binding-fits}
+use Rattle.bindings.proofs.Legal.{effect-weighs}
 
 -- colours below the sizes of some variables stand below the size of each; a variable that is not among them has the colour 0
 pub stands-below : (size : ℕ → ℕ) (variables : List ℕ) {colours : List ℕ} → Fit (map size variables) colours → (v : ℕ) → 0 < size v → standsFor variables colours v < size v
@@ -47,7 +48,7 @@ module _ (n : Net) (w : Words n) {t : ℕ} (there : t < length (n .transitions))
   pub arc-word : (kind : ℕ) (f : FlatPlace) → arcWeight n (transitionAt n t) env kind f ≤ 65535
   arc-word kind f =
       let (u, e) = at-below (n .transitions) t there in
-      let i : In (transitionAt n t) (n .transitions) = rw (getD-at (n .transitions) t (record { guard = always; arcs = [] }) e) (at-in (n .transitions) t e) in
+      let i : In (transitionAt n t) (n .transitions) = rw (getD-at (n .transitions) t noTransition e) (at-in (n .transitions) t e) in
       given-low (arcOn (transitionAt n t .arcs) kind (f .place)) (λ a. weight n env (f .rank) (a .expression)) (λ a q. weight-word n w env (f .rank) i (found-in _ (transitionAt n t .arcs) q))
 
   pub weights-word : Low (weightsOf n (transitionAt n t) env)
@@ -58,15 +59,4 @@ module _ (n : Net) (w : Words n) {t : ℕ} (there : t < length (n .transitions))
 
 -- the effect of a binding
 pub effect-word : (n : Net) → Words n → {b : Binding} {w : Weights} → In b (bindings n) → effect n b ≡ some w → Low w
-unfolding effect
-effect-word n words {b} {w} i e = go (holds n env (t .guard)) e
-  where
-    t : Transition
-    t = transitionAt n (b .transition)
-
-    env : ℕ → ℕ
-    env = standsFor (variablesOf n t) (b .colours)
-
-    go : (h : Bool) → (if h then some (weightsOf n t env) else none) ≡ some w → Low w
-    go true q = let s : weightsOf n t env ≡ w = cc in subst Low s (weights-word n words (binding-fits n i .0) env)
-    go false q = let z : _≡_ {A = ℕ} 0 1 = cc in absurd (omega arith)
+effect-word n words {b} i e = subst Low (effect-weighs n b e) (weights-word n words (binding-fits n i .0) (colouring n b))

@@ -2,12 +2,12 @@
 // Nothing is asked of the bytes: where they hold a tree, what comes out is the tree's.
 use evaluation::eval_rank;
 ghost use mathlib.Core.Path.{_≡_};
-ghost use mathlib.Core.List.{List, []};
+ghost use mathlib.Core.List.{List};
 ghost use Prim.Native.Nat.{ℕ, _≤_, _<_, _+_, _^_};
 ghost use lib.ListN.{length};
 ghost use Rattle.reading.specs.Basics.{byteAt};
 ghost use Rattle.reading.specs.Reading.{fine};
-ghost use Rattle.net.specs.Net.{net, Place, Expression};
+ghost use Rattle.net.specs.Net.{Place, Expression, scope};
 ghost use Rattle.net.specs.Reader.{readExpression, twoOf, capped};
 ghost use Rattle.evaluation.specs.internal.Evaluated.{placeBy};
 ghost use Rattle.arc_expressions.specs.internal.ReaderEnums.{joins};
@@ -60,7 +60,7 @@ fn most_joined(
 ) -> Most
     requires { ⌜ (count ≤ 65535) × (length (now (now s)) < 2 ^ 63) ⌝ }
     ensures is { λ r. ⌜ ((known : List Place) (first second at : ℕ) → MostTold count r
-        (capped at (twoOf (readExpression (now (now (s .entry))) (net (now (now (sizes .entry))) (now (now (vars .entry))) known [] []) (placeBy paired first second) left) (joins less) next))) ⌝ }
+        (capped at (twoOf (readExpression (now (now (s .entry))) (scope (now (now (sizes .entry))) (now (now (vars .entry))) known) (placeBy paired first second) left) (joins less) next))) ⌝ }
     ensures small { λ r. ⌜ r .arcs ≤ 65535 ⌝ }
 {
     let e = most_at(s, sizes, vars, env, paired, count, left, next);
@@ -86,7 +86,7 @@ fn most_inside(
     requires inner { ⌜ (1 ≤ left) × (at < length (now (now s))) ⌝ }
     requires other { ⌜ (byteAt (now (now s)) at ≡ 0x40 → ⊥) × (byteAt (now (now s)) at ≡ 0x41 → ⊥) ⌝ }
     ensures is { λ r. ⌜ ((known : List Place) (first second : ℕ) → MostTold count r
-        (readExpression (now (now (s .entry))) (net (now (now (sizes .entry))) (now (now (vars .entry))) known [] []) (placeBy paired first second) left at)) ⌝ }
+        (readExpression (now (now (s .entry))) (scope (now (now (sizes .entry))) (now (now (vars .entry))) known) (placeBy paired first second) left at)) ⌝ }
     ensures small { λ r. ⌜ r .arcs ≤ 65535 ⌝ }
 {
     let file = *s;
@@ -127,7 +127,7 @@ fn most_at(
 ) -> Most
     requires { ⌜ (count ≤ 65535) × (length (now (now s)) < 2 ^ 63) ⌝ }
     ensures is { λ r. ⌜ ((known : List Place) (first second : ℕ) → MostTold count r
-        (readExpression (now (now (s .entry))) (net (now (now (sizes .entry))) (now (now (vars .entry))) known [] []) (placeBy paired first second) left at)) ⌝ }
+        (readExpression (now (now (s .entry))) (scope (now (now (sizes .entry))) (now (now (vars .entry))) known) (placeBy paired first second) left at)) ⌝ }
     ensures small { λ r. ⌜ r .arcs ≤ 65535 ⌝ }
 {
     let file = *s;
@@ -165,7 +165,7 @@ pub fn most_arcs(
 ) -> usize
     requires { ⌜ count ≤ 65535 ⌝ }
     ensures is { λ r. ⌜ ((known : List Place) (first second next : ℕ) (e : Expression)
-        → readExpression (now (s .entry)) (net (now (sizes .entry)) (now (vars .entry)) known [] []) (placeBy paired first second) 16 at ≡ fine e next → r ≡ most count e) ⌝ }
+        → readExpression (now (s .entry)) (scope (now (sizes .entry)) (now (vars .entry)) known) (placeBy paired first second) 16 at ≡ fine e next → r ≡ most count e) ⌝ }
     ensures small { λ r. ⌜ r ≤ 65535 ⌝ }
 {
     let env = [0u8; 32];

@@ -8,16 +8,16 @@ use native.Mathlib.Numerals.{add-one}
 use borrow.Author.Tests.{ltb-true, ltb-false, lt-ltb, le-ltb}
 use lib.ListN.{set}
 use lib.Seq.{getD-set-same, getD-set-other}
-use Rattle.reading.specs.Basics.{ℕ, zero, suc, _+_, Bool, true, false, ltb, if_then_else_, _||_, List, [], some, length, getD, getElem?, any, product}
+use Rattle.reading.specs.Basics.{ℕ, zero, suc, _+_, Bool, true, false, ltb, if_then_else_, _||_, List, some, length, getD, getElem?, any, product}
 use Rattle.reading.proofs.Lists.{below-at}
-use Rattle.net.specs.Net.{Transition, Net, net, inGuard, inExpression, variablesOf, sizesOf}
+use Rattle.net.specs.Net.{Transition, Net, inGuard, inExpression, variablesOf, sizesOf, scope}
 use Rattle.net.specs.Reader.{readGuard}
 use Rattle.net.specs.Values.{holds}
 use Rattle.evaluation.specs.internal.Evaluated.{Held}
 use Rattle.net_file.specs.Limits.{Limits}
 use Rattle.evaluation.specs.declared.evaluate.Tested.{Tested}
 use Rattle.net.proofs.Alike.{holds-alike, holds-bound}
-use Rattle.bindings.specs.Effect.{Binding, transitionAt, standsFor, bindings, effect}
+use Rattle.bindings.specs.Effect.{Binding, transitionAt, standsFor, bindings}
 use Rattle.bindings.specs.Orders.{orderOf}
 use Rattle.bindings.specs.internal.Bindings.{Binds, numbered}
 use Rattle.bindings.specs.internal.Numbers.{digits, before}
@@ -26,6 +26,7 @@ use Rattle.bindings.proofs.Digits.{bindings-at, before-next, before-all}
 use Rattle.row_numbers.specs.Unfolding.{rowNumber}
 use Rattle.row_numbers.specs.internal.Walked.{passed, takesEffect, entriesAt, entries, Numbers, Follows, Starts, Listed, Tables}
 use Rattle.row_numbers.proofs.Walking.{passed-none, passed-most, effect-passes, effect-fails, number-passes, number-fails}
+use Rattle.bindings.proofs.Legal.{legal-is, legal-told}
 
 -- ---- one guard
 in-first : (a b : Bool) → a ≡ true → a || b ≡ true
@@ -40,24 +41,22 @@ module _ {s sizes vars own : List ℕ} {n : Net} {t guard : ℕ} (listed : Liste
   env = standsFor (variablesOf n this) (digits (sizesOf n this) i)
 
   -- it has an effect where its guard holds
-  effect-told : (b : Bool) → b ≡ holds n env (this .guard) → b ≡ takesEffect n t i
-  unfolding effect
-  effect-told true e = rw (← e)
-  effect-told false e = rw (← e)
+  effect-told : {b : Bool} → b ≡ holds n env (this .guard) → b ≡ takesEffect n t i
+  effect-told e = e ∙ sym (legal-is n (numbered n t i)) ∙ legal-told n (numbered n t i) refl
 
   -- there is no guard
   pub guard-none : guard < 1 → true ≡ takesEffect n t i
   unfolding holds
-  guard-none h = let e : guard ≡ 0 = omega arith in effect-told true (rw (listed .standing .without e))
+  guard-none h = let e : guard ≡ 0 = omega arith in effect-told (rw (listed .standing .without e))
 
   -- it is evaluated where it stands
   pub guard-told : (slots : List ℕ) (r : Tested) → 1 ≤ guard → Binds n (numbered n t i) slots
-      → Held (net sizes vars (n .places) [] []) slots r (readGuard s (net sizes vars (n .places) [] []) 16 guard) → r .holds ≡ takesEffect n t i
+      → Held (scope sizes vars (n .places)) slots r (readGuard s (scope sizes vars (n .places)) 16 guard) → r .holds ≡ takesEffect n t i
   guard-told slots r h given held =
-      let is = subst (Held (net sizes vars (n .places) [] []) slots r) (listed .standing .stands (omega arith) .reads) held in
-      effect-told (r .holds)
+      let is = subst (Held (scope sizes vars (n .places)) slots r) (listed .standing .stands (omega arith) .reads) held in
+      effect-told
       (ap (λ x. x .holds) is
-      ∙ sym (holds-alike n (net sizes vars (n .places) [] []) (listed .sets) (listed .variables) (λ v. getD slots v 0) (this .guard))
+      ∙ sym (holds-alike n (scope sizes vars (n .places)) (listed .sets) (listed .variables) (λ v. getD slots v 0) (this .guard))
       ∙ holds-bound n (λ v. getD slots v 0) env (this .guard) (λ v q. given v (in-first (inGuard v (this .guard)) (any (λ a. inExpression v (a .expression)) (this .arcs)) q)))
 
 -- ---- one binding

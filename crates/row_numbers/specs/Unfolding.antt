@@ -2,11 +2,10 @@
 use Rattle.reading.specs.Basics.{ℕ, zero, suc, _+_, _*_, _/_, _%_, List, [], _∷_, _++_, map, flatMap, filterMap, Option, Option·map, length, getElem?, ltb, leb, eqb, if_then_else_, given, position, same, long, items, over}
 use Rattle.reading.specs.Reading.{Outcome, accepted, refused, on, Check, _unless_, permitted}
 use Rattle.firing.specs.Firing.{Weights}
-use Rattle.firing.specs.Arcs.{rowOf}
 use Rattle.flat_file.specs.Flat.{Flat, writeFlat}
-use Rattle.net.specs.Net.{Net, flatPlaceCount, tokensOn}
+use Rattle.net.specs.Net.{Net, tokensOn}
 use Rattle.net_file.specs.NetFile.{readNet}
-use Rattle.bindings.specs.Effect.{FlatPlace, bindings, flatPlaces, effect}
+use Rattle.bindings.specs.Effect.{FlatPlace, bindings, flatPlaces, effect, flatRow}
 use Rattle.bindings.specs.Orders.{orderOf}
 
 -- ---- the unfolded net
@@ -25,7 +24,7 @@ initialAt n f = given (tokensOn (n .tokens) (f .place) (f .rank)) 0 λ t. t .cou
 
 -- the flat net, and the flat file
 unfoldable pub unfolded : Net → Flat
-unfolded n = record { initial = map (initialAt n) (flatPlaces n); rows = map (λ r. rowOf (flatPlaceCount n) (r .weights)) (rows n) }
+unfolded n = record { initial = map (initialAt n) (flatPlaces n); rows = map (λ r. flatRow n (r .weights)) (rows n) }
 
 abbrev pub flatFile : Net → List ℕ
 flatFile n = writeFlat (unfolded n)

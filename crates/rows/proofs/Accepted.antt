@@ -3,7 +3,7 @@ use mathlib.Core.Path.{_≡_, sym, subst}
 use Prim.Native.Nat.{_<_}
 use Rattle.reading.specs.Basics.{ℕ, List, [], length, getD, take}
 use Rattle.reading.specs.Reading.{refused}
-use Rattle.net.specs.Net.{Net, net, flatPlaceCount, inTransition}
+use Rattle.net.specs.Net.{Net, flatPlaceCount, inTransition, scope}
 use Rattle.net.specs.internal.ReaderEnums.{bits}
 use Rattle.net_file.specs.NetFile.{readNet}
 use Rattle.net_parts.specs.internal.Tables.{Started}
@@ -38,7 +38,7 @@ module _ (s sizes vars firsts seconds starts uses guards arcs initial : List ℕ
       abbrev h : NetHolds s n sizes vars firsts seconds starts uses guards arcs initial sets variables places total transitions space
       h = held .holds
 
-      begun : Started (net (n .sets) [] [] [] []) (n .places) starts places total
+      begun : Started (scope (n .sets) [] []) (n .places) starts places total
       begun = record { few = h .started .few; small = h .started .small; are = h .started .are; all = h .started .all; begin = h .started .begin }
 
       -- from the packed table, and from each transition's own variables
@@ -50,9 +50,9 @@ module _ (s sizes vars firsts seconds starts uses guards arcs initial : List ℕ
           record {
             read = held .read;
             drawing =
-                drawing n firsts seconds (sym (h .sets-are)) (sym (h .places-are)) (subst (λ l. Started (net l [] [] [] []) (n .places) starts places total) (sym (h .sets-are)) begun) (limits s n (held .read)) s uses arcs (sym (h .variables-are))
-                (subst (λ l. TransitionsHold s (net l (take variables vars) (n .places) [] []) (n .transitions) uses guards arcs) (sym (h .sets-are))
-                (subst (λ l. TransitionsHold s (net (n .sets) l (n .places) [] []) (n .transitions) uses guards arcs) (sym (h .variables-are)) (h .holds)))
+                drawing n firsts seconds (sym (h .sets-are)) (sym (h .places-are)) (subst (λ l. Started (scope l [] []) (n .places) starts places total) (sym (h .sets-are)) begun) (limits s n (held .read)) s uses arcs (sym (h .variables-are))
+                (subst (λ l. TransitionsHold s (scope l (take variables vars) (n .places)) (n .transitions) uses guards arcs) (sym (h .sets-are))
+                (subst (λ l. TransitionsHold s (scope (n .sets) l (n .places)) (n .transitions) uses guards arcs) (sym (h .variables-are)) (h .holds)))
                 (subst (λ c. Packed (shapeIn seconds starts) arcs packed c (length (n .transitions))) (sym (h .started .are)) (subst (λ c. Packed (shapeIn seconds starts) arcs packed places c) (sym (h .transitions-are)) packs));
             owned = owns n (sym (h .sets-are)) (sym (h .variables-are)) (limits s n (held .read)) (formed s n (held .read)) (h .transitions-are) used;
             used = used;

@@ -9,7 +9,7 @@ use Rattle.reading.specs.Basics.{ℕ, _+_, _-_, _*_, _/_, _%_, Bool, true, fals
 use Rattle.reading.specs.Reading.{fine}
 use Rattle.firing.specs.Arcs.{Arc}
 use Rattle.net.specs.Net as net
-use Rattle.net.specs.Net.{Expression, Place, single, pair, Net, net, coloursOf, placeAt, arcOn}
+use Rattle.net.specs.Net.{Expression, Place, single, pair, Net, net, coloursOf, placeAt, arcOn, scope}
 use Rattle.net.specs.Reader.{readExpression}
 use Rattle.net.specs.Values.{weight}
 use Rattle.evaluation.specs.internal.Evaluated.{bound, placeBy, isPair}
@@ -62,7 +62,7 @@ module _ {s : List ℕ} {n : Net} {sizes vars guards arcs : List ℕ} (value : �
 
   -- its slot
   pub slot : (p : ℕ) → p < length (n .places)
-      → Slot (readExpression s (net sizes vars (n .places) [] []) (placeAt n p) 16) (Option·map (λ a. a .expression) (arcOn (transitionAt n t .arcs) (0x16 + k) p)) (getD (d .slots) (base + p) 0)
+      → Slot (readExpression s (scope sizes vars (n .places)) (placeAt n p) 16) (Option·map (λ a. a .expression) (arcOn (transitionAt n t .arcs) (0x16 + k) p)) (getD (d .slots) (base + p) 0)
   slot p h = let e : base + p ≡ t * 96 + (k * 32 + p) = omega arith in rw e (d .arc t k p ht hk (omega arith))
 
   -- the row's places that hold an arc, 32 at most
@@ -102,7 +102,7 @@ module _ {s : List ℕ} {n : Net} {sizes vars guards arcs : List ℕ} (value : �
   row-gives m le = holding-give (d .slots) base gives m (λ p h free. go p (arcOn (transitionAt n t .arcs) (0x16 + k) p) refl (slot p (omega arith)) free)
     where
       go : (p : ℕ) (o : Option net.Arc) → arcOn (transitionAt n t .arcs) (0x16 + k) p ≡ o
-          → Slot (readExpression s (net sizes vars (n .places) [] []) (placeAt n p) 16) (Option·map (λ a. a .expression) o) (getD (d .slots) (base + p) 0)
+          → Slot (readExpression s (scope sizes vars (n .places)) (placeAt n p) 16) (Option·map (λ a. a .expression) o) (getD (d .slots) (base + p) 0)
           → getD (d .slots) (base + p) 0 < 1 → gives p ≡ []
       go p none q sl free = place-none n (transitionAt n t) value (0x16 + k) p q
       go p (some a) q sl free = absurd (omega (arith, sl .0))
@@ -163,7 +163,7 @@ module _ {s : List ℕ} {n : Net} {sizes vars guards arcs : List ℕ} (value : �
 module _ {s : List ℕ} {n : Net} {sizes vars guards arcs : List ℕ} (env : List ℕ) (d : Drawing s n sizes vars guards arcs)
     {t k base : ℕ} (ht : t < length (n .transitions)) (hk : k < 3) (hb : base ≡ t * 96 + k * 32) where
   abbrev over : Net
-  over = net sizes vars (n .places) [] []
+  over = scope sizes vars (n .places)
 
   -- the expression of an arc on a place was
   place-loads : (entry p : ℕ) (e : Expression) {places amounts places' amounts' : List ℕ} {used r next : ℕ} → entry / 16384 % 8192 ≡ startOf n p

@@ -8,25 +8,26 @@ use Rattle.reading.specs.Basics.{ℕ, _+_, _/_, _*_, Bool, true, false, not, _|
 use Rattle.reading.proofs.Lists.{In, here, there, in-cases}
 use Rattle.firing.specs.Firing.{Weights, fired, fire}
 use Rattle.firing.specs.internal.Steps.{lacking}
-use Rattle.firing.specs.Arcs.{Arc, arcsOf, row, rowOf, weights, Proper}
+use Rattle.firing.specs.Arcs.{Arc, arcsOf, row, weights, Proper}
 use Rattle.firing.specs.internal.RowLists.{arcsIn, rowIn}
 use Rattle.firing.proofs.Rule.{fires-3}
 use Rattle.firing.proofs.Agree.{fire-same}
 use Rattle.firing.proofs.Weighted.{row-agrees, row-proper}
 use Rattle.net.specs.Net as net
-use Rattle.net.specs.Net.{Transition, Net, net, flatPlaceCount, arcOn, variablesOf, inGuard, inExpression, inTransition}
+use Rattle.net.specs.Net.{Transition, Net, net, flatPlaceCount, arcOn, variablesOf, inGuard, inExpression, inTransition, scope}
 use Rattle.net.specs.Values.{holds, weight}
 use Rattle.evaluation.specs.internal.Evaluated.{bound}
 use Rattle.net.proofs.Alike.{holds-alike, holds-bound, weight-bound}
 use Rattle.runs.specs.internal.Terms.{Appended}
 use Rattle.runs.proofs.Appending.{arcs-kept}
-use Rattle.bindings.specs.Effect.{Binding, FlatPlace, transitionAt, standsFor, flatPlaces, arcWeight, weightsOf, effect}
+use Rattle.bindings.specs.Effect.{Binding, FlatPlace, transitionAt, standsFor, flatPlaces, arcWeight, weightsOf, effect, flatRow}
 use Rattle.rows.specs.internal.Drawing.{kindSlots, rowSlots, room, kindArcs, Drawing, TakesLoaded, RowLoaded}
 use Rattle.bindings.specs.internal.Bindings.{Binds, binding}
 use Rattle.rows.specs.internal.Loading.{KindLoaded, GuardTold}
 use Rattle.bindings.proofs.Clash.{not-true, not-false}
 use Rattle.rows.proofs.Needing.{kind-low, kind-arcs, row-room}
 use Rattle.rows.proofs.Split.{split, start-low, kind-few}
+use Rattle.bindings.proofs.Legal.{legal-is, effect-legal, effect-none, effect-weighs}
 
 -- ---- what stands somewhere
 or-left : (a b : Bool) → a ≡ true → a || b ≡ true
@@ -71,16 +72,6 @@ module _ (n : Net) (t : Transition) (env other : ℕ → ℕ) (same : (v : ℕ) 
   kind-row kind = sym (split n t env kind) ∙ ap (λ w. arcsOf (flatPlaceCount n) (λ p. given (getElem? (flatPlaces n) p) 0 w)) (fun-ext (arc-as kind))
 
 -- ---- the code's results
--- the weights of an effect are its transition's
-weights-are : (n : Net) (b : Binding) {w : Weights} → effect n b ≡ some w → weightsOf n (transitionAt n (b .transition)) (standsFor (variablesOf n (transitionAt n (b .transition))) (b .colours)) ≡ w
-unfolding effect
-weights-are n b {w} e = go (holds n (standsFor (variablesOf n (transitionAt n (b .transition))) (b .colours)) (transitionAt n (b .transition) .guard)) e
-  where
-    go : (q : Bool) → (if q then some (weightsOf n (transitionAt n (b .transition)) (standsFor (variablesOf n (transitionAt n (b .transition))) (b .colours))) else none) ≡ some w
-        → weightsOf n (transitionAt n (b .transition)) (standsFor (variablesOf n (transitionAt n (b .transition))) (b .colours)) ≡ w
-    go true i = cc
-    go false i = let z : _≡_ {A = ℕ} 0 1 = cc in absurd (omega arith)
-
 -- an effect has one list of weights
 same-weights : (n : Net) (b : Binding) {w w' : Weights} → effect n b ≡ some w → effect n b ≡ some w' → w ≡ w'
 same-weights n b {w = w} {w' = w'} e f = let both : some w ≡ some w' = sym e ∙ f in cc
@@ -114,23 +105,21 @@ module _ {s : List ℕ} {n : Net} {sizes vars guards arcs : List ℕ} (env : Lis
     guard-is : r ≡ holds n other (transitionAt n t .guard)
     guard-is =
         told (n .places) (transitionAt n t .guard) (rw slot (d .guard t ht))
-        ∙ holds-alike (net sizes vars (n .places) [] []) n (sym (d .sets)) (sym (d .variables)) (bound env) (transitionAt n t .guard)
+        ∙ holds-alike (scope sizes vars (n .places)) n (sym (d .sets)) (sym (d .variables)) (bound env) (transitionAt n t .guard)
         ∙ guard-as n (transitionAt n t) (bound env) other binds
 
     -- the guard is false
     pub effect-nothing : not r ≡ true → effect n (binding t colours) ≡ none
-    unfolding effect
-    effect-nothing e = rw (sym guard-is ∙ not-true r e)
+    effect-nothing e = effect-none n (binding t colours) (legal-is n (binding t colours) ∙ sym guard-is ∙ not-true r e)
 
     -- it is true, and the takes were appended
     pub effect-takes : {places amounts p1 a1 : List ℕ} {end : ℕ} → not r ≡ false → room s n ≤ length places → room s n ≤ length amounts
         → KindLoaded s sizes vars env arcs (t * 96) places amounts 0 p1 a1 end → TakesLoaded n (binding t colours) p1 a1 end
-    unfolding effect
     effect-takes e x y k1 =
         let first = k1 n guards t 0 d ht (omega arith) (omega arith) (omega (arith, wide)) (omega (arith, wide)) in
         record {
           weighs = weightsOf n (transitionAt n t) other;
-          is = rw (sym guard-is ∙ not-false r e);
+          is = effect-legal n (binding t colours) (legal-is n (binding t colours) ∙ sym guard-is ∙ not-false r e);
           takes = first .are ∙ rows-of 0x16;
           few = omega (arith, low 0x16, first .end);
         }
@@ -144,7 +133,7 @@ module _ {s : List ℕ} {n : Net} {sizes vars guards arcs : List ℕ} (env : Lis
   after-takes {p1} {a1} {p2} {a2} {p3} {a3} {takes} {puts} {hinders} x y front short k2 k3 =
       record {
         row = λ w is.
-            let same = weights-are n (binding t colours) is in
+            let same = effect-weighs n (binding t colours) is in
             rows (arcs-kept p2 a2 p3 a3 0 takes (shorter p2 p3 (third .front)) (shorter a2 a3 (third .fronts)) ∙ arcs-kept p1 a1 p2 a2 0 takes (second .front) (second .fronts) ∙ front w is)
             (arcs-kept p2 a2 p3 a3 takes puts (third .front) (third .fronts) ∙ second .are ∙ rows-of 0x17 ∙ ap (λ w. arcsOf (flatPlaceCount n) (w .put)) same)
             (third .are ∙ rows-of 0x18 ∙ ap (λ w. arcsOf (flatPlaceCount n) (w .hinder)) same);
@@ -184,7 +173,7 @@ module _ {s : List ℕ} {n : Net} {sizes vars guards arcs : List ℕ} (env : Lis
   effect-row x y k1 k2 k3 =
       let first = k1 n guards t 0 d ht (omega arith) (omega arith) (omega (arith, wide)) (omega (arith, wide)) in
       after-takes (omega (arith, first .size)) (omega (arith, first .sizes))
-      (λ w is. first .are ∙ rows-of 0x16 ∙ ap (λ w. arcsOf (flatPlaceCount n) (w .take)) (weights-are n (binding t colours) is)) (omega (arith, low 0x16, first .end)) k2 k3
+      (λ w is. first .are ∙ rows-of 0x16 ∙ ap (λ w. arcsOf (flatPlaceCount n) (w .take)) (effect-weighs n (binding t colours) is)) (omega (arith, low 0x16, first .end)) k2 k3
 
 -- ---- for callers: firing the row that was loaded is firing the effect
 module _ {n : Net} {b : Binding} {places amounts : List ℕ} {takes puts hinders : ℕ} (l : RowLoaded n b places amounts takes puts hinders) {w : Weights} (is : effect n b ≡ some w)
@@ -195,7 +184,7 @@ module _ {n : Net} {b : Binding} {places amounts : List ℕ} {takes puts hinders
 
   -- the row's weights fire as the effect's
   pub loaded-fires : fire (weights (rowIn places amounts takes puts hinders)) m ≡ fire w m
-  loaded-fires = ap (λ r. fire (weights r) m) (l .row w is) ∙ fire-same (weights (rowOf (flatPlaceCount n) w)) w m (rw sized (row-agrees (flatPlaceCount n) w))
+  loaded-fires = ap (λ r. fire (weights r) m) (l .row w is) ∙ fire-same (weights (flatRow n w)) w m (rw sized (row-agrees (flatPlaceCount n) w))
 
   -- the answer alone, and the firing
   pub loaded-answer : (r : ℕ) → (Proper (length m) (rowIn places amounts takes puts hinders) → r ≡ fire (weights (rowIn places amounts takes puts hinders)) m .answer) → r ≡ fire w m .answer
@@ -209,8 +198,8 @@ module _ {n : Net} {b : Binding} {places amounts : List ℕ} {end : ℕ} (k : Ta
   -- one is lacking
   pub takes-lack : length m ≡ flatPlaceCount n → any (lacking m) (arcsIn places amounts 0 end) ≡ true → fired 3 m ≡ fire (k .weighs) m
   takes-lack sized e =
-      fires-3 m (rowOf (flatPlaceCount n) (k .weighs)) (rw sized (row-proper (flatPlaceCount n) (k .weighs))) (ap (any (lacking m)) (sym (k .takes)) ∙ e)
-      ∙ fire-same (weights (rowOf (flatPlaceCount n) (k .weighs))) (k .weighs) m (rw sized (row-agrees (flatPlaceCount n) (k .weighs)))
+      fires-3 m (flatRow n (k .weighs)) (rw sized (row-proper (flatPlaceCount n) (k .weighs))) (ap (any (lacking m)) (sym (k .takes)) ∙ e)
+      ∙ fire-same (weights (flatRow n (k .weighs))) (k .weighs) m (rw sized (row-agrees (flatPlaceCount n) (k .weighs)))
 
   -- none is, nor in the whole row
   pub none-lacks : {p' a' : List ℕ} {takes puts hinders : ℕ} → RowLoaded n b p' a' takes puts hinders → any (lacking m) (arcsIn places amounts 0 end) ≡ false

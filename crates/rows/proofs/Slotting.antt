@@ -8,7 +8,7 @@ use lib.ListN.{length-map}
 use lib.Seq.{take-all}
 use Rattle.reading.specs.Basics.{ℕ, zero, suc, _+_, _*_, _/_, _%_, Bool, true, false, List, [], _∷_, _++_, map, flatMap, Option, none, some, Option·map, length, getD, take, sum, ltb, numbersFrom}
 use Rattle.net.specs.Net as net
-use Rattle.net.specs.Net.{always, Net, net, placeAt, arcOn}
+use Rattle.net.specs.Net.{Net, net, placeAt, arcOn, noTransition, scope}
 use Rattle.net.specs.Reader.{readExpression}
 use Rattle.net_transitions.specs.internal.TransitionTables.{Slot}
 use Rattle.sums.specs.internal.Slots.{expressionSlots, slotsFor}
@@ -39,7 +39,7 @@ module _ {s : List ℕ} {n : Net} {sizes vars guards arcs : List ℕ} (d : Drawi
   place-free p h free = go (arcOn (transitionAt n t .arcs) (0x16 + k) p) refl (slot (λ v. 0) d ht hk hb p h)
     where
       go : (o : Option net.Arc) → arcOn (transitionAt n t .arcs) (0x16 + k) p ≡ o
-          → Slot (readExpression s (net sizes vars (n .places) [] []) (placeAt n p) 16) (Option·map (λ a. a .expression) o) (getD (d .slots) (base + p) 0) → slots p ≡ 0
+          → Slot (readExpression s (scope sizes vars (n .places)) (placeAt n p) 16) (Option·map (λ a. a .expression) o) (getD (d .slots) (base + p) 0) → slots p ≡ 0
       go none q sl = rw q refl
       go (some a) q sl = absurd (omega (arith, sl .0))
 
@@ -74,12 +74,12 @@ module _ {s : List ℕ} {n : Net} {sizes vars guards arcs : List ℕ} (d : Drawi
       p = en .place
 
       here : (o : Option net.Arc) → arcOn (transitionAt n t .arcs) (0x16 + k) p ≡ o
-          → Slot (readExpression s (net sizes vars (n .places) [] []) (placeAt n p) 16) (Option·map (λ a. a .expression) o) (getD (d .slots) (base + p) 0)
+          → Slot (readExpression s (scope sizes vars (n .places)) (placeAt n p) 16) (Option·map (λ a. a .expression) o) (getD (d .slots) (base + p) 0)
           → slots p ≡ slotsFor s (entry / 134217728) (entry / 2 % 8192)
       here none q sl = absurd (omega (arith, en .held))
       here (some a) q sl =
-          let reads = ap (readExpression s (net sizes vars (n .places) [] []) (placeAt n p) 16) (en .stands-at) ∙ sl .1 .reads in
-          rw q (sym (slots-told s (net sizes vars (n .places) [] []) (placeAt n p) (entry / 134217728) (entry / 2 % 8192) reads ∙ ap (λ c. expressionSlots c (a .expression)) (en .ranks)))
+          let reads = ap (readExpression s (scope sizes vars (n .places)) (placeAt n p) 16) (en .stands-at) ∙ sl .1 .reads in
+          rw q (sym (slots-told s (scope sizes vars (n .places)) (placeAt n p) (entry / 134217728) (entry / 2 % 8192) reads ∙ ap (λ c. expressionSlots c (a .expression)) (en .ranks)))
 
   -- no entry is left
   all-slots : (i total : ℕ) → length row ≤ i → sum (map slots (take i row)) ≤ total → kindSlots n (transitionAt n t) (0x16 + k) ≤ total
@@ -147,4 +147,4 @@ all-enough {s} {arcs} {most} {transitions} enough n sizes vars guards d are =
     greatest-least (map (rowSlots n) (n .transitions)) most (λ i lt.
     let inside : i < length (n .transitions) = omega (arith, length-map (n .transitions) (rowSlots n)) in
     let f = enough i (omega arith) n sizes vars guards d inside in
-    omega (arith, f, map-at (rowSlots n) (n .transitions) i (record { guard = always; arcs = [] }) inside))
+    omega (arith, f, map-at (rowSlots n) (n .transitions) i noTransition inside))

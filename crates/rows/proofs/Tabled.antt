@@ -4,7 +4,7 @@ use Prim.Native.Nat.{_≤_, _<_}
 use native.Mathlib.Omega.{arith}
 use lib.Seq.{getD-take}
 use Rattle.reading.specs.Basics.{ℕ, zero, suc, _+_, _-_, _%_, Bool, true, false, not, List, [], _∷_, map, length, getD, take, eqb, if_then_else_, sum}
-use Rattle.net.specs.Net.{single, pair, Net, net, coloursOf, placeAt}
+use Rattle.net.specs.Net.{single, pair, Net, coloursOf, placeAt, scope}
 use Rattle.evaluation.specs.internal.Evaluated.{isPair}
 use Rattle.net_file.specs.Limits.{Limits}
 use Rattle.net_parts.specs.internal.Tables.{placesOf, Started}
@@ -26,11 +26,11 @@ pair-told (a ∷ firsts) (b ∷ seconds) zero h = go (eqb b 255)
 pair-told (a ∷ firsts) (b ∷ seconds) (suc p) h = pair-told firsts seconds p (omega arith)
 
 module _ (n : Net) {sizes : List ℕ} (firsts seconds : List ℕ) {starts : List ℕ} {count total : ℕ} (e : n .sets ≡ sizes)
-    (places : n .places ≡ placesOf (take count firsts) (take count seconds)) (begun : Started (net sizes [] [] [] []) (n .places) starts count total)
+    (places : n .places ≡ placesOf (take count firsts) (take count seconds)) (begun : Started (scope sizes [] []) (n .places) starts count total)
     (limits : Limits n) where
   -- where places begin, and which places are pairs
   begins : (p : ℕ) → p ≤ length (n .places) → getD starts p 0 ≡ startOf n p
-  begins p h = subst (λ l. getD starts p 0 ≡ sum (map (coloursOf (net l [] [] [] [])) (take p (n .places)))) (sym e) (begun .begin p (omega (arith, begun .are)))
+  begins p h = subst (λ l. getD starts p 0 ≡ sum (map (coloursOf (scope l [] [])) (take p (n .places)))) (sym e) (begun .begin p (omega (arith, begun .are)))
 
   pairs : (p : ℕ) → p < length (n .places) → not (eqb (getD seconds p 0) 255) ≡ isPair (placeAt n p)
   pairs p h =
@@ -51,7 +51,7 @@ module _ (n : Net) {sizes : List ℕ} (firsts seconds : List ℕ) {starts : List
       same-shape {a} {a'} {b} {b'} {x} {x'} u v w = ap (λ k. shapeOf k b x) u ∙ ap (λ k. shapeOf a' k x) v ∙ ap (shapeOf a' b') w
 
   pub drawing : (s : List ℕ) {vars : List ℕ} (uses : List ℕ) {guards packed : List ℕ} (arcs : List ℕ) → n .variables ≡ vars
-      → TransitionsHold s (net sizes vars (n .places) [] []) (n .transitions) uses guards arcs
+      → TransitionsHold s (scope sizes vars (n .places)) (n .transitions) uses guards arcs
       → Packed (shapeIn seconds starts) arcs packed (length (n .places)) (length (n .transitions))
       → Drawing s n sizes vars guards packed
   drawing s uses arcs f held packs = record {

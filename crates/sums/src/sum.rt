@@ -13,7 +13,7 @@ ghost use mathlib.Core.List.{List, [], _∷_};
 ghost use Prim.Native.Nat.{ℕ, _≤_, _<_, _^_};
 ghost use lib.ListN.{length};
 ghost use Rattle.firing.specs.internal.RowLists.{arcsIn};
-ghost use Rattle.net.specs.Net.{net, Place};
+ghost use Rattle.net.specs.Net.{Place, scope};
 ghost use Rattle.evaluation.specs.internal.Evaluated.{placeBy};
 ghost use Rattle.runs.specs.internal.Terms.{term, Terms, joined, joinBy, Appended};
 ghost use Rattle.sums.specs.internal.Sums.{SumTold};
@@ -81,7 +81,7 @@ fn sum_counts(
     used: usize,
 ) -> Summed
     requires { ⌜ (count ≤ 65535) × (length (now (now s)) < 2 ^ 63) ⌝ }
-    ensures is { λ r. ⌜ ((known : List Place) (first second : ℕ) → SumTold (now (now (s .entry))) (net (now (now (sizes .entry))) (now (now (vars .entry))) known [] []) (placeBy paired first second) (now (env .entry)) count
+    ensures is { λ r. ⌜ ((known : List Place) (first second : ℕ) → SumTold (now (now (s .entry))) (scope (now (now (sizes .entry))) (now (now (vars .entry))) known) (placeBy paired first second) (now (env .entry)) count
         at ahead (now (ranks .entry)) (now (counts .entry)) used (now (ranks .exit)) (now (counts .exit)) (r .end) (r .next) (r .ahead)) ⌝ }
     ensures low { λ r. ⌜ used ≤ r .end ⌝ }
 {
@@ -143,7 +143,7 @@ fn sum_runs(
     used: usize,
 ) -> Summed
     requires { ⌜ (count ≤ 65535) × (length (now (now s)) < 2 ^ 63) ⌝ }
-    ensures is { λ r. ⌜ ((known : List Place) (first second : ℕ) → SumTold (now (now (s .entry))) (net (now (now (sizes .entry))) (now (now (vars .entry))) known [] []) (placeBy paired first second) (now (env .entry)) count
+    ensures is { λ r. ⌜ ((known : List Place) (first second : ℕ) → SumTold (now (now (s .entry))) (scope (now (now (sizes .entry))) (now (now (vars .entry))) known) (placeBy paired first second) (now (env .entry)) count
         at ahead (now (ranks .entry)) (now (counts .entry)) used (now (ranks .exit)) (now (counts .exit)) (r .end) (r .next) (r .ahead)) ⌝ }
     ensures low { λ r. ⌜ used ≤ r .end ⌝ }
 {
@@ -218,7 +218,7 @@ pub fn sum_terms(
     used: usize,
 ) -> Summed
     requires { ⌜ (count ≤ 65535) × (length (now (now s)) < 2 ^ 63) ⌝ }
-    ensures is { λ r. ⌜ ((known : List Place) (first second : ℕ) → SumTold (now (now (s .entry))) (net (now (now (sizes .entry))) (now (now (vars .entry))) known [] []) (placeBy paired first second) (now (env .entry)) count
+    ensures is { λ r. ⌜ ((known : List Place) (first second : ℕ) → SumTold (now (now (s .entry))) (scope (now (now (sizes .entry))) (now (now (vars .entry))) known) (placeBy paired first second) (now (env .entry)) count
         at 1 (now (ranks .entry)) (now (counts .entry)) used (now (ranks .exit)) (now (counts .exit)) (r .end) (r .next) (r .ahead)) ⌝ }
     ensures low { λ r. ⌜ used ≤ r .end ⌝ }
 {

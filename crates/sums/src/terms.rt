@@ -13,7 +13,7 @@ ghost use Prim.Native.Nat.{ℕ, _≤_, _<_, _+_, _^_};
 ghost use lib.ListN.{length};
 ghost use Rattle.reading.specs.Basics.{byteAt};
 ghost use Rattle.reading.specs.Reading.{under};
-ghost use Rattle.net.specs.Net.{net, Place, times};
+ghost use Rattle.net.specs.Net.{Place, times, scope};
 ghost use Rattle.net.specs.Reader.{readExpression, twoOf, capped};
 ghost use Rattle.evaluation.specs.internal.Evaluated.{placeBy};
 ghost use Rattle.arc_expressions.specs.internal.ReaderEnums.{joins};
@@ -86,9 +86,9 @@ fn list_joined(
     used: usize,
 ) -> Multiset
     requires { ⌜ (count ≤ 65535) × (length (now (now s)) < 2 ^ 63) ⌝ }
-    ensures is { λ r. ⌜ ((known : List Place) (first second at : ℕ) → ListedTold (net (now (now (sizes .entry))) (now (now (vars .entry))) known [] []) (now (env .entry)) count
+    ensures is { λ r. ⌜ ((known : List Place) (first second at : ℕ) → ListedTold (scope (now (now (sizes .entry))) (now (now (vars .entry))) known) (now (env .entry)) count
         (now (ranks .entry)) (now (counts .entry)) used (now (ranks .exit)) (now (counts .exit)) r
-        (capped at (twoOf (readExpression (now (now (s .entry))) (net (now (now (sizes .entry))) (now (now (vars .entry))) known [] []) (placeBy paired first second) left) (joins less) next))) ⌝ }
+        (capped at (twoOf (readExpression (now (now (s .entry))) (scope (now (now (sizes .entry))) (now (now (vars .entry))) known) (placeBy paired first second) left) (joins less) next))) ⌝ }
     ensures low { λ r. ⌜ used ≤ r .end ⌝ }
 {
     let e = list_terms(
@@ -140,9 +140,9 @@ fn list_times(
     used: usize,
 ) -> Multiset
     requires { ⌜ (count ≤ 65535) × (length (now (now s)) < 2 ^ 63) ⌝ }
-    ensures is { λ r. ⌜ ((known : List Place) (first second at : ℕ) → ListedTold (net (now (now (sizes .entry))) (now (now (vars .entry))) known [] []) (now (env .entry)) count
+    ensures is { λ r. ⌜ ((known : List Place) (first second at : ℕ) → ListedTold (scope (now (now (sizes .entry))) (now (now (vars .entry))) known) (now (env .entry)) count
         (now (ranks .entry)) (now (counts .entry)) used (now (ranks .exit)) (now (counts .exit)) r
-        (capped at (under (times factor) (readExpression (now (now (s .entry))) (net (now (now (sizes .entry))) (now (now (vars .entry))) known [] []) (placeBy paired first second) left next)))) ⌝ }
+        (capped at (under (times factor) (readExpression (now (now (s .entry))) (scope (now (now (sizes .entry))) (now (now (vars .entry))) known) (placeBy paired first second) left next)))) ⌝ }
     ensures low { λ r. ⌜ used ≤ r .end ⌝ }
 {
     let e = list_terms(
@@ -183,9 +183,9 @@ fn list_inside(
     requires { ⌜ (count ≤ 65535) × (length (now (now s)) < 2 ^ 63) ⌝ }
     requires inner { ⌜ (1 ≤ left) × (at < length (now (now s))) ⌝ }
     requires other { ⌜ (byteAt (now (now s)) at ≡ 0x40 → ⊥) × (byteAt (now (now s)) at ≡ 0x41 → ⊥) ⌝ }
-    ensures is { λ r. ⌜ ((known : List Place) (first second : ℕ) → ListedTold (net (now (now (sizes .entry))) (now (now (vars .entry))) known [] []) (now (env .entry)) count
+    ensures is { λ r. ⌜ ((known : List Place) (first second : ℕ) → ListedTold (scope (now (now (sizes .entry))) (now (now (vars .entry))) known) (now (env .entry)) count
         (now (ranks .entry)) (now (counts .entry)) used (now (ranks .exit)) (now (counts .exit)) r
-        (readExpression (now (now (s .entry))) (net (now (now (sizes .entry))) (now (now (vars .entry))) known [] []) (placeBy paired first second) left at)) ⌝ }
+        (readExpression (now (now (s .entry))) (scope (now (now (sizes .entry))) (now (now (vars .entry))) known) (placeBy paired first second) left at)) ⌝ }
     ensures low { λ r. ⌜ used ≤ r .end ⌝ }
 {
     let file = *s;
@@ -243,9 +243,9 @@ pub fn list_terms(
     used: usize,
 ) -> Multiset
     requires { ⌜ (count ≤ 65535) × (length (now (now s)) < 2 ^ 63) ⌝ }
-    ensures is { λ r. ⌜ ((known : List Place) (first second : ℕ) → ListedTold (net (now (now (sizes .entry))) (now (now (vars .entry))) known [] []) (now (env .entry)) count
+    ensures is { λ r. ⌜ ((known : List Place) (first second : ℕ) → ListedTold (scope (now (now (sizes .entry))) (now (now (vars .entry))) known) (now (env .entry)) count
         (now (ranks .entry)) (now (counts .entry)) used (now (ranks .exit)) (now (counts .exit)) r
-        (readExpression (now (now (s .entry))) (net (now (now (sizes .entry))) (now (now (vars .entry))) known [] []) (placeBy paired first second) left at)) ⌝ }
+        (readExpression (now (now (s .entry))) (scope (now (now (sizes .entry))) (now (now (vars .entry))) known) (placeBy paired first second) left at)) ⌝ }
     ensures low { λ r. ⌜ used ≤ r .end ⌝ }
 {
     let file = *s;

@@ -12,7 +12,7 @@ use Rattle.net_parts.specs.Parts.{setPart, variablePart, placePart, tokensPart}
 use Rattle.net_transitions.specs.Transitions.{arcPart, transitionPart}
 use Rattle.net_file.specs.NetFile.{readNet}
 use Rattle.net.specs.Values.{colour, holds, weight}
-use Rattle.bindings.specs.Effect.{choices, bindings, standsFor, flatPlaces, effect}
+use Rattle.bindings.specs.Effect.{choices, bindings, standsFor, flatPlaces, legal, effect}
 use Rattle.bindings.specs.Orders.{fits, named, fireOrder, fireOrders, firstOrder}
 use Rattle.row_numbers.specs.Unfolding.{rows, unfolded, rowNumber, image, images, imagesCall, decimal, program}
 
@@ -43,7 +43,7 @@ AllHold (c ∷ l) = Holds c × AllHold l
 
 -- all that must compute
 unfoldable pub meanings : Unit {0}
-unfolding flatMap filterMap Option·elim numbersFrom any every keep find position same failing obey standing needed repeat file fire run ending fireCall first firstCall writeFlat setOf ceiling inColour inGuard inExpression variablesOf widthOf readColour readGuard readExpression setPart variablePart placePart readGuardIf arcPart transitionPart tokensPart readNet choices bindings standsFor colour holds weight flatPlaces effect fits named fireOrder fireOrders firstOrder rows unfolded rowNumber images imagesCall decimal program
+unfolding flatMap filterMap Option·elim numbersFrom any every keep find position same failing obey standing needed repeat file fire run ending fireCall first firstCall writeFlat setOf ceiling inColour inGuard inExpression variablesOf widthOf readColour readGuard readExpression setPart variablePart placePart readGuardIf arcPart transitionPart tokensPart readNet choices bindings standsFor colour holds weight flatPlaces legal effect fits named fireOrder fireOrders firstOrder rows unfolded rowNumber images imagesCall decimal program
 meanings = tt
 
 -- the two-gauge net's flat file

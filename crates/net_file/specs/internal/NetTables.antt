@@ -3,7 +3,7 @@ use mathlib.Core.Path.{_≡_}
 use Prim.Native.Nat.{_≤_, _<_}
 use Rattle.reading.specs.Basics.{ℕ, List, [], _∷_, length, getD, take, eqb, byteAt}
 use Rattle.reading.specs.Reading.{Answer, fine, fault, _andThen_, accepted, refused, _unless_, checked, command, needed}
-use Rattle.net.specs.Net.{Net, net, placeAt, bindingSpace}
+use Rattle.net.specs.Net.{Net, placeAt, bindingSpace, scope}
 use Rattle.net_file.specs.NetFile.{readNet}
 use Rattle.net.specs.internal.ReaderEnums.{placeOf}
 use Rattle.net_parts.specs.internal.Tables.{placesOf, Started, Holds, countOf}
@@ -38,7 +38,7 @@ refusal (part.Fault number place) = net-read.Refused number place
 -- ---- the whole net
 -- the net that guards and arcs are read over: its sets, its variables and its places
 abbrev pub drawn : Net → Net
-drawn n = net (n .sets) (n .variables) (n .places) [] []
+drawn n = scope (n .sets) (n .variables) (n .places)
 
 -- what the tables hold of a net, each fact by itself
 pub record NetHolds (s : List ℕ) (n : Net) (sizes vars firsts seconds starts uses guards arcs initial : List ℕ) (sets variables places total transitions space : ℕ) : Type 0 where

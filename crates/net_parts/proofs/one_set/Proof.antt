@@ -6,7 +6,7 @@ use Prim.Native.Nat.{_≤_, _<_, _+_}
 use lib.ListN.{length, getD}
 use Rattle.reading.specs.Basics.{every}
 use Rattle.reading.proofs.Commands.{tests, stands-cut, stands-fails, stands-goes}
-use Rattle.net.specs.Net.{net}
+use Rattle.net.specs.Net.{scope}
 use Rattle.net_parts.specs.Parts.{placePart}
 use Rattle.net.proofs.Shut.{commands}
 use Rattle.net.proofs.Colours.{wide}
@@ -35,5 +35,5 @@ one-set-spec =
     (λ c. search needs)
     (λ c. search needs)
     (λ c κs. search needs)
-    (λ c. let a = c .before .before .before .before .before .before .before .after .ensures 1 (wide (now (c .before .before .before .before .before .before .before .before .before .before .args .s)) (c .before .before .before .before .before .before .before .before .before .before .args .at) 0x12 _ (search needs) refl) in rw (c .place-stop4 .ensures) (λ v l e f. let k = one-spills (net (now (c .before .before .before .before .before .before .before .before .before .before .args .sets)) v [] [] []) l f (getD (now (c .before .before .before .before .before .before .before .before .before .before .args .s)) (c .before .before .before .before .before .before .before .before .before .before .args .at + 1) 0) (c .before .before .entry .ensures) (omega arith) in let h : length l < 32 = omega arith in stands-fails _ _ 0x12 _ (search needs) refl (omega arith) (search (tests, k)), search needs))
-    (λ c. let a = c .before .before .before .before .before .before .after .ensures 1 (wide (now (c .before .before .before .before .before .before .before .before .before .args .s)) (c .before .before .before .before .before .before .before .before .before .args .at) 0x12 _ (search needs) refl) in rw a (λ v l e f. let k = one-fits (net (now (c .before .before .before .before .before .before .before .before .before .args .sets)) v [] [] []) l f (getD (now (c .before .before .before .before .before .before .before .before .before .args .s)) (c .before .before .before .before .before .before .before .before .before .args .at + 1) 0) (c .before .entry .ensures) (omega arith) in let h : length l < 32 = omega arith in stands-goes _ _ 0x12 _ (search needs) refl (omega arith) (search (tests, k)), (search needs, search needs, search needs, omega arith, omega arith))))
+    (λ c. let a = c .before .before .before .before .before .before .before .after .ensures 1 (wide (now (c .before .before .before .before .before .before .before .before .before .before .args .s)) (c .before .before .before .before .before .before .before .before .before .before .args .at) 0x12 _ (search needs) refl) in rw (c .place-stop4 .ensures) (λ v l e f. let k = one-spills (scope (now (c .before .before .before .before .before .before .before .before .before .before .args .sets)) v []) l f (getD (now (c .before .before .before .before .before .before .before .before .before .before .args .s)) (c .before .before .before .before .before .before .before .before .before .before .args .at + 1) 0) (c .before .before .entry .ensures) (omega arith) in let h : length l < 32 = omega arith in stands-fails _ _ 0x12 _ (search needs) refl (omega arith) (search (tests, k)), search needs))
+    (λ c. let a = c .before .before .before .before .before .before .after .ensures 1 (wide (now (c .before .before .before .before .before .before .before .before .before .args .s)) (c .before .before .before .before .before .before .before .before .before .args .at) 0x12 _ (search needs) refl) in rw a (λ v l e f. let k = one-fits (scope (now (c .before .before .before .before .before .before .before .before .before .args .sets)) v []) l f (getD (now (c .before .before .before .before .before .before .before .before .before .args .s)) (c .before .before .before .before .before .before .before .before .before .args .at + 1) 0) (c .before .entry .ensures) (omega arith) in let h : length l < 32 = omega arith in stands-goes _ _ 0x12 _ (search needs) refl (omega arith) (search (tests, k)), (search needs, search needs, search needs, omega arith, omega arith))))

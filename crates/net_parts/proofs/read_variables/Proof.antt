@@ -7,12 +7,12 @@ use Rattle.reading.specs.Reading.{whole}
 use Rattle.reading.proofs.Parts.{Filled, fill-begins, fill-goes, fill-ends, fill-stops}
 use Rattle.net_parts.specs.Parts.{variablePart}
 use Rattle.net_parts.specs.internal.Steps.{setStep}
-use Rattle.net.specs.Net.{net}
+use Rattle.net.specs.Net.{scope}
 use Rattle.net_parts.proofs.read_variables.Statement.{statement}
 use Rattle.net_parts.proofs.read_variables.Tie as tie
 
 abbrev Inv-loop : tie.InvT-loop
-Inv-loop s sets vars₀ start count₀ at₀ vars count at = Filled s (variablePart s (net sets [] [] [] [])) 32 (whole s (variablePart s (net sets [] [] [] [])) [] start) vars count at
+Inv-loop s sets vars₀ start count₀ at₀ vars count at = Filled s (variablePart s (scope sets [] [])) 32 (whole s (variablePart s (scope sets [] [])) [] start) vars count at
 
 abbrev μ-loop : tie.MeasureT-loop
 μ-loop s sets vars₀ start count₀ at₀ vars count at = 32 - count

@@ -6,7 +6,7 @@ use Prim.Native.Nat.{_≤_, _<_, _+_, _*_}
 use lib.ListN.{length, getD}
 use Rattle.reading.specs.Basics.{every}
 use Rattle.reading.proofs.Commands.{tests, stands-cut, stands-fails, stands-goes}
-use Rattle.net.specs.Net.{net}
+use Rattle.net.specs.Net.{scope}
 use Rattle.net_parts.specs.Parts.{placePart}
 use Rattle.net.proofs.Shut.{commands}
 use Rattle.net.proofs.Colours.{wide}
@@ -45,5 +45,5 @@ two-sets-spec =
     (λ c. omega (arith, (small-product (c .before .entry .result) (c .entry2 .result) (omega arith) (omega arith))))
     (λ c. omega (arith, (small-product (c .before .entry .result) (c .entry2 .result) (omega arith) (omega arith))))
     (λ c κs. search needs)
-    (λ c. let a = c .before .before .before .before .before .before .before .before .before .before .after .ensures 2 (wide (now (c .before .before .before .before .before .before .before .before .before .before .before .before .before .args .s)) (c .before .before .before .before .before .before .before .before .before .before .before .before .before .args .at) 0x13 _ (search needs) refl) in rw (c .place-stop5 .ensures) (λ v l e f. let k = two-spills (net (now (c .before .before .before .before .before .before .before .before .before .before .before .before .before .args .sets)) v [] [] []) l f (getD (now (c .before .before .before .before .before .before .before .before .before .before .before .before .before .args .s)) (c .before .before .before .before .before .before .before .before .before .before .before .before .before .args .at + 1) 0) (getD (now (c .before .before .before .before .before .before .before .before .before .before .before .before .before .args .s)) (c .before .before .before .before .before .before .before .before .before .before .before .before .before .args .at + 2) 0) (c .before .before .before .entry .ensures) (c .before .before .entry2 .ensures) (search needs) in let h : length l < 32 = omega arith in stands-fails _ _ 0x13 _ (search needs) refl (omega arith) (search (tests, k)), search needs))
-    (λ c. let a = c .before .before .before .before .before .before .before .before .before .after .ensures 2 (wide (now (c .before .before .before .before .before .before .before .before .before .before .before .before .args .s)) (c .before .before .before .before .before .before .before .before .before .before .before .before .args .at) 0x13 _ (search needs) refl) in rw a (λ v l e f. let k = two-fits (net (now (c .before .before .before .before .before .before .before .before .before .before .before .before .args .sets)) v [] [] []) l f (getD (now (c .before .before .before .before .before .before .before .before .before .before .before .before .args .s)) (c .before .before .before .before .before .before .before .before .before .before .before .before .args .at + 1) 0) (getD (now (c .before .before .before .before .before .before .before .before .before .before .before .before .args .s)) (c .before .before .before .before .before .before .before .before .before .before .before .before .args .at + 2) 0) (c .before .before .entry .ensures) (c .before .entry2 .ensures) (search needs) in let h : length l < 32 = omega arith in stands-goes _ _ 0x13 _ (search needs) refl (omega arith) (search (tests, k)), (search needs, search needs, ap₂ (λ x y. c .before .before .before .before .before .before .before .before .before .before .before .before .args .total + x * y) (c .before .before .entry .ensures) (c .before .entry2 .ensures), omega arith, omega arith, search needs))))
+    (λ c. let a = c .before .before .before .before .before .before .before .before .before .before .after .ensures 2 (wide (now (c .before .before .before .before .before .before .before .before .before .before .before .before .before .args .s)) (c .before .before .before .before .before .before .before .before .before .before .before .before .before .args .at) 0x13 _ (search needs) refl) in rw (c .place-stop5 .ensures) (λ v l e f. let k = two-spills (scope (now (c .before .before .before .before .before .before .before .before .before .before .before .before .before .args .sets)) v []) l f (getD (now (c .before .before .before .before .before .before .before .before .before .before .before .before .before .args .s)) (c .before .before .before .before .before .before .before .before .before .before .before .before .before .args .at + 1) 0) (getD (now (c .before .before .before .before .before .before .before .before .before .before .before .before .before .args .s)) (c .before .before .before .before .before .before .before .before .before .before .before .before .before .args .at + 2) 0) (c .before .before .before .entry .ensures) (c .before .before .entry2 .ensures) (search needs) in let h : length l < 32 = omega arith in stands-fails _ _ 0x13 _ (search needs) refl (omega arith) (search (tests, k)), search needs))
+    (λ c. let a = c .before .before .before .before .before .before .before .before .before .after .ensures 2 (wide (now (c .before .before .before .before .before .before .before .before .before .before .before .before .args .s)) (c .before .before .before .before .before .before .before .before .before .before .before .before .args .at) 0x13 _ (search needs) refl) in rw a (λ v l e f. let k = two-fits (scope (now (c .before .before .before .before .before .before .before .before .before .before .before .before .args .sets)) v []) l f (getD (now (c .before .before .before .before .before .before .before .before .before .before .before .before .args .s)) (c .before .before .before .before .before .before .before .before .before .before .before .before .args .at + 1) 0) (getD (now (c .before .before .before .before .before .before .before .before .before .before .before .before .args .s)) (c .before .before .before .before .before .before .before .before .before .before .before .before .args .at + 2) 0) (c .before .before .entry .ensures) (c .before .entry2 .ensures) (search needs) in let h : length l < 32 = omega arith in stands-goes _ _ 0x13 _ (search needs) refl (omega arith) (search (tests, k)), (search needs, search needs, ap₂ (λ x y. c .before .before .before .before .before .before .before .before .before .before .before .before .args .total + x * y) (c .before .before .entry .ensures) (c .before .entry2 .ensures), omega arith, omega arith, search needs))))

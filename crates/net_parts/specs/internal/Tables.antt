@@ -3,7 +3,7 @@ use mathlib.Core.Path.{_≡_}
 use Prim.Native.Nat.{_<_, _≤_}
 use Rattle.reading.specs.Basics.{ℕ, _+_, _*_, List, [], _∷_, Option, none, some, given, with, map, sum, length, getD, take}
 use Rattle.reading.specs.Reading.{Answer, fine, fault, whole}
-use Rattle.net.specs.Net.{Place, Tokens, Net, net, coloursOf, placeAt, tokensOn}
+use Rattle.net.specs.Net.{Place, Tokens, Net, coloursOf, placeAt, tokensOn, scope}
 use Rattle.net_parts.specs.Parts.{tokensPart}
 use Rattle.net.specs.internal.ReaderEnums.{placeOf}
 use Rattle.net_parts.specs.declared.PlaceStep.{PlaceStep}
@@ -48,7 +48,7 @@ pub record Started (n : Net) (places : List Place) (starts : List ℕ) (count to
 
 abbrev pub PlacesHeld : List ℕ → List ℕ → List ℕ → List ℕ → Part → Type 0
 PlacesHeld sets firsts seconds starts (part.Whole count total next) =
-    Started (net sets [] [] [] []) (placesOf (take count firsts) (take count seconds)) starts count total
+    Started (scope sets [] []) (placesOf (take count firsts) (take count seconds)) starts count total
 PlacesHeld sets firsts seconds starts (part.Fault number place) = Unit {0}
 
 -- ---- tokens

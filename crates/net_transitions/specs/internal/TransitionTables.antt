@@ -3,7 +3,7 @@ use mathlib.Core.Path.{_≡_}
 use Prim.Native.Nat.{_<_, _≤_}
 use Rattle.reading.specs.Basics.{ℕ, _+_, _*_, List, [], Option, none, some, Option·map, if_then_else_, with, any, length, getD, eqb, byteAt}
 use Rattle.reading.specs.Reading.{Answer, fine, fault, _andThen_, whole}
-use Rattle.net.specs.Net.{Guard, always, Expression, Arc, Transition, Net, net, placeAt, arcOn, inExpression, variablesOf, bindingSpace, inTransition}
+use Rattle.net.specs.Net.{Guard, always, Expression, Arc, Transition, Net, placeAt, arcOn, inExpression, variablesOf, bindingSpace, inTransition, noTransition, scope}
 use Rattle.net.specs.Reader.{readGuard, readGuardIf, readExpression}
 use Rattle.net_transitions.specs.Transitions.{arcPart, ended, transitionPart}
 use Rattle.net.specs.internal.ReaderEnums.{bits}
@@ -36,7 +36,7 @@ RowHolds s n arcs slot =
 
 -- the net that a transition is read over: sets, variables, and places by their sets
 abbrev pub over : List ℕ → List ℕ → List ℕ → List ℕ → Net
-over sizes vars firsts seconds = net sizes vars (placesOf firsts seconds) [] []
+over sizes vars firsts seconds = scope sizes vars (placesOf firsts seconds)
 
 -- an arc that was read: its slot, which was free, and the variables in its expression
 pub record ArcRead (s : List ℕ) (n : Net) (arcs : List Arc) (at : ℕ) (row : List ℕ) (slot uses next : ℕ) : Type 0 where
@@ -146,7 +146,7 @@ TransitionFew count (transition-step.Stop number place) = Unit {0}
 abbrev pub TransitionsHold : List ℕ → Net → List Transition → List ℕ → List ℕ → List ℕ → Type 0
 TransitionsHold s n transitions uses guards arcs =
     (t : ℕ) → t < length transitions
-    → TransitionHolds s n (getD transitions t (record { guard = always; arcs = [] })) (getD guards t 0) (getD uses t 0) (λ i. getD arcs (t * 96 + i) 0)
+    → TransitionHolds s n (getD transitions t noTransition) (getD guards t 0) (getD uses t 0) (λ i. getD arcs (t * 96 + i) 0)
 
 pub record TransitionsRead (s : List ℕ) (n : Net) (start : ℕ) (uses guards arcs : List ℕ) (count space next : ℕ) : Type 0 where
   pub transitions : List Transition

@@ -4,10 +4,9 @@ use Prim.Native.Nat.{_≤_, _<_}
 use Rattle.reading.specs.Basics.{ℕ, _+_, List, [], flatMap, some, length, take, given, below, product}
 use Rattle.reading.specs.Reading.{accepted}
 use Rattle.firing.specs.Firing.{Weights}
-use Rattle.firing.specs.Arcs.{rowOf}
 use Rattle.flat_file.specs.Flat.{rowBytes}
 use Rattle.net.specs.Net.{Net, sizesOf, flatPlaceCount}
-use Rattle.bindings.specs.Effect.{transitionAt, effect}
+use Rattle.bindings.specs.Effect.{transitionAt, effect, flatRow}
 use Rattle.net_file.specs.NetFile.{readNet}
 use Rattle.rows.specs.internal.Drawing.{room, Drawing}
 use Rattle.bindings.specs.internal.Bindings.{Binds, numbered}
@@ -19,7 +18,7 @@ use Rattle.row_numbers.specs.internal.Marks.{hasRow, Marked}
 
 -- what binding number i of a transition gives the flat file: its row's bytes, none where it has no effect
 unfoldable pub bindingBytes : Net → ℕ → ℕ → List ℕ
-bindingBytes n t i = given (effect n (numbered n t i)) [] λ w. rowBytes (rowOf (flatPlaceCount n) w)
+bindingBytes n t i = given (effect n (numbered n t i)) [] λ w. rowBytes (flatRow n w)
 
 -- what all its bindings give
 unfoldable pub transitionBytes : Net → ℕ → List ℕ
@@ -27,7 +26,7 @@ transitionBytes n t = flatMap (bindingBytes n t) (below (product (sizesOf n (tra
 
 -- each row of a transition has so many bytes
 abbrev pub RowsLong : Net → ℕ → ℕ → Type 0
-RowsLong n t row = (i : ℕ) (w : Weights) → i < product (sizesOf n (transitionAt n t)) → effect n (numbered n t i) ≡ some w → length (rowBytes (rowOf (flatPlaceCount n) w)) ≡ row
+RowsLong n t row = (i : ℕ) (w : Weights) → i < product (sizesOf n (transitionAt n t)) → effect n (numbered n t i) ≡ some w → length (rowBytes (flatRow n w)) ≡ row
 
 -- the tables are those of a net, and of each transition's bindings the marks tell which have an effect
 pub record Ruled (s sizes vars own guards arcs marks : List ℕ) (transitions : ℕ) : Type 0 where

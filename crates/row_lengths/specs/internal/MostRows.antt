@@ -4,10 +4,9 @@ use Prim.Native.Nat.{_≤_, _<_}
 use Rattle.reading.specs.Basics.{ℕ, _+_, _*_, List, length, some, product}
 use Rattle.reading.specs.Reading.{accepted}
 use Rattle.firing.specs.Firing.{Weights}
-use Rattle.firing.specs.Arcs.{rowOf}
-use Rattle.net.specs.Net.{Net, sizesOf, flatPlaceCount}
+use Rattle.net.specs.Net.{Net, sizesOf}
 use Rattle.net_file.specs.NetFile.{readNet}
-use Rattle.bindings.specs.Effect.{transitionAt, effect}
+use Rattle.bindings.specs.Effect.{transitionAt, effect, flatRow}
 use Rattle.rows.specs.internal.Drawing.{kindArcs, Drawing}
 use Rattle.bindings.specs.internal.Bindings.{numbered}
 use Rattle.row_lengths.specs.internal.Steady.{arcsOfRow}
@@ -22,4 +21,4 @@ MostKind s sizes vars arcs base most =
 abbrev pub MostRow : List ℕ → List ℕ → List ℕ → List ℕ → ℕ → ℕ → Type 0
 MostRow s sizes vars arcs t most =
     (n : Net) (guards : List ℕ) → readNet s ≡ accepted n → Drawing s n sizes vars guards arcs → t < length (n .transitions)
-    → (i : ℕ) (w : Weights) → i < product (sizesOf n (transitionAt n t)) → effect n (numbered n t i) ≡ some w → arcsOfRow (rowOf (flatPlaceCount n) w) ≤ most
+    → (i : ℕ) (w : Weights) → i < product (sizesOf n (transitionAt n t)) → effect n (numbered n t i) ≡ some w → arcsOfRow (flatRow n w) ≤ most

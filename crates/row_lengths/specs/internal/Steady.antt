@@ -4,12 +4,12 @@ use Prim.Native.Nat.{_≤_, _<_}
 use Rattle.reading.specs.Basics.{ℕ, _+_, _-_, _*_, List, length, Option, none, some, ltb, if_then_else_, product}
 use Rattle.reading.specs.Reading.{fine, accepted}
 use Rattle.firing.specs.Firing.{Weights}
-use Rattle.firing.specs.Arcs.{Row, rowOf}
-use Rattle.net.specs.Net.{Expression, one, two, all, plus, minus, times, Place, Net, sizesOf, flatPlaceCount}
+use Rattle.firing.specs.Arcs.{Row}
+use Rattle.net.specs.Net.{Expression, one, two, all, plus, minus, times, Place, Net, sizesOf}
 use Rattle.net.specs.Reader.{readExpression}
 use Rattle.net_file.specs.NetFile.{readNet}
 use Rattle.net_file.specs.Formed.{Fitting, Formed}
-use Rattle.bindings.specs.Effect.{transitionAt, effect}
+use Rattle.bindings.specs.Effect.{transitionAt, effect, flatRow}
 use Rattle.rows.specs.internal.Drawing.{kindArcs, Drawing}
 use Rattle.bindings.specs.internal.Bindings.{numbered}
 use Rattle.row_lengths.specs.declared.steady.Steady.{Steady}
@@ -63,5 +63,5 @@ arcsOfRow row = length (row .takes) + length (row .puts) + length (row .hinders)
 abbrev pub SteadyRow : List ℕ → List ℕ → ℕ → Steady → Type 0
 SteadyRow s arcs t (steady.Arcs total) =
     (n : Net) (sizes vars guards : List ℕ) → readNet s ≡ accepted n → Drawing s n sizes vars guards arcs → t < length (n .transitions)
-    → (i : ℕ) (w : Weights) → i < product (sizesOf n (transitionAt n t)) → effect n (numbered n t i) ≡ some w → arcsOfRow (rowOf (flatPlaceCount n) w) ≡ total
+    → (i : ℕ) (w : Weights) → i < product (sizesOf n (transitionAt n t)) → effect n (numbered n t i) ≡ some w → arcsOfRow (flatRow n w) ≡ total
 SteadyRow s arcs t steady.Varies = Unit {0}

@@ -1,8 +1,8 @@
 -- What the walk over all bindings tells: the rows among the first so many, and their numbers.
 use mathlib.Core.Path.{_≡_}
 use Prim.Native.Nat.{_≤_, _<_}
-use Rattle.reading.specs.Basics.{ℕ, zero, suc, _+_, Bool, true, false, ltb, if_then_else_, List, [], filterMap, Option·map, none, some, length, take, getD, given, product}
-use Rattle.net.specs.Net.{Net, net, sizesOf, inTransition}
+use Rattle.reading.specs.Basics.{ℕ, zero, suc, _+_, Bool, true, false, ltb, if_then_else_, List, filterMap, Option·map, none, some, length, take, getD, given, product}
+use Rattle.net.specs.Net.{Net, sizesOf, inTransition, scope}
 use Rattle.net_file.specs.Limits.{Limits}
 use Rattle.net_file.specs.Formed.{Formed}
 use Rattle.net_transitions.specs.internal.TransitionTables.{GuardHolds}
@@ -66,7 +66,7 @@ pub record Listed (s : List ℕ) (n : Net) (sizes vars own : List ℕ) (t guard 
   pub variables : n .variables ≡ vars
   pub owned : Owned n own
   pub stands : t < length (n .transitions)
-  pub standing : GuardHolds s (net sizes vars (n .places) [] []) (transitionAt n t .guard) guard
+  pub standing : GuardHolds s (scope sizes vars (n .places)) (transitionAt n t .guard) guard
 
 -- of a net: so many transitions, each with its variables, also as bits, and its guard
 pub record Tables (s : List ℕ) (n : Net) (sizes vars own uses guards : List ℕ) (count : ℕ) : Type 0 where

@@ -2,17 +2,17 @@
 use mathlib.Core.Path.{_≡_}
 use Prim.Native.Nat.{_≤_, _<_}
 use Rattle.reading.specs.Basics.{ℕ, zero, suc, _+_, _*_, _/_, List, [], _∷_, map, flatMap, some, Option·map, length, getD, take, leb, if_then_else_, given, below, sum}
-use Rattle.firing.specs.Arcs.{Arc, arcsOf, rowOf}
+use Rattle.firing.specs.Arcs.{Arc, arcsOf}
 use Rattle.firing.specs.internal.RowLists.{arcsIn, rowIn}
 use Rattle.firing.specs.Firing.{Weights}
-use Rattle.net.specs.Net.{Transition, Net, net, coloursOf, placeAt, flatPlaceCount, arcOn}
+use Rattle.net.specs.Net.{Transition, Net, coloursOf, placeAt, flatPlaceCount, arcOn, scope}
 use Rattle.net.specs.Reader.{readExpression}
 use Rattle.evaluation.specs.internal.Evaluated.{isPair}
 use Rattle.net_file.specs.Limits.{Limits}
 use Rattle.net_transitions.specs.internal.TransitionTables.{Slot, GuardHolds}
 use Rattle.sums.specs.internal.Loaded.{rankArcs}
 use Rattle.sums.specs.internal.Slots.{expressionSlots}
-use Rattle.bindings.specs.Effect.{Binding, transitionAt, arcWeight, effect}
+use Rattle.bindings.specs.Effect.{Binding, transitionAt, arcWeight, effect, flatRow}
 use Rattle.rows.specs.internal.Packed.{shapeOf, Packed}
 
 -- ---- arcs
@@ -57,10 +57,10 @@ pub record Drawing (s : List ℕ) (n : Net) (sizes vars guards arcs : List ℕ) 
   pub sets : n .sets ≡ sizes
   pub variables : n .variables ≡ vars
   pub limits : Limits n
-  pub guard : (t : ℕ) → t < length (n .transitions) → GuardHolds s (net sizes vars (n .places) [] []) (transitionAt n t .guard) (getD guards t 0)
+  pub guard : (t : ℕ) → t < length (n .transitions) → GuardHolds s (scope sizes vars (n .places)) (transitionAt n t .guard) (getD guards t 0)
   pub slots : List ℕ
   pub arc : (t k p : ℕ) → t < length (n .transitions) → k < 3 → p < length (n .places)
-      → Slot (readExpression s (net sizes vars (n .places) [] []) (placeAt n p) 16) (Option·map (λ a. a .expression) (arcOn (transitionAt n t .arcs) (0x16 + k) p))
+      → Slot (readExpression s (scope sizes vars (n .places)) (placeAt n p) 16) (Option·map (λ a. a .expression) (arcOn (transitionAt n t .arcs) (0x16 + k) p))
       (getD slots (t * 96 + (k * 32 + p)) 0)
   pub shape : ℕ → ℕ
   pub shaped : (p : ℕ) → p < length (n .places) → shape p ≡ shapeOf (startOf n p) (coloursOf n (placeAt n p)) (isPair (placeAt n p))
@@ -75,7 +75,7 @@ pub record TakesLoaded (n : Net) (b : Binding) (places amounts : List ℕ) (end 
 
 -- the row of a binding's effect, if it has one, lies in two lent lists, of which it takes three slots a flat place at most
 pub record RowLoaded (n : Net) (b : Binding) (places amounts : List ℕ) (takes puts hinders : ℕ) : Type 0 where
-  pub row : (w : Weights) → effect n b ≡ some w → rowIn places amounts takes puts hinders ≡ rowOf (flatPlaceCount n) w
+  pub row : (w : Weights) → effect n b ≡ some w → rowIn places amounts takes puts hinders ≡ flatRow n w
   pub puts-after : takes ≤ puts
   pub hinders-after : puts ≤ hinders
   pub fits : hinders ≤ 3 * flatPlaceCount n

@@ -1,9 +1,9 @@
 -- What the code that loads an effect promises.
 use mathlib.Core.Path.{_≡_}
 use Prim.Native.Nat.{_≤_, _<_}
-use Rattle.reading.specs.Basics.{ℕ, _+_, _*_, _/_, Bool, List, [], none, length}
+use Rattle.reading.specs.Basics.{ℕ, _+_, _*_, _/_, Bool, List, none, length}
 use Rattle.firing.specs.declared.Ends.{Ends}
-use Rattle.net.specs.Net.{Guard, Place, Net, net}
+use Rattle.net.specs.Net.{Guard, Place, Net, scope}
 use Rattle.net.specs.Values.{holds}
 use Rattle.evaluation.specs.internal.Evaluated.{bound}
 use Rattle.net_transitions.specs.internal.TransitionTables.{GuardHolds}
@@ -24,7 +24,7 @@ KindLoaded s sizes vars env arcs base places amounts used places' amounts' r =
 -- whether the guard of a slot holds
 abbrev pub GuardTold : List ℕ → List ℕ → List ℕ → List ℕ → ℕ → Bool → Type 0
 GuardTold s sizes vars env at r =
-    (known : List Place) (g : Guard) → GuardHolds s (net sizes vars known [] []) g at → r ≡ holds (net sizes vars known [] []) (bound env) g
+    (known : List Place) (g : Guard) → GuardHolds s (scope sizes vars known) g at → r ≡ holds (scope sizes vars known) (bound env) g
 
 -- the takes of a binding's effect, which may have none
 abbrev pub TakesTold : Net → Binding → List ℕ → List ℕ → Takes → Type 0

@@ -5,7 +5,7 @@ use Rattle.reading.specs.Basics.{ℕ, _+_, _*_, _/_, Bool, List, [], _∷_, map
 use Rattle.reading.specs.Reading.{Answer, fine, fault}
 use Rattle.firing.specs.Arcs.{Arc}
 use Rattle.firing.specs.internal.RowLists.{arcsIn}
-use Rattle.net.specs.Net.{Expression, one, two, all, plus, minus, times, Place, Net, net}
+use Rattle.net.specs.Net.{Expression, one, two, all, plus, minus, times, Place, Net, scope}
 use Rattle.net.specs.Reader.{readExpression}
 use Rattle.net.specs.Values.{weight}
 use Rattle.evaluation.specs.internal.Evaluated.{bound, placeBy}
@@ -65,6 +65,6 @@ TermsLoaded start count base stop rest places amounts used places' amounts' r =
 -- the arcs of the expression that stands at a place of the file were appended, where there is room for them and half the file
 abbrev pub ArcLoaded : List ℕ → List ℕ → List ℕ → List ℕ → Bool → ℕ → ℕ → ℕ → List ℕ → List ℕ → ℕ → List ℕ → List ℕ → ℕ → Type 0
 ArcLoaded s sizes vars env paired start count at places amounts used places' amounts' r =
-    (known : List Place) (first second next : ℕ) (e : Expression) → readExpression s (net sizes vars known [] []) (placeBy paired first second) 16 at ≡ fine e next
+    (known : List Place) (first second next : ℕ) (e : Expression) → readExpression s (scope sizes vars known) (placeBy paired first second) 16 at ≡ fine e next
     → used + slotsFor s at count + length s / 2 ≤ length places → used + slotsFor s at count + length s / 2 ≤ length amounts
-    → Appended (rankArcs start count (λ rank. weight (net sizes vars known [] []) (bound env) rank e)) places amounts used places' amounts' r
+    → Appended (rankArcs start count (λ rank. weight (scope sizes vars known) (bound env) rank e)) places amounts used places' amounts' r

@@ -4,8 +4,8 @@ use mathlib.Core.Path.{_≡_, sym, ap, _∙_}
 use Rattle.reading.specs.Basics.{Bool, true, false, if_then_else_}
 use mathlib.Core.Logic.{⊎-elim}
 use lib.ListN.{length}
-use mathlib.Core.List.{List, []}
-use Rattle.net.specs.Net.{Place, Net, net}
+use mathlib.Core.List.{List}
+use Rattle.net.specs.Net.{Place, Net, scope}
 use Rattle.net.specs.Reader.{readExpression}
 use Rattle.evaluation.specs.internal.Evaluated.{placeBy}
 use Rattle.multiset.proofs.Counted.{listed-none, listed-loads}
@@ -72,4 +72,4 @@ pub +load-listed-spec : {M : Type 1} → statement M
     (λ c κs. search needs)
     (λ c. c .before .before .before .before .load-terms2 .kept .1 .1 .1 .1 .1 .0 ∙ c .before .before .before .before .before .before .before .before .before .before .before .list-terms .kept .1 .1 .1 .1 .1 .1 .1 .1 .0 ∙ ⊎-elim (λ w. ap length (w .13) ∙ w .6 .kept .1 .1 .1 .1 .1 .1 .1 .0) (λ w. ap length (w .1)) (c .before .before .before .before .before .before .before .before .before .before .before .before .before .before .before .before .before .if5 .came))
     (λ c. c .before .before .before .before .load-terms2 .kept .1 .1 .1 .1 .1 .1 .0 ∙ c .before .before .before .before .before .before .before .before .before .before .before .list-terms .kept .1 .1 .1 .1 .1 .1 .1 .1 .1 .0 ∙ ⊎-elim (λ w. ap length (w .14) ∙ w .6 .kept .1 .1 .1 .1 .1 .1 .1 .1 .0) (λ w. ap length (w .2)) (c .before .before .before .before .before .before .before .before .before .before .before .before .before .before .before .before .before .if5 .came))
-    (λ c. let a = c .before .before .before .before .before .before .before .before .before .before .before .before .before .before .before .before .before .before .before .before .before .before .before .before .before .before .before .args in let n : List Place → Net = λ known. net (a .t2 .now) (a .t3 .now) known [] [] in listed-loads (a .t1 .now) (a .t2 .now) (a .t3 .now) (a .env .now) (a .paired) (a .start) (a .count) (a .at) (a .places .now) (a .amounts .now) (a .used) (c .before .before .before .before .before .before .before .before .before .before .before .before .before .before .before .before .before .before .before .before .before .before .before .before .before .before .before .pre .1 .1) _ _ _ _ (c .before .before .before .before .before .before .before .before .before .before .before .list-terms .result) _ (λ known first second. ⊎-elim (λ w. sum-over _ _ _ _ _ _ _ _ _ _ _ _ _ _ (w .6 .ensures .0 known first second) (sym (c .before .before .before .before .before .before .before .before .before .before .before .before .before .before .before .before .before .before .byte-at .ensures .0) ∙ w .0 .taken) _ _ _ (listed-same (n known) (a .env .now) (a .count) (c .before .before .before .before .before .before .before .before .before .before .before .list-terms .last .1 .1 .1 .1 .1 .1 .1 .1 .0) (c .before .before .before .before .before .before .before .before .before .before .before .list-terms .last .1 .1 .1 .1 .1 .1 .1 .1 .1 .0) (a .used + a .count) (c .before .before .before .before .before .before .before .before .before .before .before .list-terms .result) (readExpression (a .t1 .now) (n known) (placeBy (a .paired) first second) 16 (a .at)) (w .13) (w .14) (c .before .before .before .before .before .before .before .before .before .before .before .list-terms .ensures .0 known first second))) (λ w. listed-same (n known) (a .env .now) (a .count) (c .before .before .before .before .before .before .before .before .before .before .before .list-terms .last .1 .1 .1 .1 .1 .1 .1 .1 .0) (c .before .before .before .before .before .before .before .before .before .before .before .list-terms .last .1 .1 .1 .1 .1 .1 .1 .1 .1 .0) (a .used + a .count) (c .before .before .before .before .before .before .before .before .before .before .before .list-terms .result) (readExpression (a .t1 .now) (n known) (placeBy (a .paired) first second) 16 (a .at)) (w .1) (w .2) (c .before .before .before .before .before .before .before .before .before .before .before .list-terms .ensures .0 known first second)) (c .before .before .before .before .before .before .before .before .before .before .before .before .before .before .before .before .before .if5 .came)) (c .before .before .before .before .load-terms2 .ensures))
+    (λ c. let a = c .before .before .before .before .before .before .before .before .before .before .before .before .before .before .before .before .before .before .before .before .before .before .before .before .before .before .before .args in let n : List Place → Net = λ known. scope (a .t2 .now) (a .t3 .now) known in listed-loads (a .t1 .now) (a .t2 .now) (a .t3 .now) (a .env .now) (a .paired) (a .start) (a .count) (a .at) (a .places .now) (a .amounts .now) (a .used) (c .before .before .before .before .before .before .before .before .before .before .before .before .before .before .before .before .before .before .before .before .before .before .before .before .before .before .before .pre .1 .1) _ _ _ _ (c .before .before .before .before .before .before .before .before .before .before .before .list-terms .result) _ (λ known first second. ⊎-elim (λ w. sum-over _ _ _ _ _ _ _ _ _ _ _ _ _ _ (w .6 .ensures .0 known first second) (sym (c .before .before .before .before .before .before .before .before .before .before .before .before .before .before .before .before .before .before .byte-at .ensures .0) ∙ w .0 .taken) _ _ _ (listed-same (n known) (a .env .now) (a .count) (c .before .before .before .before .before .before .before .before .before .before .before .list-terms .last .1 .1 .1 .1 .1 .1 .1 .1 .0) (c .before .before .before .before .before .before .before .before .before .before .before .list-terms .last .1 .1 .1 .1 .1 .1 .1 .1 .1 .0) (a .used + a .count) (c .before .before .before .before .before .before .before .before .before .before .before .list-terms .result) (readExpression (a .t1 .now) (n known) (placeBy (a .paired) first second) 16 (a .at)) (w .13) (w .14) (c .before .before .before .before .before .before .before .before .before .before .before .list-terms .ensures .0 known first second))) (λ w. listed-same (n known) (a .env .now) (a .count) (c .before .before .before .before .before .before .before .before .before .before .before .list-terms .last .1 .1 .1 .1 .1 .1 .1 .1 .0) (c .before .before .before .before .before .before .before .before .before .before .before .list-terms .last .1 .1 .1 .1 .1 .1 .1 .1 .1 .0) (a .used + a .count) (c .before .before .before .before .before .before .before .before .before .before .before .list-terms .result) (readExpression (a .t1 .now) (n known) (placeBy (a .paired) first second) 16 (a .at)) (w .1) (w .2) (c .before .before .before .before .before .before .before .before .before .before .before .list-terms .ensures .0 known first second)) (c .before .before .before .before .before .before .before .before .before .before .before .before .before .before .before .before .before .if5 .came)) (c .before .before .before .before .load-terms2 .ensures))

@@ -5,7 +5,7 @@ use mathlib.Core.Path.{_≡_, sym, ap, _∙_}
 use Prim.Native.Nat.{_≤_}
 use Rattle.reading.specs.Basics.{ℕ, List, [], length, take}
 use Rattle.reading.specs.Reading.{fine}
-use Rattle.net.specs.Net.{Place, Net, net}
+use Rattle.net.specs.Net.{Place, Net, net, scope}
 use Rattle.net_file.specs.NetFile.{content}
 use Rattle.net_parts.specs.internal.Tables.{placesOf, placesRead, Started, TokensRead}
 use Rattle.net_transitions.specs.internal.TransitionTables.{TransitionsRead}
@@ -154,7 +154,7 @@ total c = c .before .part4 .given .0 .1 .0
 abbrev places-of : P4 → List Place
 places-of c = placesOf (take (places c) (firsts c)) (take (places c) (seconds c))
 
-started : (c : P4) → Started (net (sets-of (to2 (to3 c))) [] [] [] []) (places-of c) (starts c) (places c) (total c)
+started : (c : P4) → Started (scope (sets-of (to2 (to3 c))) [] []) (places-of c) (starts c) (places c) (total c)
 started c = rw (c .before .part4 .given .1) at (c .before .before .before .before .before .before .before .before .before .read-places .ensures .1)
 
 firsts-sized : (c : P4) → length (firsts c) ≡ 32
@@ -179,7 +179,7 @@ guards c = c .before .before .before .before .before .before .before .before .be
 abbrev arcs : P5 → List ℕ
 arcs c = c .before .before .before .before .before .before .before .before .before .read-transitions .last .1 .1 .1 .1 .1 .1 .1 .0
 
-transitions-read : (c : P5) → TransitionsRead (file5 c) (net (sets-of (to2 (to3 (to4 c)))) (variables-of (to3 (to4 c))) (places-of (to4 c)) [] []) (next4 (to4 c)) (uses c) (guards c) (arcs c) (c .before .part5 .given .0 .0) (c .before .part5 .given .0 .1 .0) (next5 c)
+transitions-read : (c : P5) → TransitionsRead (file5 c) (scope (sets-of (to2 (to3 (to4 c)))) (variables-of (to3 (to4 c))) (places-of (to4 c))) (next4 (to4 c)) (uses c) (guards c) (arcs c) (c .before .part5 .given .0 .0) (c .before .part5 .given .0 .1 .0) (next5 c)
 transitions-read c = rw (c .before .part5 .given .1) at (c .before .before .before .before .before .before .before .before .before .read-transitions .ensures)
 
 left5 : (c : P5) → Left (file5 c) (afterTransitions (file5 c) (sets-of (to2 (to3 (to4 c)))) (variables-of (to3 (to4 c))) (places-of (to4 c)) (transitions-read c .transitions) (next5 c))

@@ -1,8 +1,7 @@
 use borrow.Author.Needs.{needs}
 use native.Mathlib.Omega.{arith}
-use mathlib.Core.List.{[]}
 use denote.Ref.{now}
-use Rattle.net.specs.Net.{net}
+use Rattle.net.specs.Net.{scope}
 use Rattle.net.specs.Reader.{readExpression}
 use Rattle.evaluation.specs.internal.Evaluated.{placeBy}
 use Rattle.row_lengths.proofs.MostRead.{joined-most, all-most, one-most, times-told, either-told, most-past, most-shut, most-stray}
@@ -108,4 +107,4 @@ pub +most-at+most-inside+most-joined-spec : {M : Type 1} → statement M
     (λ c κs. search needs)
     (λ c κs. search needs)
     (λ c κs. search needs)
-    (λ c. let a = c .before .before .before .args in (λ known first second at. rw (c .joined-most .ensures .0) (joined-most _ (readExpression (now (now (a .s))) (net (now (now (a .sizes))) (now (now (a .vars))) known [] []) (placeBy (a .paired) first second) (a .left)) at (a .next) _ (c .before .before .most-at .ensures .0 known first second) _ (c .before .most-at2 .ensures .0 known first second) (a .less)), c .joined-most .ensures .1))
+    (λ c. let a = c .before .before .before .args in (λ known first second at. rw (c .joined-most .ensures .0) (joined-most _ (readExpression (now (now (a .s))) (scope (now (now (a .sizes))) (now (now (a .vars))) known) (placeBy (a .paired) first second) (a .left)) at (a .next) _ (c .before .before .most-at .ensures .0 known first second) _ (c .before .most-at2 .ensures .0 known first second) (a .less)), c .joined-most .ensures .1))

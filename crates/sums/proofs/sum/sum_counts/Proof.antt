@@ -1,11 +1,11 @@
 use borrow.Author.Needs.{needs}
 use native.Mathlib.Omega.{arith}
 use mathlib.Core.Path.{_≡_, refl, sym, _∙_}
-use mathlib.Core.List.{List, []}
+use mathlib.Core.List.{List}
 use Prim.Native.Nat.{ℕ, _≤_, _-_}
 use lib.ListN.{length}
 use denote.Ref.{now}
-use Rattle.net.specs.Net.{net, Place}
+use Rattle.net.specs.Net.{Place, scope}
 use Rattle.evaluation.specs.internal.Evaluated.{placeBy}
 use Rattle.evaluation.proofs.Values.{byte-inside}
 use Rattle.sums.specs.internal.Sums.{SumTold}
@@ -16,7 +16,7 @@ use Rattle.sums.proofs.sum.sum_counts.Tie as tie
 abbrev Inv-loop : tie.InvT-loop
 Inv-loop s sizes vars env paired count at ahead ranks₀ counts₀ used file next₀ left₀ end₀ i₀ ranks counts next left end i =
     (length ranks ≡ length ranks₀) × (length counts ≡ length counts₀) × (used ≤ end)
-    × ((known : List Place) (first second : ℕ) → SumTold (now s) (net (now sizes) (now vars) known [] []) (placeBy paired first second) env count at ahead ranks₀ counts₀ used ranks counts end next left)
+    × ((known : List Place) (first second : ℕ) → SumTold (now s) (scope (now sizes) (now vars) known) (placeBy paired first second) env count at ahead ranks₀ counts₀ used ranks counts end next left)
 
 abbrev μ-loop : tie.MeasureT-loop
 μ-loop s sizes vars env paired count at ahead ranks₀ counts₀ used file next₀ left₀ end₀ i₀ ranks counts next left end i = 64 - i

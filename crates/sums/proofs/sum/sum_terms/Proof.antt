@@ -1,11 +1,11 @@
 use borrow.Author.Needs.{needs}
 use native.Mathlib.Omega.{arith}
 use mathlib.Core.Path.{_≡_, refl, _∙_}
-use mathlib.Core.List.{List, []}
+use mathlib.Core.List.{List}
 use Prim.Native.Nat.{ℕ, _≤_, _-_}
 use lib.ListN.{length}
 use denote.Ref.{now}
-use Rattle.net.specs.Net.{net, Place}
+use Rattle.net.specs.Net.{Place, scope}
 use Rattle.evaluation.specs.internal.Evaluated.{placeBy}
 use Rattle.sums.specs.internal.Sums.{SumTold}
 use Rattle.sums.proofs.Summing.{sum-joins}
@@ -15,8 +15,8 @@ use Rattle.sums.proofs.sum.sum_terms.Tie as tie
 abbrev Inv-loop : tie.InvT-loop
 Inv-loop s sizes vars env paired count at ranks₀ counts₀ used end₀ next₀ ahead₀ level₀ ranks counts end next ahead level =
     (length ranks ≡ length ranks₀) × (length counts ≡ length counts₀) × (used ≤ end)
-    × ((ranks' counts' : List ℕ) → ((known : List Place) (first second : ℕ) → SumTold (now s) (net (now sizes) (now vars) known [] []) (placeBy paired first second) env count at 1 ranks' counts' used ranks₀ counts₀ end₀ next₀ ahead₀)
-    → (known : List Place) (first second : ℕ) → SumTold (now s) (net (now sizes) (now vars) known [] []) (placeBy paired first second) env count at 1 ranks' counts' used ranks counts end next ahead)
+    × ((ranks' counts' : List ℕ) → ((known : List Place) (first second : ℕ) → SumTold (now s) (scope (now sizes) (now vars) known) (placeBy paired first second) env count at 1 ranks' counts' used ranks₀ counts₀ end₀ next₀ ahead₀)
+    → (known : List Place) (first second : ℕ) → SumTold (now s) (scope (now sizes) (now vars) known) (placeBy paired first second) env count at 1 ranks' counts' used ranks counts end next ahead)
 
 abbrev μ-loop : tie.MeasureT-loop
 μ-loop s sizes vars env paired count at ranks₀ counts₀ used end₀ next₀ ahead₀ level₀ ranks counts end next ahead level = 9 - level

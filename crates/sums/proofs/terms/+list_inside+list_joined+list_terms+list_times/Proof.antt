@@ -1,8 +1,7 @@
 use borrow.Author.Needs.{needs}
 use native.Mathlib.Omega.{arith}
-use mathlib.Core.List.{[]}
 use denote.Ref.{now}
-use Rattle.net.specs.Net.{net}
+use Rattle.net.specs.Net.{scope}
 use Rattle.net.specs.Reader.{readExpression}
 use Rattle.evaluation.specs.internal.Evaluated.{placeBy}
 use Rattle.sums.proofs.Listing.{times-listed, joined-listed, all-listed, amount-listed, times-told, either-told, listed-past, listed-shut, listed-stray}
@@ -131,7 +130,7 @@ pub +list-inside+list-joined+list-terms+list-times-spec : {M : Type 1} → state
     (λ c κs. search needs)
     (λ c. search needs)
     (λ c. search needs)
-    (λ c. let a = c .before .before .before .before .before .before .before .before .before .before .before .before .before .before .before .before .before .before .before .before .before .before .before .before .args in (λ known first second at. rw (c .join .ensures) (joined-listed (net (now (now (a .sizes))) (now (now (a .vars))) known [] []) _ _ _ _ _ (readExpression (now (now (a .s))) (net (now (now (a .sizes))) (now (now (a .vars))) known [] []) (placeBy (a .paired) first second) (a .left)) at (a .next) _ _ _ (c .before .before .before .before .before .before .before .before .before .before .before .before .before .before .before .before .before .before .before .list-terms .ensures .0 known first second) _ _ _ (c .before .before .before .before .before .before .before .before .before .before .before .before .list-terms2 .ensures .0 known first second) (a .less) _ _ _ (c .before .before .before .before .before .merge .ensures .0)), c .before .before .before .before .before .merge .ensures .1)))
+    (λ c. let a = c .before .before .before .before .before .before .before .before .before .before .before .before .before .before .before .before .before .before .before .before .before .before .before .before .args in (λ known first second at. rw (c .join .ensures) (joined-listed (scope (now (now (a .sizes))) (now (now (a .vars))) known) _ _ _ _ _ (readExpression (now (now (a .s))) (scope (now (now (a .sizes))) (now (now (a .vars))) known) (placeBy (a .paired) first second) (a .left)) at (a .next) _ _ _ (c .before .before .before .before .before .before .before .before .before .before .before .before .before .before .before .before .before .before .before .list-terms .ensures .0 known first second) _ _ _ (c .before .before .before .before .before .before .before .before .before .before .before .before .list-terms2 .ensures .0 known first second) (a .less) _ _ _ (c .before .before .before .before .before .merge .ensures .0)), c .before .before .before .before .before .merge .ensures .1)))
     (λ t. list-terms-lts.spec (
       nothing-reads.Asked,
       nothing-reads.Learnt,
@@ -187,4 +186,4 @@ pub +list-inside+list-joined+list-terms+list-times-spec : {M : Type 1} → state
     (λ c κs. search needs)
     (λ c. search needs)
     (λ c. search needs)
-    (λ c. let a = c .before .before .before .before .before .before .before .before .before .before .before .before .before .before .args in (λ known first second at. rw (c .scaled .ensures) (times-listed _ _ _ _ _ _ (readExpression (now (now (a .s))) (net (now (now (a .sizes))) (now (now (a .vars))) known [] []) (placeBy (a .paired) first second) (a .left)) at (a .next) _ _ _ (c .before .before .before .before .before .before .before .before .before .list-terms .ensures .0 known first second) _ _ (c .before .before .before .scale .ensures)), c .before .before .before .before .before .before .before .before .before .list-terms .ensures .1))
+    (λ c. let a = c .before .before .before .before .before .before .before .before .before .before .before .before .before .before .args in (λ known first second at. rw (c .scaled .ensures) (times-listed _ _ _ _ _ _ (readExpression (now (now (a .s))) (scope (now (now (a .sizes))) (now (now (a .vars))) known) (placeBy (a .paired) first second) (a .left)) at (a .next) _ _ _ (c .before .before .before .before .before .before .before .before .before .list-terms .ensures .0 known first second) _ _ (c .before .before .before .scale .ensures)), c .before .before .before .before .before .before .before .before .before .list-terms .ensures .1))
