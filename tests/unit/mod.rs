@@ -7,6 +7,7 @@ mod likeness;
 mod meanings;
 mod net_refusals;
 mod other_refusals;
+mod parameters;
 mod two_gauge;
 
 use crate::plain;

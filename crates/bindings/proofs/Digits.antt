@@ -10,8 +10,8 @@ use lib.Seq.{take-length, take-suc, length-take-le, getD-take}
 use Rattle.reading.specs.Basics.{ℕ, zero, suc, _+_, _*_, _/_, _%_, Bool, true, false, ltb, List, [], _∷_, _++_, map, flatMap, some, Option·map, length, take, getD, getElem?, with, numbersFrom, below, sum, product}
 use Rattle.reading.proofs.Lists.{map-same, map-getD, of-from}
 use Rattle.net_parts.proofs.Totals.{sum-with}
-use Rattle.net.specs.Net.{Transition, Net, sizesOf, bindingSpace, noTransition}
-use Rattle.bindings.specs.Effect.{transitionAt, choices, bindings}
+use Rattle.net.specs.Net.{Transition, Net, sizesOf, bindingSpace, noTransition, transitionAt}
+use Rattle.bindings.specs.Effect.{choices, bindings}
 use Rattle.bindings.specs.internal.Numbers.{digits, number, before}
 use Rattle.bindings.proofs.Bindings.{Fit, none, more, same-each, choices-length, bound, bindingsOf, bindings-length}
 

@@ -1,85 +1,80 @@
--- The loop that gathers the colours of a binding by its number, from the last variable down. Assumes nothing.
+-- The colours of a binding by its number, slot by slot, from the last one down. Assumes nothing.
 use mathlib.Core.Path.{_≡_, refl, sym, ap, ap₂, _∙_}
 use Prim.Native.Nat.{_≤_, _<_, _-_}
 use native.Mathlib.Omega.{arith}
+use native.Mathlib.Numerals.{add-one}
 use native.Mathlib.Nat.{div-one, div-div-eq-div-mul, mul-comm}
-use lib.Seq.{take-take}
-use Rattle.reading.specs.Basics.{ℕ, suc, _+_, _*_, _/_, _%_, Bool, true, false, List, [], _∷_, _++_, map, length, take, keep, numbersFrom, product}
+use lib.ListN.{drop-of-length-le}
+use lib.Seq.{drop-cons}
+use Rattle.reading.specs.Basics.{ℕ, zero, suc, _+_, _*_, _/_, _%_, List, [], _∷_, _++_, length, getD, take, drop, product}
 use Rattle.net.specs.Net.{Net}
-use Rattle.net.specs.internal.ReaderEnums.{bits, member, sizeIn}
-use Rattle.net_transitions.proofs.Spaces.{keep-bits}
+use Rattle.net_file.specs.Limits.{Limits}
+use Rattle.prepared.specs.internal.TransitionVariables.{Owned, slotSize}
 use Rattle.bindings.specs.Orders.{orderOf}
-use Rattle.bindings.specs.internal.Numbers.{digits, those, sizesOver, Coloured}
-use Rattle.bindings.specs.declared.order.Gathered.{Gathered}
+use Rattle.bindings.specs.internal.Numbers.{digits}
+use Rattle.bindings.specs.internal.Bindings.{binding}
+use Rattle.bindings.specs.declared.order.Parted.{Parted}
+use Rattle.bindings.proofs.Owning.{theirSizes, sizes-are, few-theirs, by-slot}
 
--- the sizes of those variables from v on, of n, that pass a test
-module _ (p : ℕ → Bool) (size : ℕ → ℕ) (n : ℕ) where
-  abbrev from : ℕ → List ℕ
-  from v = map size (keep p (numbersFrom v (n - v)))
+-- ---- over a list of sizes
+-- four zeros
+abbrev zeros : List ℕ
+zeros = 0 ∷ 0 ∷ 0 ∷ 0 ∷ []
 
-  from-out : (v : ℕ) → v < n → p v ≡ false → from v ≡ from (v + 1)
-  unfolding numbersFrom keep
-  from-out v lt e = let q : n - v ≡ suc (n - (v + 1)) = omega arith in rw (q, e)
+-- these colours are those of number i from slot k on, with zeros behind them
+pub record Gathering (sizes : List ℕ) (i k : ℕ) (colours : List ℕ) (left : ℕ) : Type 0 where
+  pub rest : left ≡ i / product (drop k sizes)
+  pub are : take (4 - k) (digits (drop k sizes) i ++ zeros) ≡ colours
 
-  from-in : (v : ℕ) → v < n → p v ≡ true → from v ≡ size v ∷ from (v + 1)
-  unfolding numbersFrom keep
-  from-in v lt e = let q : n - v ≡ suc (n - (v + 1)) = omega arith in rw (q, e)
+-- one zero more
+one-zero : (m : ℕ) → m < 4 → take (suc m) zeros ≡ 0 ∷ take m zeros
+one-zero zero lt = refl
+one-zero (suc zero) lt = refl
+one-zero (suc (suc zero)) lt = refl
+one-zero (suc (suc (suc zero))) lt = refl
+one-zero (suc (suc (suc (suc m)))) lt = absurd (omega arith)
 
-  -- four colours are those of binding number i from variable v on, with zeros behind them
-  pub record Gathering (i v a b c d left : ℕ) : Type 0 where
-    pub rest : left ≡ i / product (from v)
-    pub colours : take 4 (digits (from v) i ++ (0 ∷ 0 ∷ 0 ∷ 0 ∷ [])) ≡ a ∷ b ∷ c ∷ d ∷ []
+module _ {sizes : List ℕ} {i k : ℕ} {colours : List ℕ} {left : ℕ} (lt : k < 4) (here : Gathering sizes i (k + 1) colours left) where
+  one-more : 4 - k ≡ suc (4 - (k + 1))
+  one-more = omega arith
 
-  from-end : from n ≡ []
-  unfolding numbersFrom keep
-  from-end = let q : n - n ≡ 0 = omega arith in rw q
-
-  pub gather-begins : (i : ℕ) → Gathering i n 0 0 0 0 i
+  -- a slot that is not used
+  gather-none : length sizes ≤ k → Gathering sizes i k (0 ∷ colours) left
   unfolding digits
-  gather-begins i = record { rest = rw from-end (sym (div-one i)); colours = rw from-end }
+  gather-none le =
+      let none : drop k sizes ≡ [] = drop-of-length-le sizes le in
+      let after : drop (k + 1) sizes ≡ [] = drop-of-length-le sizes (let h : length sizes ≤ k + 1 = omega arith in h) in
+      let are : take (4 - (k + 1)) zeros ≡ colours = rw after at (here .are) in
+      record { rest = rw none (rw after at (here .rest)); are = rw (none, one-more) (one-zero (4 - (k + 1)) (omega arith) ∙ ap (λ l. 0 ∷ l) are) }
 
-  module _ {i v a b c d left : ℕ} (lt : v < n) (here : Gathering i (v + 1) a b c d left) where
-    pub gather-out : p v ≡ false → Gathering i v a b c d left
-    gather-out e = record { rest = rw (from-out v lt e) (here .rest); colours = rw (from-out v lt e) (here .colours) }
+  -- one that holds a variable
+  gather-one : (size : ℕ) → drop k sizes ≡ size ∷ drop (k + 1) sizes → Gathering sizes i k (left % size ∷ colours) (left / size)
+  unfolding digits
+  gather-one size is =
+      let behind : ℕ = product (drop (k + 1) sizes) in
+      let parted : left / size ≡ i / (size * behind) = ap (λ y. y / size) (here .rest) ∙ div-div-eq-div-mul i behind size ∙ ap (λ y. i / y) (mul-comm behind size) in
+      record { rest = rw is parted; are = rw (is, one-more) (ap₂ (λ x l. x ∷ l) (ap (λ y. y % size) (sym (here .rest))) (here .are)) }
 
-    pub gather-in : p v ≡ true → Gathering i v (left % size v) a b c (left / size v)
-    unfolding digits
-    gather-in e =
-        let l : List ℕ = digits (from (v + 1)) i ++ (0 ∷ 0 ∷ 0 ∷ 0 ∷ []) in
-        let three : take 3 l ≡ a ∷ b ∷ c ∷ [] = sym (take-take 3 4 l (omega arith)) ∙ ap (take 3) (here .colours) in
-        let x : left / size v ≡ i / (size v * product (from (v + 1))) =
-        ap (λ y. y / size v) (here .rest) ∙ div-div-eq-div-mul i (product (from (v + 1))) (size v) ∙ ap (λ y. i / y) (mul-comm (product (from (v + 1))) (size v)) in
-        record {
-          rest = rw (from-in v lt e) x;
-          colours = rw (from-in v lt e) (ap₂ (λ x l. x ∷ l) (ap (λ y. y % size v) (sym (here .rest))) three);
-        }
+-- ---- by the table
+module _ (n : Net) (t i : ℕ) {own : List ℕ} (owned : Owned n own) (l : Limits n) (lt : t < length (n .transitions)) where
+  -- no slot yet
+  pub gather-begins : Gathering (theirSizes n t) i 4 [] i
+  unfolding digits
+  gather-begins =
+      let none : drop 4 (theirSizes n t) ≡ [] = drop-of-length-le (theirSizes n t) (few-theirs owned l lt) in
+      record { rest = rw none (sym (div-one i)); are = refl }
 
--- one turn of the code
-pub gather-turn : (uses : ℕ) (size : ℕ → ℕ) (n i v : ℕ) (g r : Gathered) → Gathering (member uses) size n i v (g .first) (g .second) (g .third) (g .fourth) (g .left)
-    → 0 < v → v ≤ n → 1 ≤ size (v - 1) → (member uses (v - 1) ≡ false → r ≡ g)
-    → (member uses (v - 1) ≡ true → 1 ≤ size (v - 1)
-    → r ≡ record { first = g .left % size (v - 1); second = g .first; third = g .second; fourth = g .third; left = g .left / size (v - 1) })
-    → Gathering (member uses) size n i (v - 1) (r .first) (r .second) (r .third) (r .fourth) (r .left)
-gather-turn uses size n i v g r here pos room some out inside = go (member uses (v - 1)) refl
-  where
-    there : Gathering (member uses) size n i (v - 1 + 1) (g .first) (g .second) (g .third) (g .fourth) (g .left)
-    there = let e : v - 1 + 1 ≡ v = omega arith in rw e here
+  -- one slot more
+  pub gather-goes : {k slot left : ℕ} {colours : List ℕ} {r : Parted} → k < 4 → slot ≡ getD own (t * 4 + k) 0 → (slot < 1 → r ≡ record { colour = 0; left = left })
+      → (1 ≤ slot → 1 ≤ slotSize slot → r ≡ record { colour = left % slotSize slot; left = left / slotSize slot })
+      → Gathering (theirSizes n t) i (k + 1) colours left → Gathering (theirSizes n t) i k (r .colour ∷ colours) (r .left)
+  gather-goes {k} {slot} {left} {colours} inside is unused used here = by-slot owned l lt inside is
+      (λ free past. rw (unused free) (gather-none inside here (omega (arith, sizes-are n t))))
+      (λ held.
+      let whole : drop k (theirSizes n t) ≡ slotSize slot ∷ drop (k + 1) (theirSizes n t) =
+      drop-cons (theirSizes n t) k 0 (omega (arith, held .inside, sizes-are n t)) ∙ ap₂ (λ x j. x ∷ drop j (theirSizes n t)) (sym (held .size)) (sym (add-one k)) in
+      rw (used (held .some) (held .sized)) (gather-one inside here (slotSize slot) whole))
 
-    less : v - 1 < n
-    less = omega arith
-
-    go : (t : Bool) → member uses (v - 1) ≡ t → Gathering (member uses) size n i (v - 1) (r .first) (r .second) (r .third) (r .fourth) (r .left)
-    go false q = rw (out q) (gather-out (member uses) size n less there q)
-    go true q = rw (inside q some) (gather-in (member uses) size n less there q)
-
--- in the end they are the colours of the order
-pub gather-ends : (n : Net) (p : ℕ → Bool) (sizes vars : List ℕ) (uses i v a b c d left t : ℕ) → v ≤ 0
-    → (((w : ℕ) → w < length vars → 1 ≤ sizeIn sizes vars w) → Gathering (member uses) (sizeIn sizes vars) (length vars) i v a b c d left)
-    → n .sets ≡ sizes → n .variables ≡ vars → length (n .variables) ≤ 32 → uses ≡ bits p 32 → Coloured n
-    → 0x60 ∷ t ∷ a ∷ b ∷ c ∷ d ∷ [] ≡ orderOf (record { transition = t; colours = digits (sizesOver n (those n p)) i })
-gather-ends n p sizes vars uses i v a b c d left t done inv es ev le eb some =
-    let z : v ≡ 0 = omega arith in
-    let all : length vars - 0 ≡ length vars = omega arith in
-    let here = rw (z, all) at (inv (rw (es, ev) at some) .colours) in
-    let far : length vars ≤ 32 = rw ev at le in
-    rw (es, ev) (ap (λ l. 0x60 ∷ t ∷ l) (sym here ∙ ap (λ l. take 4 (digits (map (sizeIn sizes vars) l) i ++ (0 ∷ 0 ∷ 0 ∷ 0 ∷ []))) (keep-bits p eb far)))
+  -- all four: the colours of the order
+  pub gather-ends : {a b c d left : ℕ} → Gathering (theirSizes n t) i 0 (a ∷ b ∷ c ∷ d ∷ []) left → 0x60 ∷ t ∷ a ∷ b ∷ c ∷ d ∷ [] ≡ orderOf (binding t (digits (theirSizes n t) i))
+  gather-ends here = ap (λ l. 0x60 ∷ t ∷ l) (sym (here .are))

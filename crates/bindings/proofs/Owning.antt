@@ -10,16 +10,16 @@ use lib.ListN.{length-map, List·getD-eq-default}
 use lib.Seq.{take-all, take-suc}
 use Rattle.reading.specs.Basics.{ℕ, zero, suc, _+_, _*_, Bool, true, false, List, [], _∷_, map, length, getD, take, ltb, eqb, if_then_else_, replicate, below, keep, product}
 use Rattle.reading.proofs.Lists.{In, here, there, in-cases, Apart, alone, new, apart-from, in-from, of-from, at-in, at-below, getD-at}
-use Rattle.net.specs.Net.{Net, sizeOf, sizesOf, variablesOf, inTransition, noTransition}
+use Rattle.net.specs.Net.{Net, sizeOf, sizesOf, variablesOf, inTransition, noTransition, transitionAt}
 use Rattle.net_file.specs.Limits.{Limits}
 use Rattle.net_file.specs.Formed.{Formed}
-use Rattle.bindings.specs.Effect.{transitionAt, standsFor}
+use Rattle.bindings.specs.Effect.{standsFor}
 use Rattle.bindings.specs.internal.Numbers.{digits}
 use Rattle.bindings.specs.internal.Bindings.{Binds, binding, numbered}
-use Rattle.bindings.specs.internal.TransitionVariables.{ownOf, Owned, slotVariable, slotSize}
+use Rattle.prepared.specs.internal.TransitionVariables.{ownOf, Owned, slotVariable, slotSize}
 use Rattle.bindings.proofs.Digits.{product-with}
-use Rattle.bindings.proofs.Used.{used-below}
-use Rattle.bindings.proofs.Clash.{clash}
+use Rattle.prepared.proofs.Used.{used-below}
+use Rattle.reading.proofs.Clash.{clash}
 
 -- ---- what is kept of a list
 module _ (p : ℕ → Bool) where
@@ -135,6 +135,7 @@ pub record Held (variables sizes : List ℕ) (k slot : ℕ) : Type 0 where
   pub variable : slotVariable slot ≡ getD variables k 0
   pub small : getD variables k 0 < 32
   pub size : slotSize slot ≡ getD sizes k 0
+  pub sized : 1 ≤ slotSize slot
 
 pub map-at : {A : Type 0} (f : ℕ → A) (d : A) (l : List ℕ) (k : ℕ) → k < length l → getD (map f l) k d ≡ f (getD l k 0)
 map-at f d [] k lt = absurd (omega arith)
@@ -167,7 +168,7 @@ module _ {n : Net} {own : List ℕ} (owned : Owned n own) (l : Limits n) {t : �
           let whole : slot ≡ v * 256 + size = entry ∙ map-at (λ v. v * 256 + sizeOf n (getD (n .variables) v 0)) 0 (theirs n t) k h in
           let that : getD (theirSizes n t) k 0 ≡ size = map-at (λ v. sizeOf n (getD (n .variables) v 0)) 0 (theirs n t) k h in
           let few = l .variables in
-          used (record { inside = h; some = omega arith; variable = omega arith; small = omega arith; size = omega arith })
+          used (record { inside = h; some = omega arith; variable = omega arith; small = omega arith; size = omega arith; sized = omega arith })
       go false e =
           let h = ltb-false k (length (theirs n t)) e in
           let none : length (ownOf n (transitionAt n t)) ≤ k = rw length-map h in

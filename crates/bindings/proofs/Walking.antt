@@ -14,10 +14,11 @@ use Rattle.net_file.specs.Limits.{Limits}
 use Rattle.net_file.specs.Formed.{Formed}
 use Rattle.bindings.specs.internal.Numbers.{digits, number}
 use Rattle.bindings.specs.internal.Bindings.{Binds, binding, numbered}
-use Rattle.bindings.specs.internal.TransitionVariables.{Owned, slotVariable, slotSize, Turned, Skipped}
+use Rattle.bindings.specs.internal.SlotSteps.{Turned, Skipped}
+use Rattle.prepared.specs.internal.TransitionVariables.{Owned, slotVariable, slotSize}
 use Rattle.bindings.proofs.Bindings.{Fit, none, more, fit-length}
 use Rattle.bindings.proofs.Digits.{digits-length, digits-fit, digits-number, number-digits}
-use Rattle.bindings.proofs.Clash.{clash}
+use Rattle.reading.proofs.Clash.{clash}
 use Rattle.bindings.proofs.Owning.{coloursIn, theirs, theirSizes, theirs-apart, sizes-are, binds-held, held-binds, Held, map-at, in-getD, few-theirs, by-slot}
 
 -- ---- one colour changed

@@ -1,11 +1,11 @@
 -- Orders, and firing them on the drawing.
-use Rattle.reading.specs.Basics.{ℕ, Bool, false, _&&_, List, [], _∷_, _++_, map, Option, none, some, length, take, drop, ltb, eqb, if_then_else_, given, every, byteAt}
+use Rattle.reading.specs.Basics.{ℕ, Bool, false, _&&_, List, [], _∷_, _++_, map, Option, none, some, length, take, drop, ltb, eqb, if_then_else_, given, every, byteAt, items}
 use Rattle.reading.specs.Reading.{Outcome}
 use Rattle.firing.specs.Firing.{Fired, fired, fire, First}
-use Rattle.firing.specs.Calls.{FireCall, fireCall, firstCall}
-use Rattle.net.specs.Net.{Net, flatPlaceCount, sizesOf}
+use Rattle.firing.specs.Calls.{FireCall, markingChecks, fireChecks, fireCall, firstCall}
+use Rattle.net.specs.Net.{Net, flatPlaceCount, sizesOf, transitionAt}
 use Rattle.net_file.specs.NetFile.{readNet}
-use Rattle.bindings.specs.Effect.{Binding, transitionAt, bindings, effect}
+use Rattle.bindings.specs.Effect.{Binding, bindings, effect}
 
 -- the order of a binding: 0x60, transition, four colours, unused ones 0
 abbrev pub orderOf : Binding → List ℕ
@@ -28,12 +28,12 @@ named n order =
 
 -- 1 it names no binding, 2 its guard is false, or the firing rule's answer
 unfoldable pub fireOrder : Net → List ℕ → List ℕ → Fired
-fireOrder n order m = given (named n order) (fired 1 m) λ b. given (effect n b) (fired 2 m) λ w. fire w m
+fireOrder n order m = given (named n order) (fired 1 m) λ b. given (effect n b) (fired 2 m) λ w. fire [] w m
 
 -- the call that fires a list of orders: net file, marking, orders, lent answers
 unfoldable pub fireOrders : List ℕ → List ℕ → List ℕ → List ℕ → FireCall
-fireOrders s = fireCall flatPlaceCount 6 fireOrder (readNet s)
+fireOrders s m orders answers = fireCall (λ n. fireChecks (flatPlaceCount n) 6 m orders answers) fireOrder (readNet s) m (items 6 orders) answers
 
 -- the call for the first order that fires: net file, marking
 unfoldable pub firstOrder : List ℕ → List ℕ → Outcome (First (List ℕ))
-firstOrder s = firstCall flatPlaceCount (λ n. map orderOf (bindings n)) fireOrder (readNet s)
+firstOrder s m = firstCall (λ n. markingChecks (flatPlaceCount n) m) (λ n. map orderOf (bindings n)) fireOrder (readNet s) m

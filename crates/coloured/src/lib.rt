@@ -1,20 +1,18 @@
 // The drawing's engine: fires lists of orders on a net file.
 mod engine;
 
-use bindings::list_variables;
 use engine::fire_list;
-use net_file::NetRead;
-use net_file::read_net;
+use plan::flat_places_of;
+use prepared::Preparing;
+use prepared::prepare;
 use rows::is_small;
 use rows::most_slots;
-use rows::pack_arcs;
 ghost use mathlib.Core.Path.{_≡_};
-ghost use mathlib.Core.List.{List};
-ghost use Prim.Native.Nat.{ℕ, _≤_};
+ghost use Prim.Native.Nat.{_≤_};
 ghost use lib.ListN.{length};
-ghost use Rattle.net.specs.Net.{Net, flatPlaceCount};
-ghost use Rattle.rows.specs.internal.Drawing.{room};
-ghost use Rattle.rows.specs.internal.Prepared.{Prepared};
+ghost use Rattle.net.specs.Net.{Net};
+ghost use Rattle.rows.specs.internal.Effects.{room};
+ghost use Rattle.prepared.specs.internal.Prepared.{Prepared};
 ghost use Rattle.bindings.specs.Orders.{fireOrders};
 ghost use Rattle.coloured.specs.Replies.{fireCalled};
 
@@ -27,25 +25,18 @@ pub enum FireReply {
 // Fires a list of orders on a net that has been read, with lists lent for a row's arcs.
 fn fire_with(
     s: &[u8],
-    sizes: &[u8],
-    vars: &[u8],
-    own: &[u16; 128],
-    guards: &[u16; 32],
-    arcs: &[u64; 3072],
-    transitions: usize,
-    total: usize,
+    plan: &[u32; 3584],
     marking: &mut [u16],
     orders: &[u8],
     answers: &mut [u8],
     places: &mut [u16],
     amounts: &mut [u16],
 ) -> FireReply
-    requires { ⌜ transitions ≤ 32 ⌝ }
-    ensures { λ r. ⌜ ((n : Net) (uses : List ℕ) → Prepared (now (s .entry)) n (now (sizes .entry)) (now (vars .entry)) (now (own .entry)) uses (now (guards .entry)) (now (arcs .entry)) transitions
-        → flatPlaceCount n ≡ total → room (now (s .entry)) n ≤ length (now (places .entry)) → room (now (s .entry)) n ≤ length (now (amounts .entry))
+    ensures { λ r. ⌜ ((n : Net) → Prepared (now (s .entry)) n (now (plan .entry))
+        → room (now (s .entry)) n ≤ length (now (places .entry)) → room (now (s .entry)) n ≤ length (now (amounts .entry))
         → fireCalled r (now (marking .exit)) (now (answers .exit)) ≡ fireOrders (now (s .entry)) (now (marking .entry)) (now (orders .entry)) (now (answers .entry))) ⌝ }
 {
-    if marking.len() != total {
+    if marking.len() != flat_places_of(plan) {
         return FireReply::Refused {
             number: 12,
             place: 0,
@@ -63,20 +54,7 @@ fn fire_with(
             place: 0,
         };
     }
-    fire_list(
-        s,
-        sizes,
-        vars,
-        own,
-        guards,
-        arcs,
-        transitions,
-        marking,
-        orders,
-        answers,
-        places,
-        amounts,
-    );
+    fire_list(s, plan, marking, orders, answers, places, amounts);
     FireReply::Answered {
         count: orders.len() / 6,
     }
@@ -85,147 +63,58 @@ fn fire_with(
 // With small lists, where the rows have room in them.
 fn fire_small(
     s: &[u8],
-    sizes: &[u8],
-    vars: &[u8],
-    own: &[u16; 128],
-    guards: &[u16; 32],
-    arcs: &[u64; 3072],
-    transitions: usize,
-    total: usize,
+    plan: &[u32; 3584],
     marking: &mut [u16],
     orders: &[u8],
     answers: &mut [u8],
 ) -> FireReply
-    requires { ⌜ transitions ≤ 32 ⌝ }
-    ensures { λ r. ⌜ ((n : Net) (uses : List ℕ) → Prepared (now (s .entry)) n (now (sizes .entry)) (now (vars .entry)) (now (own .entry)) uses (now (guards .entry)) (now (arcs .entry)) transitions
-        → flatPlaceCount n ≡ total → room (now (s .entry)) n ≤ 1024
+    ensures { λ r. ⌜ ((n : Net) → Prepared (now (s .entry)) n (now (plan .entry))
+        → room (now (s .entry)) n ≤ 1024
         → fireCalled r (now (marking .exit)) (now (answers .exit)) ≡ fireOrders (now (s .entry)) (now (marking .entry)) (now (orders .entry)) (now (answers .entry))) ⌝ }
 {
     let mut places = [0u16; 1024];
     let mut amounts = [0u16; 1024];
-    fire_with(
-        s,
-        sizes,
-        vars,
-        own,
-        guards,
-        arcs,
-        transitions,
-        total,
-        marking,
-        orders,
-        answers,
-        &mut places,
-        &mut amounts,
-    )
+    fire_with(s, plan, marking, orders, answers, &mut places, &mut amounts)
 }
 
-// With lists that have room for every net. It can call itself, though no net's file is empty: so the compiler keeps it
+// With lists that have room for every net. It can call itself, once, on an empty file, whose rows need none: so the compiler keeps it
 // apart, and its lists lie in no other function's frame.
 fn fire_large(
     s: &[u8],
-    sizes: &[u8],
-    vars: &[u8],
-    own: &[u16; 128],
-    guards: &[u16; 32],
-    arcs: &[u64; 3072],
-    transitions: usize,
-    total: usize,
+    plan: &[u32; 3584],
     marking: &mut [u16],
     orders: &[u8],
     answers: &mut [u8],
     again: bool,
 ) -> FireReply
-    requires { ⌜ transitions ≤ 32 ⌝ }
-    ensures { λ r. ⌜ ((n : Net) (uses : List ℕ) → Prepared (now (s .entry)) n (now (sizes .entry)) (now (vars .entry)) (now (own .entry)) uses (now (guards .entry)) (now (arcs .entry)) transitions
-        → flatPlaceCount n ≡ total
+    ensures { λ r. ⌜ ((n : Net) → Prepared (now (s .entry)) n (now (plan .entry))
         → fireCalled r (now (marking .exit)) (now (answers .exit)) ≡ fireOrders (now (s .entry)) (now (marking .entry)) (now (orders .entry)) (now (answers .entry))) ⌝ }
 {
     if s.len() < 1 {
         if again {
-            return fire_large(
-                s,
-                sizes,
-                vars,
-                own,
-                guards,
-                arcs,
-                transitions,
-                total,
-                marking,
-                orders,
-                answers,
-                false,
-            );
+            return fire_large(s, plan, marking, orders, answers, false);
         }
     }
     let mut places = [0u16; 20480];
     let mut amounts = [0u16; 20480];
-    fire_with(
-        s,
-        sizes,
-        vars,
-        own,
-        guards,
-        arcs,
-        transitions,
-        total,
-        marking,
-        orders,
-        answers,
-        &mut places,
-        &mut amounts,
-    )
+    fire_with(s, plan, marking, orders, answers, &mut places, &mut amounts)
 }
 
 // Fires a list of orders on a net that has been read.
 fn fire_on(
     s: &[u8],
-    sizes: &[u8],
-    vars: &[u8],
-    own: &[u16; 128],
-    guards: &[u16; 32],
-    arcs: &[u64; 3072],
-    transitions: usize,
-    total: usize,
+    plan: &[u32; 3584],
     marking: &mut [u16],
     orders: &[u8],
     answers: &mut [u8],
 ) -> FireReply
-    requires { ⌜ transitions ≤ 32 ⌝ }
-    ensures { λ r. ⌜ ((n : Net) (uses : List ℕ) → Prepared (now (s .entry)) n (now (sizes .entry)) (now (vars .entry)) (now (own .entry)) uses (now (guards .entry)) (now (arcs .entry)) transitions
-        → flatPlaceCount n ≡ total
+    ensures { λ r. ⌜ ((n : Net) → Prepared (now (s .entry)) n (now (plan .entry))
         → fireCalled r (now (marking .exit)) (now (answers .exit)) ≡ fireOrders (now (s .entry)) (now (marking .entry)) (now (orders .entry)) (now (answers .entry))) ⌝ }
 {
-    if is_small(most_slots(s, arcs, transitions), s.len()) {
-        return fire_small(
-            s,
-            sizes,
-            vars,
-            own,
-            guards,
-            arcs,
-            transitions,
-            total,
-            marking,
-            orders,
-            answers,
-        );
+    if is_small(most_slots(s, plan), s.len()) {
+        return fire_small(s, plan, marking, orders, answers);
     }
-    fire_large(
-        s,
-        sizes,
-        vars,
-        own,
-        guards,
-        arcs,
-        transitions,
-        total,
-        marking,
-        orders,
-        answers,
-        true,
-    )
+    fire_large(s, plan, marking, orders, answers, true)
 }
 
 // Fires a list of orders, 6 bytes each, on a net file and a marking, an answer each. A refusal changes neither list.
@@ -233,57 +122,10 @@ pub fn fire_orders(net: &[u8], marking: &mut [u16], orders: &[u8], answers: &mut
     ensures { λ r. ⌜ fireCalled r (now (marking .exit)) (now (answers .exit))
         ≡ fireOrders (now (net .entry)) (now (marking .entry)) (now (orders .entry)) (now (answers .entry)) ⌝ }
 {
-    let mut sizes = [0u8; 16];
-    let mut vars = [0u8; 32];
-    let mut firsts = [0u8; 32];
-    let mut seconds = [0u8; 32];
-    let mut starts = [0usize; 33];
-    let mut uses = [0u32; 32];
-    let mut guards = [0u16; 32];
-    let mut arcs = [0u16; 3072];
-    let mut initial = [0u16; 4096];
-    let mut named = [0u8; 4096];
-    match read_net(
-        net,
-        &mut sizes,
-        &mut vars,
-        &mut firsts,
-        &mut seconds,
-        &mut starts,
-        &mut uses,
-        &mut guards,
-        &mut arcs,
-        &mut initial,
-        &mut named,
-    ) {
-        NetRead::Refused { number, place } => FireReply::Refused { number, place },
-        NetRead::Whole {
-            sets,
-            variables,
-            places,
-            total,
-            transitions,
-            space: _,
-        } => {
-            let mut packed = [0u64; 3072];
-            pack_arcs(&arcs, places, transitions, &seconds, &starts, &mut packed);
-            let used = &sizes[..sets];
-            let variable_sets = &vars[..variables];
-            let mut own = [0u16; 128];
-            list_variables(&uses, used, variable_sets, transitions, &mut own);
-            fire_on(
-                net,
-                used,
-                variable_sets,
-                &own,
-                &guards,
-                &packed,
-                transitions,
-                total,
-                marking,
-                orders,
-                answers,
-            )
-        }
+    let mut plan = [0u32; 3584];
+    let mut initial = [0u16; 0];
+    match prepare(net, &mut plan, &mut initial) {
+        Preparing::Refused { number, place } => FireReply::Refused { number, place },
+        Preparing::Ready => fire_on(net, &plan, marking, orders, answers),
     }
 }

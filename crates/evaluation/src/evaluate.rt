@@ -1,14 +1,16 @@
 // Evaluates the expressions of a net file under a binding, which gives each variable's colour.
 // Nothing is asked of the bytes: where they hold a tree, what comes out is the tree's.
 use net::entry;
+use plan::set_in;
+use plan::size_in;
 ghost use mathlib.Core.Path.{_≡_};
 ghost use mathlib.Core.List.{List};
 ghost use Prim.Native.Nat.{ℕ, _≤_, _<_, _+_, _^_};
 ghost use lib.ListN.{length};
 ghost use Rattle.reading.specs.Basics.{if_then_else_, ltb, eqb};
-ghost use Rattle.net.specs.Net.{Place, equal, less, scope};
+ghost use Rattle.net.specs.Net.{Place, equal, less};
 ghost use Rattle.net.specs.Reader.{readColour, readGuard, comparison, amount};
-ghost use Rattle.evaluation.specs.internal.Evaluated.{Valued, Held, Ranks, placeBy, after, before};
+ghost use Rattle.evaluation.specs.internal.Evaluated.{scopeIn, Valued, Held, Ranks, placeBy, after, before};
 
 // The colour that an expression means, its set, and the place after it.
 pub struct Value {
@@ -38,11 +40,11 @@ fn before_in(size: u8, c: u16) -> u16
     }
 }
 
-// The colour expression at a place, with so many levels left. The file and the tables are handed on by address.
-fn colour_at(s: &&[u8], sizes: &&[u8], vars: &&[u8], env: &[u8; 32], left: u8, at: usize) -> Value
+// The colour expression at a place, with so many levels left. The file is handed on by address.
+fn colour_at(s: &&[u8], plan: &[u32; 3584], env: &[u8; 32], left: u8, at: usize) -> Value
     requires { ⌜ length (now (now s)) < 2 ^ 63 ⌝ }
-    ensures is { λ r. ⌜ ((places : List Place) → Valued (scope (now (now (sizes .entry))) (now (now (vars .entry))) places) (now (env .entry)) r
-        (readColour (now (now (s .entry))) (scope (now (now (sizes .entry))) (now (now (vars .entry))) places) left at)) ⌝ }
+    ensures is { λ r. ⌜ ((places : List Place) → Valued (scopeIn (now (plan .entry)) places) (now (env .entry)) r
+        (readColour (now (now (s .entry))) (scopeIn (now (plan .entry)) places) left at)) ⌝ }
     ensures small { λ r. ⌜ r .colour ≤ 255 + left ⌝ }
 {
     let file = *s;
@@ -55,10 +57,10 @@ fn colour_at(s: &&[u8], sizes: &&[u8], vars: &&[u8], env: &[u8; 32], left: u8, a
     }
     let b = file[at];
     if b == 0x30 {
-        let v = entry(file, at + 1) as usize;
+        let v = entry(file, at + 1);
         return Value {
-            colour: entry(env, v) as u16,
-            set: entry(*vars, v),
+            colour: entry(env, v as usize) as u16,
+            set: set_in(plan, v),
             next: at + 2,
         };
     }
@@ -76,8 +78,8 @@ fn colour_at(s: &&[u8], sizes: &&[u8], vars: &&[u8], env: &[u8; 32], left: u8, a
             next: at,
         };
     }
-    let k = colour_at(s, sizes, vars, env, left - 1, at + 1);
-    let size = entry(*sizes, k.set as usize);
+    let k = colour_at(s, plan, env, left - 1, at + 1);
+    let size = size_in(plan, k.set);
     if b == 0x32 {
         return Value {
             colour: after_in(size, k.colour),
@@ -108,17 +110,16 @@ fn compares(lesser: bool, x: u16, y: u16) -> bool
 // Two colours one after the other, compared: for less, or for equal. Two variables are compared at once.
 fn compared_at(
     s: &&[u8],
-    sizes: &&[u8],
-    vars: &&[u8],
+    plan: &[u32; 3584],
     env: &[u8; 32],
     lesser: bool,
     left: u8,
     next: usize,
 ) -> Tested
     requires { ⌜ length (now (now s)) < 2 ^ 63 ⌝ }
-    ensures { λ r. ⌜ ((places : List Place) (at : ℕ) → Held (scope (now (now (sizes .entry))) (now (now (vars .entry))) places) (now (env .entry)) r
-        (comparison (scope (now (now (sizes .entry))) (now (now (vars .entry))) places)
-        (readColour (now (now (s .entry))) (scope (now (now (sizes .entry))) (now (now (vars .entry))) places) left) (if lesser then less else equal) at next)) ⌝ }
+    ensures { λ r. ⌜ ((places : List Place) (at : ℕ) → Held (scopeIn (now (plan .entry)) places) (now (env .entry)) r
+        (comparison (scopeIn (now (plan .entry)) places)
+        (readColour (now (now (s .entry))) (scopeIn (now (plan .entry)) places) left) (if lesser then less else equal) at next)) ⌝ }
 {
     let file = *s;
     if next < file.len() {
@@ -136,8 +137,8 @@ fn compared_at(
             }
         }
     }
-    let a = colour_at(s, sizes, vars, env, left, next);
-    let b = colour_at(s, sizes, vars, env, left, a.next);
+    let a = colour_at(s, plan, env, left, next);
+    let b = colour_at(s, plan, env, left, a.next);
     Tested {
         holds: compares(lesser, a.colour, b.colour),
         next: b.next,
@@ -145,10 +146,10 @@ fn compared_at(
 }
 
 // The guard at a place, with so many levels left.
-fn guard_at(s: &&[u8], sizes: &&[u8], vars: &&[u8], env: &[u8; 32], left: u8, at: usize) -> Tested
+fn guard_at(s: &&[u8], plan: &[u32; 3584], env: &[u8; 32], left: u8, at: usize) -> Tested
     requires { ⌜ length (now (now s)) < 2 ^ 63 ⌝ }
-    ensures { λ r. ⌜ ((places : List Place) → Held (scope (now (now (sizes .entry))) (now (now (vars .entry))) places) (now (env .entry)) r
-        (readGuard (now (now (s .entry))) (scope (now (now (sizes .entry))) (now (now (vars .entry))) places) left at)) ⌝ }
+    ensures { λ r. ⌜ ((places : List Place) → Held (scopeIn (now (plan .entry)) places) (now (env .entry)) r
+        (readGuard (now (now (s .entry))) (scopeIn (now (plan .entry)) places) left at)) ⌝ }
 {
     let file = *s;
     if file.len() <= at {
@@ -171,33 +172,33 @@ fn guard_at(s: &&[u8], sizes: &&[u8], vars: &&[u8], env: &[u8; 32], left: u8, at
         };
     }
     if b == 0x21 {
-        let g = guard_at(s, sizes, vars, env, left - 1, at + 1);
+        let g = guard_at(s, plan, env, left - 1, at + 1);
         return Tested {
             holds: !g.holds,
             next: g.next,
         };
     }
     if b == 0x22 {
-        let g = guard_at(s, sizes, vars, env, left - 1, at + 1);
-        let h = guard_at(s, sizes, vars, env, left - 1, g.next);
+        let g = guard_at(s, plan, env, left - 1, at + 1);
+        let h = guard_at(s, plan, env, left - 1, g.next);
         return Tested {
             holds: g.holds & h.holds,
             next: h.next,
         };
     }
     if b == 0x23 {
-        let g = guard_at(s, sizes, vars, env, left - 1, at + 1);
-        let h = guard_at(s, sizes, vars, env, left - 1, g.next);
+        let g = guard_at(s, plan, env, left - 1, at + 1);
+        let h = guard_at(s, plan, env, left - 1, g.next);
         return Tested {
             holds: g.holds | h.holds,
             next: h.next,
         };
     }
     if b == 0x24 {
-        return compared_at(s, sizes, vars, env, false, left - 1, at + 1);
+        return compared_at(s, plan, env, false, left - 1, at + 1);
     }
     if b == 0x25 {
-        return compared_at(s, sizes, vars, env, true, left - 1, at + 1);
+        return compared_at(s, plan, env, true, left - 1, at + 1);
     }
     Tested {
         holds: false,
@@ -206,18 +207,11 @@ fn guard_at(s: &&[u8], sizes: &&[u8], vars: &&[u8], env: &[u8; 32], left: u8, at
 }
 
 // The same, of a guard in a file.
-pub fn eval_guard(
-    s: &[u8],
-    sizes: &[u8],
-    vars: &[u8],
-    env: &[u8; 32],
-    left: u8,
-    at: usize,
-) -> Tested
-    ensures { λ r. ⌜ ((places : List Place) → Held (scope (now (sizes .entry)) (now (vars .entry)) places) (now (env .entry)) r
-        (readGuard (now (s .entry)) (scope (now (sizes .entry)) (now (vars .entry)) places) left at)) ⌝ }
+pub fn eval_guard(s: &[u8], plan: &[u32; 3584], env: &[u8; 32], left: u8, at: usize) -> Tested
+    ensures { λ r. ⌜ ((places : List Place) → Held (scopeIn (now (plan .entry)) places) (now (env .entry)) r
+        (readGuard (now (s .entry)) (scopeIn (now (plan .entry)) places) left at)) ⌝ }
 {
-    guard_at(&s, &sizes, &vars, env, left, at)
+    guard_at(&s, plan, env, left, at)
 }
 
 // A rank, and the place after an expression.
@@ -229,22 +223,21 @@ pub struct Ranked {
 // The one rank that 0x40 gives its count, and the place after its colours, one or two.
 fn rank_at(
     s: &&[u8],
-    sizes: &&[u8],
-    vars: &&[u8],
+    plan: &[u32; 3584],
     env: &[u8; 32],
     paired: bool,
     left: u8,
     next: usize,
 ) -> Ranked
     requires { ⌜ length (now (now s)) < 2 ^ 63 ⌝ }
-    ensures { λ r. ⌜ ((places : List Place) (first second count at : ℕ) → Ranks (scope (now (now (sizes .entry))) (now (now (vars .entry))) places) (now (env .entry)) count r
-        (amount (scope (now (now (sizes .entry))) (now (now (vars .entry))) places)
-        (readColour (now (now (s .entry))) (scope (now (now (sizes .entry))) (now (now (vars .entry))) places) left) (placeBy paired first second) count at next)) ⌝ }
+    ensures { λ r. ⌜ ((places : List Place) (first second count at : ℕ) → Ranks (scopeIn (now (plan .entry)) places) (now (env .entry)) count r
+        (amount (scopeIn (now (plan .entry)) places)
+        (readColour (now (now (s .entry))) (scopeIn (now (plan .entry)) places) left) (placeBy paired first second) count at next)) ⌝ }
 {
-    let a = colour_at(s, sizes, vars, env, left, next);
+    let a = colour_at(s, plan, env, left, next);
     if paired {
-        let b = colour_at(s, sizes, vars, env, left, a.next);
-        let size = entry(*sizes, b.set as usize);
+        let b = colour_at(s, plan, env, left, a.next);
+        let size = size_in(plan, b.set);
         return Ranked {
             rank: (a.colour as usize) * (size as usize) + (b.colour as usize),
             next: b.next,
@@ -259,16 +252,15 @@ fn rank_at(
 // The same, of a count in a file.
 pub fn eval_rank(
     s: &[u8],
-    sizes: &[u8],
-    vars: &[u8],
+    plan: &[u32; 3584],
     env: &[u8; 32],
     paired: bool,
     left: u8,
     next: usize,
 ) -> Ranked
-    ensures { λ r. ⌜ ((places : List Place) (first second count at : ℕ) → Ranks (scope (now (sizes .entry)) (now (vars .entry)) places) (now (env .entry)) count r
-        (amount (scope (now (sizes .entry)) (now (vars .entry)) places)
-        (readColour (now (s .entry)) (scope (now (sizes .entry)) (now (vars .entry)) places) left) (placeBy paired first second) count at next)) ⌝ }
+    ensures { λ r. ⌜ ((places : List Place) (first second count at : ℕ) → Ranks (scopeIn (now (plan .entry)) places) (now (env .entry)) count r
+        (amount (scopeIn (now (plan .entry)) places)
+        (readColour (now (s .entry)) (scopeIn (now (plan .entry)) places) left) (placeBy paired first second) count at next)) ⌝ }
 {
-    rank_at(&s, &sizes, &vars, env, paired, left, next)
+    rank_at(&s, plan, env, paired, left, next)
 }

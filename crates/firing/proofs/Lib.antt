@@ -4,3 +4,4 @@ pub mod Passes
 pub mod Running
 pub mod Agree
 pub mod Weighted
+pub mod Lowest

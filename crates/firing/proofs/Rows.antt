@@ -2,8 +2,10 @@
 use mathlib.Core.Path.{_≡_, refl, sym, _∙_}
 use native.Mathlib.Omega.{arith}
 use Prim.Native.Nat.{_≤_}
+use lib.ListN.{length-map}
 use borrow.Author.Tests.{eq-eqb, ne-eqb, eqb-true, eqb-false}
-use Rattle.reading.specs.Basics.{ℕ, suc, _+_, _-_, _<_, Bool, true, false, List, [], _∷_, eqb, find, numbersFrom}
+use Rattle.reading.specs.Basics.{ℕ, suc, _+_, _-_, _<_, Bool, true, false, List, [], _∷_, length, eqb, find, numbersFrom}
+use Rattle.reading.proofs.Lists.{length-from}
 use Rattle.firing.specs.Arcs.{Arc, Rising, none, more, weightIn}
 use Rattle.firing.specs.internal.RowLists.{arcsIn}
 use Rattle.firing.specs.internal.Steps.{arcAt}
@@ -63,3 +65,8 @@ module _ (places weights : List ℕ) (b : ℕ) where
   pub arcs-none : (i : ℕ) → b ≤ i → arcsIn places weights i b ≡ []
   unfolding arcsIn numbersFrom
   arcs-none i h = let e : b - i ≡ 0 = omega arith in rw e
+
+-- how many there are
+pub length-arcs : (places weights : List ℕ) (a b : ℕ) → length (arcsIn places weights a b) ≡ b - a
+unfolding arcsIn
+length-arcs places weights a b = length-map (numbersFrom a (b - a)) (arcAt places weights) ∙ length-from a (b - a)

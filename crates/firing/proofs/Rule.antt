@@ -4,12 +4,13 @@ use native.Mathlib.Omega.{arith}
 use native.Mathlib.Nat.{mod-eq-of-lt}
 use Prim.Native.Nat.{_≤_}
 use borrow.Author.Tests.{ltb-true, ltb-false, eqb-true, eqb-false}
-use lib.ListN.{set, length-set}
+use lib.ListN.{set, length-set, length-map}
 use lib.Seq.{getD-set-same, getD-set-other, ext-getD}
 use Rattle.reading.specs.Basics.{ℕ, zero, suc, _+_, _-_, _<_, Bool, true, false, _&&_, _||_, find, List, [], _∷_, map, length, getD, ltb, leb, eqb, if_then_else_, any, below, numbersFrom}
-use Rattle.firing.specs.Firing.{Weights, fired, lacks, hindered, moved, spills, fire}
+use Rattle.reading.proofs.Lists.{length-below, getD-below}
+use Rattle.firing.specs.Firing.{Weights, fired, lacks, hindered, capacity, moved, spills, Kept, fire}
 use Rattle.firing.specs.Arcs.{Arc, Row, Rising, none, more, Proper, weightIn, weights}
-use Rattle.firing.specs.internal.Steps.{lacking, hindering, spilling, changed, added}
+use Rattle.firing.specs.internal.Steps.{lacking, hindering, spilling, Small, changed, added}
 use Rattle.firing.proofs.Rows.{In, here, there, in-inside, in-weight, weight-in, weight-hit, weight-skip}
 
 -- ---- tests that agree
@@ -75,45 +76,57 @@ arc-some t (there {b = b} {l = l} i) e = go (t b) (arc-some t i e)
     go true h = refl
     go false h = h
 
--- a test of places that only holds where an arc stands is a test of arcs
-pub by-arcs : {n : ℕ} (q : ℕ → Bool) (t : Arc → Bool) (l : List Arc) → Rising n 0 l
-    → ((a : Arc) → In a l → q (a .place) ≡ t a) → ((p : ℕ) → q p ≡ true → 0 < weightIn l p) → any q (below n) ≡ any t l
-by-arcs {n} q t l r same only = alike (any q (below n)) (any t l) to from
+-- a test of places that holds where an arc stands of which a test of arcs does, and nowhere else
+pub record Shown (n : ℕ) (q : ℕ → Bool) (t : Arc → Bool) (l : List Arc) : Type 0 where
+  pub rising : Rising n 0 l
+  pub same : (a : Arc) → In a l → q (a .place) ≡ t a
+  pub only : (p : ℕ) → p < n → q p ≡ true → 0 < weightIn l p
+
+-- of all places it is the test of all arcs
+pub by-arcs : {n : ℕ} {q : ℕ → Bool} {t : Arc → Bool} {l : List Arc} → Shown n q t l → any q (below n) ≡ any t l
+by-arcs {n} {q} {t} {l} shown = alike (any q (below n)) (any t l) to from
   where
     to : any q (below n) ≡ true → any t l ≡ true
     to e =
         let x = some-from q 0 n e in
-        let y = weight-in l (x .0) (only (x .0) (x .2)) in
-        arc-some t (y .1) (sym (same (y .0) (y .1)) ∙ ap q (y .2) ∙ x .2)
+        let y = weight-in l (x .0) (shown .only (x .0) (let h = x .1 in omega arith) (x .2)) in
+        arc-some t (y .1) (sym (shown .same (y .0) (y .1)) ∙ ap q (y .2) ∙ x .2)
 
     from : any t l ≡ true → any q (below n) ≡ true
     from e =
         let x = some-arc t l e in
-        from-some q 0 n (x .0 .place) (omega arith) (let h = in-inside (x .1) r in omega arith) (same (x .0) (x .1) ∙ x .2)
+        from-some q 0 n (x .0 .place) (omega arith) (let h = in-inside (x .1) (shown .rising) in omega arith) (shown .same (x .0) (x .1) ∙ x .2)
 
 -- ---- the three tests, over all places and over the arcs
 module _ (m : List ℕ) (row : Row) (proper : Proper (length m) row) where
-  pub lacks-is : any (lacks (weights row) m) (below (length m)) ≡ any (lacking m) (row .takes)
-  lacks-is =
-      by-arcs (lacks (weights row) m) (lacking m) (row .takes) (proper .takes) (λ a i. ap (ltb (getD m (a .place) 0)) (in-weight i (proper .takes)))
-      (λ p e. let h : getD m p 0 < weightIn (row .takes) p = ltb-true _ _ e in omega arith)
+  pub lacks-shown : Shown (length m) (lacks (weights row) m) (lacking m) (row .takes)
+  lacks-shown =
+      record {
+        rising = proper .takes;
+        same = λ a i. ap (ltb (getD m (a .place) 0)) (in-weight i (proper .takes));
+        only = λ p i e. let h : getD m p 0 < weightIn (row .takes) p = ltb-true _ _ e in omega arith;
+      }
 
   -- where a take is lacking
-  pub fires-3 : any (lacking m) (row .takes) ≡ true → fired 3 m ≡ fire (weights row) m
+  pub fires-3 : (caps : List ℕ) → any (lacking m) (row .takes) ≡ true → fired 3 m ≡ fire caps (weights row) m
   unfolding fire
-  fires-3 e = simp (lacks-is ∙ e)
+  fires-3 caps e = simp (by-arcs lacks-shown ∙ e)
 
-  pub hindered-is : any (hindered (weights row) m) (below (length m)) ≡ any (hindering m) (row .hinders)
-  hindered-is =
-      by-arcs (hindered (weights row) m) (hindering m) (row .hinders) (proper .hinders)
-      (λ a i. ap (λ w. ltb 0 w && leb w (getD m (a .place) 0)) (in-weight i (proper .hinders)))
-      (λ p e. ltb-true 0 (weightIn (row .hinders) p) (both-first _ _ e))
+  pub hindered-shown : Shown (length m) (hindered (weights row) m) (hindering m) (row .hinders)
+  hindered-shown =
+      record {
+        rising = proper .hinders;
+        same = λ a i. ap (λ w. ltb 0 w && leb w (getD m (a .place) 0)) (in-weight i (proper .hinders));
+        only = λ p i e. ltb-true 0 (weightIn (row .hinders) p) (both-first _ _ e);
+      }
 
-  pub spills-is : ((p : ℕ) → getD m p 0 < 65536) → any (spills (weights row) m) (below (length m)) ≡ any (spilling m (row .takes)) (row .puts)
-  spills-is fit =
-      by-arcs (spills (weights row) m) (spilling m (row .takes)) (row .puts) (proper .puts)
-      (λ a i. ap (λ w. ltb 65535 (getD m (a .place) 0 - weightIn (row .takes) (a .place) + w)) (in-weight i (proper .puts)))
-      (λ p e. let h : 65535 < moved (weights row) m p = ltb-true _ _ e in omega (arith, fit p))
+  pub spills-shown : (caps : List ℕ) → Kept caps m → Shown (length m) (spills caps (weights row) m) (spilling caps m (row .takes)) (row .puts)
+  spills-shown caps kept =
+      record {
+        rising = proper .puts;
+        same = λ a i. ap (λ w. ltb (capacity caps (a .place)) (getD m (a .place) 0 - weightIn (row .takes) (a .place) + w)) (in-weight i (proper .puts));
+        only = λ p i e. let h : capacity caps p < moved (weights row) m p = ltb-true _ _ e in omega (arith, kept p i);
+      }
 
 -- ---- the change
 -- it keeps the length
@@ -156,22 +169,6 @@ changed-at f {n} m p e (more {a = a} {l = l} i k w r) still = go (eqb (a .place)
         let same : getD m′ p 0 ≡ getD m p 0 = getD-set-other m (a .place) p v 0 (λ z. d (sym z)) in
         later (rw same still) ∙ ap (λ x. f x (weightIn l p)) same ∙ ap (f (getD m p 0)) (sym (weight-skip a l p d))
 
--- a function of the numbers from a on: how many, and each
-pub length-from : (f : ℕ → ℕ) (a n : ℕ) → length (map f (numbersFrom a n)) ≡ n
-unfolding numbersFrom
-length-from f a zero = refl
-length-from f a (suc n) = ap suc (length-from f (a + 1) n)
-
-pub getD-from : (f : ℕ → ℕ) (a n p : ℕ) → p < n → getD (map f (numbersFrom a n)) p 0 ≡ f (a + p)
-unfolding numbersFrom
-getD-from f a zero p h = absurd (omega arith)
-getD-from f a (suc n) zero h = let e : a ≡ a + 0 = omega arith in ap f e
-getD-from f a (suc n) (suc p) h = getD-from f (a + 1) n p (omega arith) ∙ (let e : a + 1 + p ≡ a + suc p = omega arith in ap f e)
-
--- of the numbers below n
-pub getD-below : (f : ℕ → ℕ) (n p : ℕ) → p < n → getD (map f (below n)) p 0 ≡ f p
-getD-below f n p h = getD-from f 0 n p h ∙ (let e : 0 + p ≡ p = omega arith in ap f e)
-
 -- the marking after all takes and then all puts
 abbrev pub after : Row → List ℕ → List ℕ
 after row m = changed added (row .puts) (changed _-_ (row .takes) m)
@@ -185,51 +182,53 @@ module _ (m : List ℕ) (row : Row) (proper : Proper (length m) row) (fit : (p :
       changed-at added (changed _-_ (row .takes) m) p (length-changed _-_ (row .takes) m) (proper .puts) (omega (arith, fit p)) in
       more ∙ ap (λ x. added x (weightIn (row .puts) p)) less ∙ mod-eq-of-lt h
 
-  -- where no count passes 65,535 the change is the rule's
-  pub after-is : any (spills (weights row) m) (below (length m)) ≡ false → after row m ≡ map (moved (weights row) m) (below (length m))
-  after-is e = ext-getD 0 (after row m) (map (moved (weights row) m) (below (length m))) (long ∙ sym (length-from (moved (weights row) m) 0 (length m))) each
-    where
-      long : length (after row m) ≡ length m
-      long = length-changed added (row .puts) (changed _-_ (row .takes) m) ∙ length-changed _-_ (row .takes) m
+  module _ (caps : List ℕ) (small : Small caps) where
+    -- where no count passes its capacity the change is the rule's
+    pub after-is : any (spills caps (weights row) m) (below (length m)) ≡ false → after row m ≡ map (moved (weights row) m) (below (length m))
+    after-is e = ext-getD 0 (after row m) (map (moved (weights row) m) (below (length m))) (long ∙ sym (length-map (below (length m)) (moved (weights row) m) ∙ length-below (length m))) each
+      where
+        long : length (after row m) ≡ length m
+        long = length-changed added (row .puts) (changed _-_ (row .takes) m) ∙ length-changed _-_ (row .takes) m
 
-      each : (p : ℕ) → p < length (after row m) → getD (after row m) p 0 ≡ getD (map (moved (weights row) m) (below (length m))) p 0
-      each p h =
-          let inside : p < length m = rw long at h in
-          counts p (omega (arith, ltb-false 65535 (moved (weights row) m p) (none-from (spills (weights row) m) (length m) e p inside)))
-          ∙ sym (getD-below (moved (weights row) m) (length m) p inside)
+        each : (p : ℕ) → p < length (after row m) → getD (after row m) p 0 ≡ getD (map (moved (weights row) m) (below (length m))) p 0
+        each p h =
+            let inside : p < length m = rw long at h in
+            counts p (omega (arith, small p, ltb-false (capacity caps p) (moved (weights row) m p) (none-from (spills caps (weights row) m) (length m) e p inside)))
+            ∙ sym (getD-below (moved (weights row) m) (length m) p inside)
 
-  -- the rule's answers where no take is lacking
-  pub answer-4 : any (lacking m) (row .takes) ≡ false → any (hindering m) (row .hinders) ≡ true → 4 ≡ fire (weights row) m .answer
+    -- the answer 0 changes the counts as the code does
+    pub fires : {r : ℕ} → r ≡ fire caps (weights row) m .answer → r ≡ 0 → fired r (after row m) ≡ fire caps (weights row) m
+    unfolding fire
+    fires {r} e z = go (any (lacks (weights row) m) (below (length m))) (any (hindered (weights row) m) (below (length m))) (any (spills caps (weights row) m) (below (length m))) refl e
+      where
+        go : (s t u : Bool) → any (spills caps (weights row) m) (below (length m)) ≡ u
+            → r ≡ (if s then fired 3 m else if t then fired 4 m else if u then fired 5 m else fired 0 (map (moved (weights row) m) (below (length m)))) .answer
+            → fired r (after row m) ≡ (if s then fired 3 m else if t then fired 4 m else if u then fired 5 m else fired 0 (map (moved (weights row) m) (below (length m))))
+        go true t u h a = absurd (omega arith)
+        go false true u h a = absurd (omega arith)
+        go false false true h a = absurd (omega arith)
+        go false false false h a = rw (z, after-is h)
+
+-- the rule's answers where no take is lacking
+module _ (m : List ℕ) (row : Row) (proper : Proper (length m) row) (caps : List ℕ) (kept : Kept caps m) where
+  pub answer-4 : any (lacking m) (row .takes) ≡ false → any (hindering m) (row .hinders) ≡ true → 4 ≡ fire caps (weights row) m .answer
   unfolding fire
-  answer-4 e f = simp (lacks-is m row proper ∙ e, hindered-is m row proper ∙ f)
+  answer-4 e f = simp (by-arcs (lacks-shown m row proper) ∙ e, by-arcs (hindered-shown m row proper) ∙ f)
 
-  pub answer-5 : any (lacking m) (row .takes) ≡ false → any (hindering m) (row .hinders) ≡ false → any (spilling m (row .takes)) (row .puts) ≡ true
-      → 5 ≡ fire (weights row) m .answer
+  pub answer-5 : any (lacking m) (row .takes) ≡ false → any (hindering m) (row .hinders) ≡ false → any (spilling caps m (row .takes)) (row .puts) ≡ true
+      → 5 ≡ fire caps (weights row) m .answer
   unfolding fire
-  answer-5 e f g = simp (lacks-is m row proper ∙ e, hindered-is m row proper ∙ f, spills-is m row proper fit ∙ g)
+  answer-5 e f g = simp (by-arcs (lacks-shown m row proper) ∙ e, by-arcs (hindered-shown m row proper) ∙ f, by-arcs (spills-shown m row proper caps kept) ∙ g)
 
-  pub answer-0 : any (lacking m) (row .takes) ≡ false → any (hindering m) (row .hinders) ≡ false → any (spilling m (row .takes)) (row .puts) ≡ false
-      → 0 ≡ fire (weights row) m .answer
+  pub answer-0 : any (lacking m) (row .takes) ≡ false → any (hindering m) (row .hinders) ≡ false → any (spilling caps m (row .takes)) (row .puts) ≡ false
+      → 0 ≡ fire caps (weights row) m .answer
   unfolding fire
-  answer-0 e f g = simp (lacks-is m row proper ∙ e, hindered-is m row proper ∙ f, spills-is m row proper fit ∙ g)
-
-  -- the answer 0 changes the counts as the code does
-  pub fires : {r : ℕ} → r ≡ fire (weights row) m .answer → r ≡ 0 → fired r (after row m) ≡ fire (weights row) m
-  unfolding fire
-  fires {r} e z = go (any (lacks (weights row) m) (below (length m))) (any (hindered (weights row) m) (below (length m))) (any (spills (weights row) m) (below (length m))) refl e
-    where
-      go : (s t u : Bool) → any (spills (weights row) m) (below (length m)) ≡ u
-          → r ≡ (if s then fired 3 m else if t then fired 4 m else if u then fired 5 m else fired 0 (map (moved (weights row) m) (below (length m)))) .answer
-          → fired r (after row m) ≡ (if s then fired 3 m else if t then fired 4 m else if u then fired 5 m else fired 0 (map (moved (weights row) m) (below (length m))))
-      go true t u h a = absurd (omega arith)
-      go false true u h a = absurd (omega arith)
-      go false false true h a = absurd (omega arith)
-      go false false false h a = rw (z, after-is h)
+  answer-0 e f g = simp (by-arcs (lacks-shown m row proper) ∙ e, by-arcs (hindered-shown m row proper) ∙ f, by-arcs (spills-shown m row proper caps kept) ∙ g)
 
 -- any answer but 0 leaves the counts
-pub rests : (w : Weights) (m : List ℕ) {r : ℕ} → r ≡ fire w m .answer → (r ≡ 0 → ⊥) → fired r m ≡ fire w m
+pub rests : (caps : List ℕ) (w : Weights) (m : List ℕ) {r : ℕ} → r ≡ fire caps w m .answer → (r ≡ 0 → ⊥) → fired r m ≡ fire caps w m
 unfolding fire
-rests w m {r} e z = go (any (lacks w m) (below (length m))) (any (hindered w m) (below (length m))) (any (spills w m) (below (length m))) e
+rests caps w m {r} e z = go (any (lacks w m) (below (length m))) (any (hindered w m) (below (length m))) (any (spills caps w m) (below (length m))) e
   where
     go : (s t u : Bool) → r ≡ (if s then fired 3 m else if t then fired 4 m else if u then fired 5 m else fired 0 (map (moved w m) (below (length m)))) .answer
         → fired r m ≡ (if s then fired 3 m else if t then fired 4 m else if u then fired 5 m else fired 0 (map (moved w m) (below (length m))))

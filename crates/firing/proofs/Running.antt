@@ -4,11 +4,13 @@ use Prim.Native.Nat.{_≤_, _<_}
 use native.Mathlib.Omega.{arith}
 use native.Mathlib.Numerals.{add-one}
 use native.Mathlib.Nat.{add-zero, zero-add}
-use borrow.Author.Tests.{lt-ltb, le-ltb, le-leb, lt-leb, eq-eqb, ne-eqb}
+use borrow.Author.Tests.{lt-ltb, le-ltb}
 use lib.ListN.{set, length-append, length-set, length-map}
 use lib.Seq.{drop-cons, take-all, length-take-le, set-at, append-snoc, getD-take, getD-drop}
-use Rattle.reading.specs.Basics.{ℕ, zero, suc, _+_, _*_, _/_, _%_, Bool, true, false, List, [], _∷_, _++_, map, some, none, length, take, drop, getElem?, if_then_else_, with, numbersFrom, below, eqb, byteAt, wordAt, longAt, items, over}
-use Rattle.reading.specs.Reading.{Outcome, accepted, refused, failing}
+use Rattle.reading.specs.Basics.{ℕ, zero, suc, _+_, _*_, _/_, Bool, true, false, List, [], _∷_, _++_, map, some, none, length, take, drop, getElem?, if_then_else_, with, numbersFrom, below, eqb, byteAt, wordAt, longAt, items, over}
+use Rattle.reading.specs.Reading.{Outcome, accepted, refused, CallCheck}
+use Rattle.reading.proofs.Lists.{below-at, at-map, length-below, below-is}
+use Rattle.reading.proofs.Permits.{Permits, Refuses, permitting, refusing-at}
 use Rattle.firing.specs.Firing.{Fired, fired, run, ending, First, found, nothing, oneMore, first}
 use Rattle.firing.specs.Calls.{FireCall, fireCall, firstCall}
 use Rattle.firing.specs.internal.Loops.{Ran, stoppedAt}
@@ -23,12 +25,6 @@ take-with {A} l i a e = rw add-one (go l i e)
     go (x ∷ l) zero e = let z : x ≡ a = cc in rw z
     go (x ∷ l) (suc i) e = ap (λ (t : List A). x ∷ t) (go l i e)
 
--- where one stands
-pub inside : {A : Type 0} (l : List A) (i : ℕ) (a : A) → getElem? l i ≡ some a → i < length l
-inside [] i a e = let z : _≡_ {A = ℕ} 0 1 = cc in absurd (omega arith)
-inside (x ∷ l) zero a e = omega arith
-inside (x ∷ l) (suc i) a e = omega (arith, inside l i a e)
-
 -- the list round it
 pub split-here : {A : Type 0} (l : List A) (i : ℕ) (a : A) → getElem? l i ≡ some a → l ≡ take i l ++ (a ∷ drop (i + 1) l)
 split-here {A} l i a e = rw add-one (go l i e)
@@ -42,29 +38,6 @@ map-with : {A B : Type 0} (f : A → B) (l : List A) (a : A) → map f (with l a
 map-with f [] a = refl
 map-with f (x ∷ l) a = ap (λ (t : List _). f x ∷ t) (map-with f l a)
 
-getElem-map : {A B : Type 0} (f : A → B) (l : List A) (i : ℕ) (a : A) → getElem? l i ≡ some a → getElem? (map f l) i ≡ some (f a)
-getElem-map f [] i a e = let z : _≡_ {A = ℕ} 0 1 = cc in absurd (omega arith)
-getElem-map f (x ∷ l) zero a e = let z : x ≡ a = cc in rw z
-getElem-map f (x ∷ l) (suc i) a e = getElem-map f l i a e
-
--- the numbers from a on, and those below n
-numbers-length : (a n : ℕ) → length (numbersFrom a n) ≡ n
-unfolding numbersFrom
-numbers-length a zero = refl
-numbers-length a (suc n) = ap suc (numbers-length (a + 1) n)
-
-numbers-at : (a n i : ℕ) → i < n → getElem? (numbersFrom a n) i ≡ some (a + i)
-unfolding numbersFrom
-numbers-at a zero i h = absurd (omega arith)
-numbers-at a (suc n) zero h = rw add-zero
-numbers-at a (suc n) (suc i) h = numbers-at (a + 1) n i (omega arith) ∙ ap some (let e : a + 1 + i ≡ a + suc i = omega arith in e)
-
-pub length-below : (n : ℕ) → length (below n) ≡ n
-length-below n = numbers-length 0 n
-
-pub below-at : (n i : ℕ) → i < n → getElem? (below n) i ≡ some i
-below-at n i h = rw zero-add at (numbers-at 0 n i h)
-
 -- ---- the items of a list, so many bytes each
 module _ (width : ℕ) (bytes : List ℕ) where
   abbrev pub item : ℕ → List ℕ
@@ -74,7 +47,7 @@ module _ (width : ℕ) (bytes : List ℕ) where
   length-items = length-map (below (length bytes / width)) item ∙ length-below (length bytes / width)
 
   pub item-at : (i : ℕ) → i < length bytes / width → getElem? (items width bytes) i ≡ some (item i)
-  item-at i h = getElem-map item (below (length bytes / width)) i i (below-at (length bytes / width) i h)
+  item-at i h = at-map item (below (length bytes / width)) i (below-is (length bytes / width) i h)
 
   -- the numbers in an item stand in the whole list
   pub item-byte : (i k : ℕ) → k < width → byteAt (item i) k ≡ byteAt bytes (i * width + k)
@@ -134,7 +107,7 @@ module _ {Order : Type 0} (turn : Order → List ℕ → Fired) (orders : List O
     pub run-turn : {order : Order} (a : ℕ) (m′ : List ℕ) → getElem? orders i ≡ some order → length orders ≤ length old
         → fired a m′ ≡ turn order m → length m′ ≡ length m → Running turn orders first old m′ (set answers i a) (i + 1)
     run-turn {order} a m′ is room e len =
-        let lt = inside orders i order is in
+        let lt = below-at orders i is in
         let so : List Fired = run turn first (take i orders) in
         let before : List ℕ = map (λ f. f .answer) so in
         let f : Fired = turn order (ending first so) in
@@ -170,45 +143,23 @@ module _ (turn : List ℕ → List ℕ → Fired) (width : ℕ) (bytes first old
 abbrev pub called : Outcome ℕ → List ℕ → List ℕ → FireCall
 called result m answers = record { result = result; marking = m; answers = answers }
 
-module _ {Net : Type 0} (places : Net → ℕ) (width : ℕ) (turn : Net → List ℕ → List ℕ → Fired) (read : Outcome Net) (m orders answers : List ℕ) where
+module _ {Net Order : Type 0} (checks : Net → List CallCheck) (turn : Net → Order → List ℕ → Fired) (read : Outcome Net) (m : List ℕ) (orders : List Order) (answers : List ℕ) where
   -- the file is refused
-  pub call-refused : {k p : ℕ} → read ≡ refused k p → called (refused k p) m answers ≡ fireCall places width turn read m orders answers
+  pub call-refused : {k p : ℕ} → read ≡ refused k p → called (refused k p) m answers ≡ fireCall checks turn read m orders answers
   unfolding fireCall
   call-refused e = rw e
 
   module _ {net : Net} (is : read ≡ accepted net) where
-    -- the marking has another length
-    pub call-12 : (length m ≡ places net → ⊥) → called (refused 12 0) m answers ≡ fireCall places width turn read m orders answers
-    unfolding fireCall failing
-    call-12 h = rw (is, ne-eqb (length m) (places net) h)
+    -- some check refuses
+    pub call-stops : {k p : ℕ} → Refuses (checks net) k p → called (refused k p) m answers ≡ fireCall checks turn read m orders answers
+    unfolding fireCall
+    call-stops r = rw (is, refusing-at (accepted net) r)
 
-    module _ (fits : length m ≡ places net) where
-      -- the orders are not whole
-      pub call-13 : (length orders % width ≡ 0 → ⊥) → called (refused 13 0) m answers ≡ fireCall places width turn read m orders answers
-      unfolding fireCall failing
-      call-13 h = rw (is, eq-eqb (length m) (places net) fits, ne-eqb (length orders % width) 0 h)
-
-      module _ (whole : length orders % width ≡ 0) where
-        -- there is no room for the answers
-        pub call-14 : length answers < length orders / width → called (refused 14 0) m answers ≡ fireCall places width turn read m orders answers
-        unfolding fireCall failing
-        call-14 h = rw (is, eq-eqb (length m) (places net) fits, eq-eqb (length orders % width) 0 whole, lt-leb (length orders / width) (length answers) h)
-
-        -- all orders are fired
-        pub call-done : (m′ answers′ : List ℕ) → length orders / width ≤ length answers → Ran (turn net) (items width orders) m answers m′ answers′
-            → called (accepted (length orders / width)) m′ answers′ ≡ fireCall places width turn read m orders answers
-        unfolding fireCall failing
-        call-done m′ answers′ room ran =
-            rw (
-              is,
-              eq-eqb (length m) (places net) fits,
-              eq-eqb (length orders % width) 0 whole,
-              le-leb (length orders / width) (length answers) room,
-              length-run (turn net) m (items width orders),
-              length-items width orders,
-              ran .counts,
-              ran .told,
-            )
+    -- all pass, and all orders are fired
+    pub call-done : Permits (checks net) → {count : ℕ} → length orders ≡ count → {m′ answers′ : List ℕ} → Ran (turn net) orders m answers m′ answers′
+        → called (accepted count) m′ answers′ ≡ fireCall checks turn read m orders answers
+    unfolding fireCall
+    call-done p many ran = rw (is, permitting (accepted net) p, length-run (turn net) m orders, many, ran .counts, ran .told)
 
 -- ---- the search for the first that passes a test
 -- what a search tells, after so many that fail
@@ -252,7 +203,7 @@ module _ {A : Type 0} (test : A → Bool) (l : List A) where
     pub search-step : (a : A) → getElem? l i ≡ some a → test a ≡ false → Searching test l (i + 1)
     unfolding first
     search-step a is e =
-        let lt = inside l i a is in
+        let lt = below-at l i is in
         record { none = rw (take-with l i a is, first-past test (take i l) (a ∷ []) i (here .none), e); most = omega arith }
 
     pub search-found : (a : A) → getElem? l i ≡ some a → test a ≡ true → first test l ≡ found a (i + 1)
@@ -272,10 +223,10 @@ stopped-out n i le = rw (le-ltb i n le)
 -- the same for the numbers below n
 module _ (test : ℕ → Bool) (n : ℕ) {i : ℕ} (here : Searching test (below n) i) where
   pub below-step : i < n → test i ≡ false → Searching test (below n) (i + 1)
-  below-step lt e = search-step test (below n) here i (below-at n i lt) e
+  below-step lt e = search-step test (below n) here i (below-is n i lt) e
 
   pub below-found : i < n → test i ≡ true → first test (below n) ≡ found i (i + 1)
-  below-found lt e = search-found test (below n) here i (below-at n i lt) e
+  below-found lt e = search-found test (below n) here i (below-is n i lt) e
 
   pub below-none : n ≤ i → first test (below n) ≡ nothing n
   below-none le = let k = length-below n in search-none test (below n) here (omega arith) ∙ ap nothing k
@@ -312,25 +263,19 @@ module _ {A : Type 0} (test : A → Bool) (l : List A) (b : ℕ) (f : ℕ → A)
           more (first probe (numbersFrom (a + 1) n)) (later next)
 
 -- ---- the call for the first that fires
-module _ {Net A : Type 0} (places : Net → ℕ) (candidates : Net → List A) (turn : Net → A → List ℕ → Fired) (read : Outcome Net) (m : List ℕ) where
-  pub first-refused : {k p : ℕ} → read ≡ refused k p → refused k p ≡ firstCall places candidates turn read m
+module _ {Net A : Type 0} (checks : Net → List CallCheck) (candidates : Net → List A) (turn : Net → A → List ℕ → Fired) (read : Outcome Net) (m : List ℕ) where
+  -- the file is refused
+  pub first-refused : {k p : ℕ} → read ≡ refused k p → refused k p ≡ firstCall checks candidates turn read m
   unfolding firstCall
   first-refused e = rw e
 
   module _ {net : Net} (is : read ≡ accepted net) where
-    pub first-12 : (length m ≡ places net → ⊥) → refused 12 0 ≡ firstCall places candidates turn read m
-    unfolding firstCall failing
-    first-12 h = rw (is, ne-eqb (length m) (places net) h)
+    -- some check refuses
+    pub first-stops : {k p : ℕ} → Refuses (checks net) k p → refused k p ≡ firstCall checks candidates turn read m
+    unfolding firstCall
+    first-stops r = rw (is, refusing-at (accepted net) r)
 
-    -- the one that passes, or none
-    module _ (fits : length m ≡ places net) where
-      pub first-is : {x : First A} → first (λ a. eqb (turn net a m .answer) 0) (candidates net) ≡ x → accepted x ≡ firstCall places candidates turn read m
-      unfolding firstCall failing
-      first-is e = rw (is, eq-eqb (length m) (places net) fits, e)
-
-      module _ {i : ℕ} (here : Searching (λ a. eqb (turn net a m .answer) 0) (candidates net) i) where
-        pub first-found : (a : A) → getElem? (candidates net) i ≡ some a → turn net a m .answer ≡ 0 → accepted (found a (i + 1)) ≡ firstCall places candidates turn read m
-        first-found a at e = first-is (search-found (λ a. eqb (turn net a m .answer) 0) (candidates net) here a at (eq-eqb (turn net a m .answer) 0 e))
-
-        pub first-none : length (candidates net) ≤ i → accepted (nothing (length (candidates net))) ≡ firstCall places candidates turn read m
-        first-none le = first-is (search-none (λ a. eqb (turn net a m .answer) 0) (candidates net) here le)
+    -- all pass: the one that is answered 0, or none
+    pub first-is : Permits (checks net) → {x : First A} → first (λ a. eqb (turn net a m .answer) 0) (candidates net) ≡ x → accepted x ≡ firstCall checks candidates turn read m
+    unfolding firstCall
+    first-is p e = rw (is, permitting (accepted net) p, e)

@@ -1,4 +1,5 @@
--- The firing rule, for any engine: weights and a marking; lists of orders fired in turn; the first that fires.
+-- The firing rule, for any engine: capacities, weights and a marking; lists of orders fired in turn; the first that fires.
+use Prim.Native.Nat.{_≤_, _<_}
 use Rattle.reading.specs.Basics.{ℕ, _+_, _-_, Bool, _&&_, List, [], _∷_, map, length, getD, ltb, leb, if_then_else_, below, any}
 
 -- ---- one order
@@ -24,20 +25,28 @@ lacks w m p = ltb (getD m p 0) (w .take p)
 abbrev pub hindered : Weights → List ℕ → ℕ → Bool
 hindered w m p = ltb 0 (w .hinder p) && leb (w .hinder p) (getD m p 0)
 
--- the count after firing; 5: it passes 65,535
+-- the capacity of a flat place, from a list that may be short: 65,535 where none is set. No net sets any yet: both engines hand over the empty list
+abbrev pub capacity : List ℕ → ℕ → ℕ
+capacity caps p = getD caps p 65535
+
+-- the count after firing; 5: it passes the capacity
 abbrev pub moved : Weights → List ℕ → ℕ → ℕ
 moved w m p = getD m p 0 - w .take p + w .put p
 
-abbrev pub spills : Weights → List ℕ → ℕ → Bool
-spills w m p = ltb 65535 (moved w m p)
+abbrev pub spills : List ℕ → Weights → List ℕ → ℕ → Bool
+spills caps w m p = ltb (capacity caps p) (moved w m p)
+
+-- no count is above its capacity: only then does 5 tell of a put, since a count above it spills where nothing is moved too
+abbrev pub Kept : List ℕ → List ℕ → Type 0
+Kept caps m = (p : ℕ) → p < length m → getD m p 0 ≤ capacity caps p
 
 -- the firing rule: the first answer that fits some flat place; only 0 changes the counts
-unfoldable pub fire : Weights → List ℕ → Fired
-fire w m =
+unfoldable pub fire : List ℕ → Weights → List ℕ → Fired
+fire caps w m =
     let places = below (length m) in
     if any (lacks w m) places then fired 3 m
     else if any (hindered w m) places then fired 4 m
-    else if any (spills w m) places then fired 5 m
+    else if any (spills caps w m) places then fired 5 m
     else fired 0 (map (moved w m) places)
 
 -- ---- a list of orders

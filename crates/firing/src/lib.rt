@@ -1,5 +1,6 @@
 // Fires one row that lies in two lent lists, one of places and one of weights, by the firing rule of specs/.
 ghost use mathlib.Core.Path.{_≡_};
+ghost use mathlib.Core.List.{List, []};
 ghost use mathlib.Core.Bool.{false};
 ghost use Prim.Native.Nat.{ℕ, _<_, _≤_, _+_, _-_};
 ghost use lib.ListN.{length, getD, set};
@@ -7,7 +8,7 @@ ghost use Rattle.reading.specs.Basics.{any};
 ghost use Rattle.firing.specs.Firing.{fire, fired};
 ghost use Rattle.firing.specs.Arcs.{weights, Rising, Proper, weightIn};
 ghost use Rattle.firing.specs.internal.RowLists.{arcsIn, rowIn};
-ghost use Rattle.firing.specs.internal.Steps.{Within, EndsWithin, told, arcAt, lacking, hindering, Sought, spilling, changedBy, changed, added};
+ghost use Rattle.firing.specs.internal.Steps.{Within, EndsWithin, told, arcAt, lacking, hindering, firstIn, Sought, Small, spilling, changedBy, changed, added};
 
 // Where a row's takes, puts and hinders end in the lent lists; each kind starts where the one before it ends.
 pub struct Ends {
@@ -70,19 +71,19 @@ fn lacks(places: &[u16], amounts: &[u16], i: usize, m: &[u16]) -> bool
     entry(m, slot(places, i)) < slot(amounts, i)
 }
 
-// Whether some take is above its count.
-fn any_lacks(places: &[u16], amounts: &[u16], end: usize, m: &[u16]) -> bool
+// The first take that is above its count, or the end.
+fn lacking_at(places: &[u16], amounts: &[u16], end: usize, m: &[u16]) -> usize
     requires { ⌜ Within (now places) (now amounts) end ⌝ }
-    ensures { λ r. ⌜ r ≡ any (lacking (now (m .entry))) (arcsIn (now (places .entry)) (now (amounts .entry)) 0 end) ⌝ }
+    ensures { λ r. ⌜ r ≡ firstIn (lacking (now (m .entry))) (arcsIn (now (places .entry)) (now (amounts .entry)) 0 end) ⌝ }
 {
     let mut i = 0;
     while i < end {
         if lacks(places, amounts, i, m) {
-            return true;
+            return i;
         }
         i += 1;
     }
-    false
+    i
 }
 
 // Whether the hinder number i has a weight above 0 and not above its count.
@@ -97,19 +98,19 @@ fn hinders(places: &[u16], amounts: &[u16], i: usize, m: &[u16]) -> bool
     weight <= entry(m, slot(places, i))
 }
 
-// Whether some hinder is not above its count.
-fn some_hinders(places: &[u16], amounts: &[u16], start: usize, end: usize, m: &[u16]) -> bool
+// The first hinder from `start` on that is above 0 and not above its count, or the end.
+fn hindering_at(places: &[u16], amounts: &[u16], start: usize, end: usize, m: &[u16]) -> usize
     requires { ⌜ Within (now places) (now amounts) end ⌝ }
-    ensures { λ r. ⌜ r ≡ any (hindering (now (m .entry))) (arcsIn (now (places .entry)) (now (amounts .entry)) start end) ⌝ }
+    ensures { λ r. ⌜ r ≡ start + firstIn (hindering (now (m .entry))) (arcsIn (now (places .entry)) (now (amounts .entry)) start end) ⌝ }
 {
     let mut i = start;
     while i < end {
         if hinders(places, amounts, i, m) {
-            return true;
+            return i;
         }
         i += 1;
     }
-    false
+    i
 }
 
 // The first arc from `from` on whose place is not below p, or the end.
@@ -148,21 +149,21 @@ fn spills(places: &[u16], amounts: &[u16], t: usize, takes: usize, i: usize, m: 
     requires { ⌜ Within (now places) (now amounts) (i + 1) ⌝ }
     ensures { λ r. ⌜ ((n : ℕ) → Rising n 0 (arcsIn (now (places .entry)) (now (amounts .entry)) t takes)
         → (t < takes → getD (now (places .entry)) i 0 ≤ getD (now (places .entry)) t 0)
-        → r ≡ spilling (now (m .entry)) (arcsIn (now (places .entry)) (now (amounts .entry)) t takes) (arcAt (now (places .entry)) (now (amounts .entry)) i)) ⌝ }
+        → r ≡ spilling [] (now (m .entry)) (arcsIn (now (places .entry)) (now (amounts .entry)) t takes) (arcAt (now (places .entry)) (now (amounts .entry)) i)) ⌝ }
 {
     let p = slot(places, i);
     let left = less(entry(m, p), weight_at(places, amounts, t, takes, p));
     65535 < left + slot(amounts, i)
 }
 
-// Whether some put brings its count above 65,535. The take at its place is looked for only where the count with the put does not fit.
+// The first put that brings its count above 65,535, or the end. The take at its place is looked for only where the count with the put does not fit.
 // Takes and puts stand by rising place, so each take is passed once.
-fn some_spills(places: &[u16], amounts: &[u16], takes: usize, puts: usize, m: &[u16]) -> bool
+fn spilling_at(places: &[u16], amounts: &[u16], takes: usize, puts: usize, m: &[u16]) -> usize
     requires { ⌜ takes ≤ puts ⌝ }
     requires { ⌜ Within (now places) (now amounts) puts ⌝ }
     ensures { λ r. ⌜ ((n : ℕ) → Rising n 0 (arcsIn (now (places .entry)) (now (amounts .entry)) 0 takes)
         → Rising n 0 (arcsIn (now (places .entry)) (now (amounts .entry)) takes puts)
-        → r ≡ any (spilling (now (m .entry)) (arcsIn (now (places .entry)) (now (amounts .entry)) 0 takes))
+        → r ≡ takes + firstIn (spilling [] (now (m .entry)) (arcsIn (now (places .entry)) (now (amounts .entry)) 0 takes))
         (arcsIn (now (places .entry)) (now (amounts .entry)) takes puts)) ⌝ }
 {
     let mut t = 0;
@@ -172,12 +173,12 @@ fn some_spills(places: &[u16], amounts: &[u16], takes: usize, puts: usize, m: &[
         if 65535 < entry(m, p) + slot(amounts, i) {
             t = seek(places, t, takes, p);
             if spills(places, amounts, t, takes, i, m) {
-                return true;
+                return i;
             }
         }
         i += 1;
     }
-    false
+    i
 }
 
 // Stores a count; past the end it stores nothing.
@@ -245,12 +246,12 @@ fn rest_answer(
     requires { ⌜ EndsWithin (now places) (now amounts) takes puts hinders ⌝ }
     ensures { λ r. ⌜ (Proper (length (now (m .entry))) (rowIn (now (places .entry)) (now (amounts .entry)) takes puts hinders)
         → any (lacking (now (m .entry))) (arcsIn (now (places .entry)) (now (amounts .entry)) 0 takes) ≡ false
-        → r ≡ fire (weights (rowIn (now (places .entry)) (now (amounts .entry)) takes puts hinders)) (now (m .entry)) .answer) ⌝ }
+        → r ≡ fire [] (weights (rowIn (now (places .entry)) (now (amounts .entry)) takes puts hinders)) (now (m .entry)) .answer) ⌝ }
 {
-    if some_hinders(places, amounts, puts, hinders, m) {
+    if hindering_at(places, amounts, puts, hinders, m) < hinders {
         return 4;
     }
-    if some_spills(places, amounts, takes, puts, m) {
+    if spilling_at(places, amounts, takes, puts, m) < puts {
         return 5;
     }
     0
@@ -260,9 +261,9 @@ fn rest_answer(
 pub fn move_row(places: &[u16], amounts: &[u16], takes: usize, puts: usize, a: u8, m: &mut [u16])
     requires { ⌜ takes ≤ puts ⌝ }
     requires { ⌜ Within (now places) (now amounts) puts ⌝ }
-    ensures { λ _. ⌜ ((hinders : ℕ) → Proper (length (now (m .entry))) (rowIn (now (places .entry)) (now (amounts .entry)) takes puts hinders)
-        → a ≡ fire (weights (rowIn (now (places .entry)) (now (amounts .entry)) takes puts hinders)) (now (m .entry)) .answer
-        → fired a (now (m .exit)) ≡ fire (weights (rowIn (now (places .entry)) (now (amounts .entry)) takes puts hinders)) (now (m .entry))) ⌝ }
+    ensures { λ _. ⌜ ((caps : List ℕ) (hinders : ℕ) → Small caps → Proper (length (now (m .entry))) (rowIn (now (places .entry)) (now (amounts .entry)) takes puts hinders)
+        → a ≡ fire caps (weights (rowIn (now (places .entry)) (now (amounts .entry)) takes puts hinders)) (now (m .entry)) .answer
+        → fired a (now (m .exit)) ≡ fire caps (weights (rowIn (now (places .entry)) (now (amounts .entry)) takes puts hinders)) (now (m .entry))) ⌝ }
 {
     if a == 0 {
         take_all(places, amounts, takes, m);
@@ -274,9 +275,9 @@ pub fn move_row(places: &[u16], amounts: &[u16], takes: usize, puts: usize, a: u
 pub fn answer(places: &[u16], amounts: &[u16], ends: Ends, m: &[u16]) -> u8
     requires { ⌜ EndsWithin (now places) (now amounts) (ends .takes) (ends .puts) (ends .hinders) ⌝ }
     ensures { λ r. ⌜ (Proper (length (now (m .entry))) (rowIn (now (places .entry)) (now (amounts .entry)) (ends .takes) (ends .puts) (ends .hinders))
-        → r ≡ fire (weights (rowIn (now (places .entry)) (now (amounts .entry)) (ends .takes) (ends .puts) (ends .hinders))) (now (m .entry)) .answer) ⌝ }
+        → r ≡ fire [] (weights (rowIn (now (places .entry)) (now (amounts .entry)) (ends .takes) (ends .puts) (ends .hinders))) (now (m .entry)) .answer) ⌝ }
 {
-    if any_lacks(places, amounts, ends.takes, m) {
+    if lacking_at(places, amounts, ends.takes, m) < ends.takes {
         return 3;
     }
     rest_answer(places, amounts, ends.takes, ends.puts, ends.hinders, m)
@@ -289,7 +290,7 @@ pub fn some_lacks(places: &[u16], amounts: &[u16], end: usize, m: &[u16]) -> boo
         → r ≡ any (lacking (now (m .entry))) (arcsIn (now (places .entry)) (now (amounts .entry)) 0 end)) ⌝ }
 {
     if within(places, amounts, end) {
-        return any_lacks(places, amounts, end, m);
+        return lacking_at(places, amounts, end, m) < end;
     }
     false
 }
@@ -299,7 +300,7 @@ pub fn answer_rest(places: &[u16], amounts: &[u16], ends: Ends, m: &[u16]) -> u8
     ensures { λ r. ⌜ (EndsWithin (now (places .entry)) (now (amounts .entry)) (ends .takes) (ends .puts) (ends .hinders)
         → Proper (length (now (m .entry))) (rowIn (now (places .entry)) (now (amounts .entry)) (ends .takes) (ends .puts) (ends .hinders))
         → any (lacking (now (m .entry))) (arcsIn (now (places .entry)) (now (amounts .entry)) 0 (ends .takes)) ≡ false
-        → r ≡ fire (weights (rowIn (now (places .entry)) (now (amounts .entry)) (ends .takes) (ends .puts) (ends .hinders))) (now (m .entry)) .answer) ⌝ }
+        → r ≡ fire [] (weights (rowIn (now (places .entry)) (now (amounts .entry)) (ends .takes) (ends .puts) (ends .hinders))) (now (m .entry)) .answer) ⌝ }
 {
     if ends_within(places, amounts, ends.takes, ends.puts, ends.hinders) {
         return rest_answer(places, amounts, ends.takes, ends.puts, ends.hinders, m);
@@ -312,7 +313,7 @@ pub fn fire_rest(places: &[u16], amounts: &[u16], ends: Ends, m: &mut [u16]) -> 
     ensures { λ r. ⌜ (EndsWithin (now (places .entry)) (now (amounts .entry)) (ends .takes) (ends .puts) (ends .hinders)
         → Proper (length (now (m .entry))) (rowIn (now (places .entry)) (now (amounts .entry)) (ends .takes) (ends .puts) (ends .hinders))
         → any (lacking (now (m .entry))) (arcsIn (now (places .entry)) (now (amounts .entry)) 0 (ends .takes)) ≡ false
-        → fired r (now (m .exit)) ≡ fire (weights (rowIn (now (places .entry)) (now (amounts .entry)) (ends .takes) (ends .puts) (ends .hinders))) (now (m .entry))) ⌝ }
+        → fired r (now (m .exit)) ≡ fire [] (weights (rowIn (now (places .entry)) (now (amounts .entry)) (ends .takes) (ends .puts) (ends .hinders))) (now (m .entry))) ⌝ }
 {
     if ends_within(places, amounts, ends.takes, ends.puts, ends.hinders) {
         let a = rest_answer(places, amounts, ends.takes, ends.puts, ends.hinders, m);

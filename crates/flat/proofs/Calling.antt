@@ -2,12 +2,14 @@
 use mathlib.Core.Path.{_≡_, sym, ap, _∙_, subst}
 use Prim.Native.Nat.{_≤_, _<_}
 use native.Mathlib.Omega.{arith}
+use borrow.Author.Tests.{le-leb, lt-leb, eq-eqb, ne-eqb}
 use Rattle.reading.specs.Basics.{ℕ, _+_, _/_, _%_, Bool, if_then_else_, List, length, eqb, below, items}
 use Rattle.reading.specs.Reading.{accepted, refused}
+use Rattle.reading.proofs.Permits.{done, holds, fails, behind}
 use Rattle.firing.specs.Firing.{First, found, nothing, first}
 use Rattle.firing.specs.internal.Loops.{Ran, stoppedAt}
 use Rattle.firing.proofs.Running as running
-use Rattle.firing.proofs.Running.{called, stopped-in, stopped-out}
+use Rattle.firing.proofs.Running.{called, length-items, stopped-in, stopped-out}
 use Rattle.flat_file.specs.Flat.{Flat, readFlat, fireRow, fireImage, flatSizes, fireImages, firstRow}
 use Rattle.flat_file.specs.internal.ReaderEnums.{mostRows, Held, Scanned}
 use Rattle.flat_file.specs.declared.reader.Scan.{Scan}
@@ -36,7 +38,7 @@ module _ (s : List ℕ) {number place : ℕ} (is : readFlat s ≡ refused number
 
   pub no-fire : (m images answers : List ℕ) → called (refused number place) m answers ≡ fireImages s m images answers
   unfolding fireImages
-  no-fire m images answers = running.call-refused _ _ _ _ m images answers is
+  no-fire m images answers = running.call-refused _ _ _ m _ answers is
 
 -- ---- files that are read
 module _ {s starts : List ℕ} {places rows : ℕ} {f : Flat} (held : Held s starts places rows f) where
@@ -54,11 +56,11 @@ module _ {s starts : List ℕ} {places rows : ℕ} {f : Flat} (held : Held s sta
 
   pub first-12 : (m : List ℕ) → (length m ≡ places → ⊥) → refused 12 0 ≡ firstRow s m
   unfolding firstRow
-  first-12 m h = running.first-12 _ _ _ _ m (held .is) (wrong m h)
+  first-12 m h = running.first-stops _ _ _ _ m (held .is) (fails (ne-eqb _ _ (wrong m h)))
 
   pub fire-12 : (m images answers : List ℕ) → (length m ≡ places → ⊥) → called (refused 12 0) m answers ≡ fireImages s m images answers
   unfolding fireImages
-  fire-12 m images answers h = running.call-12 _ _ _ _ m images answers (held .is) (wrong m h)
+  fire-12 m images answers h = running.call-stops _ _ _ m _ answers (held .is) (fails (ne-eqb _ _ (wrong m h)))
 
   module _ (m : List ℕ) (fits : length m ≡ places) where
     fitting : length m ≡ length (f .initial)
@@ -67,7 +69,7 @@ module _ {s starts : List ℕ} {places rows : ℕ} {f : Flat} (held : Held s sta
     -- the first row that fires, as a search tells it
     searched : (i : ℕ) {x : First ℕ} → first (λ i. eqb (fireRow f i m .answer) 0) (below rows) ≡ stoppedAt rows i → stoppedAt rows i ≡ x → accepted x ≡ firstRow s m
     unfolding firstRow
-    searched i e g = running.first-is _ _ _ _ m (held .is) fitting (ap (λ n. first (λ i. eqb (fireRow f i m .answer) 0) (below n)) (held .rows-are) ∙ e ∙ g)
+    searched i e g = running.first-is _ _ _ _ m (held .is) (holds (eq-eqb _ _ fitting) done) (ap (λ n. first (λ i. eqb (fireRow f i m .answer) 0) (below n)) (held .rows-are) ∙ e ∙ g)
 
     pub first-found : (i : ℕ) → first (λ i. eqb (fireRow f i m .answer) 0) (below rows) ≡ stoppedAt rows i → i < rows → accepted (found i (i + 1)) ≡ firstRow s m
     first-found i e lt = searched i e (stopped-in rows i lt)
@@ -78,13 +80,14 @@ module _ {s starts : List ℕ} {places rows : ℕ} {f : Flat} (held : Held s sta
     module _ (images answers : List ℕ) where
       pub fire-13 : (length images % 5 ≡ 0 → ⊥) → called (refused 13 0) m answers ≡ fireImages s m images answers
       unfolding fireImages
-      fire-13 h = running.call-13 _ _ _ _ m images answers (held .is) fitting h
+      fire-13 h = running.call-stops _ _ _ m _ answers (held .is) (behind (eq-eqb _ _ fitting) (fails (ne-eqb _ _ h)))
 
       pub fire-14 : length images % 5 ≡ 0 → length answers < length images / 5 → called (refused 14 0) m answers ≡ fireImages s m images answers
       unfolding fireImages
-      fire-14 e h = running.call-14 _ _ _ _ m images answers (held .is) fitting e h
+      fire-14 e h = running.call-stops _ _ _ m _ answers (held .is) (behind (eq-eqb _ _ fitting) (behind (eq-eqb _ _ e) (fails (lt-leb _ _ h))))
 
       pub fire-done : {m′ answers′ : List ℕ} → length images % 5 ≡ 0 → length images / 5 ≤ length answers → Ran (fireImage f) (items 5 images) m answers m′ answers′
           → called (accepted (length images / 5)) m′ answers′ ≡ fireImages s m images answers
       unfolding fireImages
-      fire-done {m′} {answers′} e h ran = running.call-done _ _ _ _ m images answers (held .is) fitting e m′ answers′ h ran
+      fire-done e h ran =
+          running.call-done _ _ _ m _ answers (held .is) (holds (eq-eqb _ _ fitting) (holds (eq-eqb _ _ e) (holds (le-leb _ _ h) done))) (length-items 5 images) ran

@@ -31,6 +31,6 @@ module _ (f : Flat) (m : List ℕ) (i : ℕ) where
   no-row h = rw (le-ltb i (length (f .rows)) h)
 
   -- a row fires by its weights
-  pub row-fires : i < length (f .rows) → fireRow f i m ≡ fire (weights (getD (f .rows) i (row [] [] []))) m
+  pub row-fires : i < length (f .rows) → fireRow f i m ≡ fire [] (weights (getD (f .rows) i (row [] [] []))) m
   unfolding fireRow
   row-fires h = rw (lt-ltb i (length (f .rows)) h)

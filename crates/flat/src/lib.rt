@@ -7,6 +7,7 @@ use flat_file::scan_file;
 use reading::byte_at;
 use reading::long_at;
 ghost use mathlib.Core.Path.{_≡_};
+ghost use mathlib.Core.List.{[]};
 ghost use Prim.Native.Nat.{ℕ, _<_, _+_, _*_, _/_, _≤_};
 ghost use lib.ListN.{length, take, drop};
 ghost use lib.Dec.{eqb};
@@ -29,7 +30,7 @@ pub enum SizesReply {
 pub fn flat_sizes(flat: &[u8]) -> SizesReply
     ensures { λ r. ⌜ sizesReply r ≡ flatSizes (now (flat .entry)) ⌝ }
 {
-    let mut none = [0usize; 0];
+    let mut none = [0u32; 0];
     match scan_file(flat, &mut none) {
         Scan::Refused { number, place } => SizesReply::Refused { number, place },
         Scan::Net {
@@ -49,7 +50,7 @@ fn fire_at(s: &[u8], start: usize, m: &mut [u16], places: &mut [u16], weights: &
     requires { ⌜ mostArcs (length (now s)) ≤ length (now places) ⌝ }
     requires { ⌜ mostArcs (length (now s)) ≤ length (now weights) ⌝ }
     ensures { λ r. ⌜ ((row : Row) (next : ℕ) → arcsAt (now (s .entry)) (length (now (m .entry))) start ≡ fine row next
-        → fired r (now (m .exit)) ≡ fire (arcs.weights row) (now (m .entry))) ⌝ }
+        → fired r (now (m .exit)) ≡ fire [] (arcs.weights row) (now (m .entry))) ⌝ }
 {
     let ends = load_arcs(s, start, places, weights);
     let takes = ends.takes;
@@ -62,7 +63,7 @@ fn fire_at(s: &[u8], start: usize, m: &mut [u16], places: &mut [u16], weights: &
 // Fires the image number i.
 fn turn(
     s: &[u8],
-    starts: &[usize],
+    starts: &[u32],
     rows: usize,
     m: &mut [u16],
     images: &[u8],
@@ -87,14 +88,14 @@ fn turn(
     if rows <= row {
         return 1;
     }
-    let start = starts[row];
+    let start = starts[row] as usize;
     fire_at(s, start, m, places, weights)
 }
 
 // Fires the first count images, an answer each.
 fn fire_list(
     s: &[u8],
-    starts: &[usize],
+    starts: &[u32],
     rows: usize,
     m: &mut [u16],
     images: &[u8],
@@ -132,7 +133,7 @@ fn fire_with(
     m: &mut [u16],
     images: &[u8],
     answers: &mut [u8],
-    starts: &mut [usize],
+    starts: &mut [u32],
     places: &mut [u16],
     weights: &mut [u16],
 ) -> FireReply
@@ -180,7 +181,7 @@ fn fire_short(flat: &[u8], marking: &mut [u16], images: &[u8], answers: &mut [u8
     ensures { λ r. ⌜ fireCalled r (now (marking .exit)) (now (answers .exit))
         ≡ fireImages (now (flat .entry)) (now (marking .entry)) (now (images .entry)) (now (answers .entry)) ⌝ }
 {
-    let mut starts = [0usize; 2048];
+    let mut starts = [0u32; 2048];
     let mut places = [0u16; 410];
     let mut weights = [0u16; 410];
     fire_with(
@@ -211,7 +212,7 @@ fn fire_long(
             return fire_long(flat, marking, images, answers, false);
         }
     }
-    let mut starts = [0usize; 65536];
+    let mut starts = [0u32; 65536];
     let mut places = [0u16; 12288];
     let mut weights = [0u16; 12288];
     fire_with(
@@ -243,7 +244,7 @@ fn fires_at(s: &[u8], start: usize, m: &[u16], places: &mut [u16], weights: &mut
     requires { ⌜ mostArcs (length (now s)) ≤ length (now places) ⌝ }
     requires { ⌜ mostArcs (length (now s)) ≤ length (now weights) ⌝ }
     ensures { λ r. ⌜ ((row : Row) (next : ℕ) → arcsAt (now (s .entry)) (length (now (m .entry))) start ≡ fine row next
-        → r ≡ eqb (fire (arcs.weights row) (now (m .entry)) .answer) 0) ⌝ }
+        → r ≡ eqb (fire [] (arcs.weights row) (now (m .entry)) .answer) 0) ⌝ }
 {
     let ends = load_arcs(s, start, places, weights);
     answer(places, weights, ends, m) == 0
@@ -252,7 +253,7 @@ fn fires_at(s: &[u8], start: usize, m: &[u16], places: &mut [u16], weights: &mut
 // The number of the first row that fires; the row count where none does.
 fn search_rows(
     s: &[u8],
-    starts: &[usize],
+    starts: &[u32],
     rows: usize,
     m: &[u16],
     places: &mut [u16],
@@ -268,7 +269,7 @@ fn search_rows(
 {
     let mut i: usize = 0;
     while i < rows {
-        let start = starts[i];
+        let start = starts[i] as usize;
         if fires_at(s, start, m, places, weights) {
             return i;
         }
@@ -288,7 +289,7 @@ pub enum FirstReply {
 fn first_with(
     s: &[u8],
     m: &[u16],
-    starts: &mut [usize],
+    starts: &mut [u32],
     places: &mut [u16],
     weights: &mut [u16],
 ) -> FirstReply
@@ -326,7 +327,7 @@ fn first_short(flat: &[u8], marking: &[u16]) -> FirstReply
     requires { ⌜ length (now flat) ≤ 2048 ⌝ }
     ensures { λ r. ⌜ firstReply r ≡ firstRow (now (flat .entry)) (now (marking .entry)) ⌝ }
 {
-    let mut starts = [0usize; 2048];
+    let mut starts = [0u32; 2048];
     let mut places = [0u16; 410];
     let mut weights = [0u16; 410];
     first_with(flat, marking, &mut starts, &mut places, &mut weights)
@@ -341,7 +342,7 @@ fn first_long(flat: &[u8], marking: &[u16], again: bool) -> FirstReply
             return first_long(flat, marking, false);
         }
     }
-    let mut starts = [0usize; 65536];
+    let mut starts = [0u32; 65536];
     let mut places = [0u16; 12288];
     let mut weights = [0u16; 12288];
     first_with(flat, marking, &mut starts, &mut places, &mut weights)

@@ -77,7 +77,7 @@ pub record ArcsRead (s : List ℕ) (n start : ℕ) (r : Row) (least at : ℕ) : 
   pub proper : Proper n r
   pub from : Least r least
   pub reading : Reading s (arcPart s n) r at (arcsAt s n start)
-  pub onward : start ≤ at
+  pub counted : at ≡ start + 5 * arcCount r
   pub within : start ≤ length s → at ≤ length s
 
 -- every arc keeps the order of an empty row
@@ -89,12 +89,13 @@ least-none (suc (suc k)) p h lt = sym (le-leb 0 (key (suc (suc k)) p) (omega ari
 
 -- before the first arc
 pub arcs-begin : (s : List ℕ) (n start : ℕ) → ArcsRead s n start (row [] [] []) 0 start
+unfolding arcCount
 arcs-begin s n start =
     record {
       proper = record { takes = Rising.none; puts = Rising.none; hinders = Rising.none };
       from = least-none;
       reading = begins s (arcPart s n) (row [] [] []) start;
-      onward = omega arith;
+      counted = omega arith;
       within = λ le. le;
     }
 
@@ -108,14 +109,19 @@ module _ {s : List ℕ} {n start : ℕ} {r : Row} {least at : ℕ} (here : ArcsR
         proper = proper-added n r (arc p w) (here .proper) (shown .1) (shown .2) kind (in-order r least (here .from) kind p (shown .0) lt (shown .3));
         from = least-added r (arc p w) least (here .from) lt kind (shown .0) (shown .3);
         reading = goes-on s (arcPart s n) (added kind r (arc p w)) (at + 5) (here .reading) (omega arith) (shown .4) e;
-        onward = omega (arith, here .onward);
+        counted = omega (arith, here .counted, one-more kind r (arc p w));
         within = λ _. shown .4;
       }
 
   -- by the next step the row ends, has a fault, or grows
   module _ {step : ArcStep} (is : (before : Row) → Least before least → arcPart s n before at ≡ arcStep (at + 5) before step) (room : ArcRoom (length s) n at least step) where
-    pub pass-end : step ≡ arc-step.Done → ((r : Row) × (fine r at ≡ arcsAt s n start)) × (start ≤ at) × (start ≤ length s → at ≤ length s)
-    pass-end e = ((r, ends s (arcPart s n) (here .reading) (is r (here .from) ∙ ap (arcStep (at + 5) r) e)), here .onward, here .within)
+    pub pass-end : step ≡ arc-step.Done → ((r : Row) × (fine r at ≡ arcsAt s n start)) × (start ≤ at) × (at ≤ start + 61440) × (start ≤ length s → at ≤ length s)
+    pass-end e = (
+      (r, ends s (arcPart s n) (here .reading) (is r (here .from) ∙ ap (arcStep (at + 5) r) e)),
+      omega (arith, here .counted),
+      omega (arith, here .counted, few-arcs n r (here .proper)),
+      here .within,
+    )
 
     pub pass-stop : {k p : ℕ} → step ≡ arc-step.Stop k p → fault k p ≡ arcsAt s n start
     pass-stop e = stops s (arcPart s n) (here .reading) (rw e at room) (is r (here .from) ∙ ap (arcStep (at + 5) r) e)

@@ -6,7 +6,7 @@ use native.Mathlib.Decide.{decLt}
 use borrow.Author.Tests.{eq-eqb, ne-eqb}
 use lib.ListN.{set, length-set, length-append, List·getD-append}
 use lib.Seq.{getD-set-same, getD-set-other, getD-at}
-use Rattle.reading.specs.Basics.{ℕ, _+_, List, [], _∷_, some, length, getD, find, with, byteAt, wordAt}
+use Rattle.reading.specs.Basics.{ℕ, _+_, _*_, List, [], _∷_, some, length, getD, find, with, byteAt, wordAt}
 use Rattle.reading.specs.Reading.{Answer, fine, fault, under, _andThen_, refused, outcome, command, whole, file}
 use Rattle.reading.proofs.Commands.{passes, done, fails, passing, failed, other, end, needed-past, needed-stray, needs-goes}
 use Rattle.reading.proofs.Parts.{Reading, begins, goes-on, ends, stops}
@@ -23,12 +23,13 @@ pub record PlacesSoFar (s : List ℕ) (start count at : ℕ) : Type 0 where
   pub initial : List ℕ
   pub sized : length initial ≡ count
   pub few : count ≤ 4096
+  pub counted : at ≡ start + 3 * count
   pub within : at ≤ length s
   pub reading : Reading s (placePart s) initial at (whole s (placePart s) [] start)
 
 -- before the first place
 pub places-begin : (s : List ℕ) (start : ℕ) → start ≤ length s → PlacesSoFar s start 0 start
-places-begin s start le = record { initial = []; sized = refl; few = omega arith; within = le; reading = begins s (placePart s) [] start }
+places-begin s start le = record { initial = []; sized = refl; few = omega arith; counted = omega arith; within = le; reading = begins s (placePart s) [] start }
 
 -- by the next step they end, have a fault, or go on
 module _ {s : List ℕ} {start count at : ℕ} (here : PlacesSoFar s start count at) {step : Step}
@@ -40,6 +41,7 @@ module _ {s : List ℕ} {start count at : ℕ} (here : PlacesSoFar s start count
         initial = here .initial;
         sized = here .sized;
         few = here .few;
+        near = omega (arith, here .few, here .counted);
         within = here .within;
         is = ends s (placePart s) (here .reading) (is (here .initial) (here .sized) ∙ ap (stepTold _) e);
       }
@@ -58,6 +60,7 @@ module _ {s : List ℕ} {start count at : ℕ} (here : PlacesSoFar s start count
           initial = more;
           sized = length-append (here .initial) (wordAt s (at + 1) ∷ []) ∙ omega (arith, here .sized);
           few = omega (arith, place-room .0);
+          counted = omega (arith, here .counted);
           within = place-room .1;
           reading = goes-on s (placePart s) more (at + 3) (here .reading) (omega arith) (place-room .1) (is (here .initial) (here .sized) ∙ ap (stepTold _) e);
         }
@@ -68,19 +71,23 @@ pub record RowsSoFar (s : List ℕ) (n start size : ℕ) (starts : List ℕ) (co
   pub sized : length rows ≡ count
   pub few : count ≤ 65536
   pub long : length starts ≡ size
+  pub early : start ≤ 12290
+  pub near : at ≤ start + 61441 * count
   pub counted : count ≤ at
   pub within : at ≤ length s
   pub reading : Reading s (rowPart s n) rows at (whole s (rowPart s n) [] start)
   pub stands : Stands s n starts rows
 
 -- before the first row
-pub rows-begin : (s : List ℕ) (n start : ℕ) (starts : List ℕ) → start ≤ length s → RowsSoFar s n start (length starts) starts 0 start
-rows-begin s n start starts le =
+pub rows-begin : (s : List ℕ) (n start : ℕ) (starts : List ℕ) → start ≤ 12290 → start ≤ length s → RowsSoFar s n start (length starts) starts 0 start
+rows-begin s n start starts early le =
     record {
       rows = [];
       sized = refl;
       few = omega arith;
       long = refl;
+      early = early;
+      near = omega arith;
       counted = omega arith;
       within = le;
       reading = begins s (rowPart s n) [] start;
@@ -108,6 +115,10 @@ module _ {s : List ℕ} {n start size : ℕ} {starts : List ℕ} {count at : ℕ
     pub row-room : (count < 65536) × (at + 1 ≤ length s)
     row-room = rw e at room
 
+    -- where its arcs start is a u32
+    pub row-start : at + 1 < 4294967296
+    row-start = omega (arith, here .early, here .near, row-room .0)
+
     row-step : rowPart s n (here .rows) at ≡ some (under (with (here .rows)) (whole s (arcPart s n) (row [] [] []) (at + 1)))
     row-step = is n (here .rows) (here .sized) ∙ ap (stepTold _) e
 
@@ -116,9 +127,9 @@ module _ {s : List ℕ} {n start size : ℕ} {starts : List ℕ} {count at : ℕ
     row-stop f = stops s (rowPart s n) (here .reading) (omega (arith, row-room .1)) (row-step ∙ rw (← f))
 
     -- its arcs are read
-    module _ {x : Row} {next : ℕ} (f : fine x next ≡ whole s (arcPart s n) (row [] [] []) (at + 1)) (inside : (at + 1 ≤ next) × (at + 1 ≤ length s → next ≤ length s)) where
+    module _ {x : Row} {next : ℕ} (f : fine x next ≡ whole s (arcPart s n) (row [] [] []) (at + 1)) (inside : (at + 1 ≤ next) × (next ≤ at + 1 + 61440) × (at + 1 ≤ length s → next ≤ length s)) where
       pub row-inside : (at < next) × (next ≤ length s)
-      row-inside = (omega (arith, inside .0), inside .1 (row-room .1))
+      row-inside = (omega (arith, inside .0), inside .2 (row-room .1))
 
       -- every row so far, and this one, can be read again from its start
       all-stand : Stands s n (set starts count (at + 1)) (with (here .rows) x)
@@ -140,6 +151,8 @@ module _ {s : List ℕ} {n start size : ℕ} {starts : List ℕ} {count at : ℕ
             sized = length-append (here .rows) (x ∷ []) ∙ omega (arith, here .sized);
             few = omega (arith, row-room .0);
             long = length-set starts count (at + 1) ∙ here .long;
+            early = here .early;
+            near = omega (arith, here .near, inside .1);
             counted = omega (arith, here .counted, row-inside .0);
             within = row-inside .1;
             reading = goes-on s (rowPart s n) (with (here .rows) x) next (here .reading) (row-inside .0) (row-inside .1) (row-step ∙ rw (← f));

@@ -8,7 +8,7 @@ use borrow.Author.Tests.{eqb-true}
 use lib.Seq.{take-suc, take-length}
 use Rattle.reading.specs.Basics.{ℕ, _+_, _-_, _%_, _/_, _&&_, true, List, [], _∷_, _++_, flatMap, some, length, take, eqb, with, byteAt, wordAt, Bytes, word}
 use Rattle.reading.specs.Reading.{Answer, fine, _andThen_, accepted, Part, whole, file}
-use Rattle.reading.proofs.Lists.{end, also, flat-with}
+use Rattle.reading.proofs.Lists.{end, also, in-one, flat-with}
 use Rattle.reading.proofs.Keeps.{both-true, then-went, under-went, standing-stood, repeat-keeps-at, file-stood, outcome-went}
 use Rattle.firing.specs.Arcs.{Arc, Row, row}
 use Rattle.flat_file.specs.Flat.{Flat, placePart, rise, arcPart, rowPart, readFlat, arcBytes, rowBytes, writeFlat, OneFile}
@@ -126,12 +126,12 @@ module _ (s : List ℕ) (small : Bytes s) where
 pub one-file : OneFile
 unfolding readFlat writeFlat flatMap
 one-file s f small e =
-    outcome-went (file 0x02 content 0x5F s) e λ last g.
-    file-stood 0x02 content 0x5F s g λ at opens edition long reads closes all.
+    outcome-went (file 0x02 (1 ∷ []) content 0x5F s) e λ last g.
+    file-stood 0x02 (1 ∷ []) content 0x5F s g λ at opens edition long reads closes all.
     then-went (whole s (placePart s) [] 2) behind reads λ initial mid h i.
     then-went (whole s (rowPart s (length initial)) [] mid) (λ rows end. fine (flat initial rows) end) i λ rows stop j k.
     let nothing : Passed s small [] 0 = record { is = refl; within = omega arith } in
-    let head = byte-passed s small (byte-passed s small nothing opens (omega arith)) edition long in
+    let head = byte-passed s small (byte-passed s small nothing opens (omega arith)) (in-one edition) long in
     let places = part-passed s small (placePart s) (flatMap placeBytes) (0x02 ∷ 1 ∷ []) (place-step s small (0x02 ∷ 1 ∷ [])) refl head h in
     let x : List ℕ = 0x02 ∷ 1 ∷ flatMap placeBytes initial in
     let passed = part-passed s small (rowPart s (length initial)) (flatMap rowBytes) x (row-step s small x (length initial)) refl places j in

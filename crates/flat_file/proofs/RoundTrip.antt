@@ -6,9 +6,10 @@ use native.Mathlib.Omega.{arith}
 use native.Mathlib.Nat.{add-zero}
 use borrow.Author.Tests.{lt-ltb, eq-eqb}
 use lib.ListN.{length-append}
-use Rattle.reading.specs.Basics.{ℕ, suc, _+_, _&&_, true, List, [], _∷_, _++_, flatMap, some, none, length, getD, drop, ltb, eqb, find, every, with, byteAt, wordAt}
+use Rattle.reading.specs.Basics.{ℕ, suc, _+_, _&&_, true, List, [], _∷_, _++_, flatMap, some, none, length, getD, drop, ltb, eqb, find, any, every, with, byteAt, wordAt}
 use Rattle.reading.specs.Reading.{Answer, fine, under, _unless_, failing, Command, command, accepted, outcome, whole, file}
 use Rattle.reading.proofs.Commands.{known, done, passes, end, other, both-hold, standing-none, stands-goes, needs-goes}
+use Rattle.reading.proofs.Lists.{In, here, any-in}
 use Rattle.reading.proofs.Parts.{Reading, begins, goes-on, ends}
 use Rattle.firing.specs.Arcs.{Arc, Row, row, Rising, none as risen, more, Proper}
 use Rattle.flat_file.specs.Flat.{Flat, Limits, placePart, rise, arcPart, rowPart, readFlat, arcBytes, rowBytes, writeFlat}
@@ -214,14 +215,14 @@ unfolding find
 only-known c = rw (eq-eqb (c .byte) (c .byte) refl)
 
 -- a file whose content is read up to the end command, its last byte
-file-goes : {A : Type 0} (opening closing : ℕ) (content : ℕ → Answer A) (s : List ℕ) {a : A} {at : ℕ} → byteAt s 0 ≡ opening → byteAt s 1 ≡ 1 → 2 ≤ length s
-    → content 2 ≡ fine a at → byteAt s at ≡ closing → at + 1 ≡ length s → file opening content closing s ≡ fine a (at + 1)
+file-goes : {A : Type 0} (opening : ℕ) (editions : List ℕ) (content : ℕ → Answer A) (closing : ℕ) (s : List ℕ) {a : A} {at : ℕ} → byteAt s 0 ≡ opening → In (byteAt s 1) editions → 2 ≤ length s
+    → content 2 ≡ fine a at → byteAt s at ≡ closing → at + 1 ≡ length s → file opening editions content closing s ≡ fine a (at + 1)
 unfolding file failing
-file-goes opening closing content s {a} {at} first edition long reads last all =
-    let opens = command opening 1 ((5 unless eqb (byteAt s 1) 1) ∷ []) content in
+file-goes opening editions content closing s {a} {at} first edition long reads last all =
+    let opens = command opening 1 ((5 unless any (eqb (byteAt s 1)) editions) ∷ []) content in
     let closes = command closing 0 [] (fine a) in
     rw (
-      needs-goes s 0 opening (opens ∷ []) first (only-known opens) long (passes (eq-eqb (byteAt s 1) 1 edition) done),
+      needs-goes s 0 opening (opens ∷ []) first (only-known opens) long (passes (any-in (byteAt s 1) editions edition) done),
       reads,
       needs-goes s at closing (closes ∷ []) last (only-known closes) (omega arith) done,
       eq-eqb (at + 1) (length s) all,
@@ -238,6 +239,6 @@ round-trip f limits =
     let e₁ = past s 2 places (rows ++ (0x5F ∷ [])) e in
     let e₂ = past s (2 + length places) rows (0x5F ∷ []) e₁ in
     let l = left s (2 + length places + length rows) (0x5F ∷ []) e₂ in
-    ap outcome (file-goes 0x02 0x5F _ s {at = 2 + length places + length rows} refl refl (omega arith)
+    ap outcome (file-goes 0x02 (1 ∷ []) _ 0x5F s {at = 2 + length places + length rows} refl here (omega arith)
     (rw (places-whole s (f .initial) 2 (rows ++ (0x5F ∷ [])) e (rows-edge (f .rows) at-end) (limits .places), rows-whole s (length (f .initial)) (f .rows) (2 + length places) [] e₁ (limits .proper) (limits .rows)))
     (byte-here s (2 + length places + length rows) (0x5F ∷ []) e₂) (omega arith))

@@ -1,11 +1,11 @@
 -- The flat net, its file, and firing on it. Nothing here knows of colours.
 use mathlib.Core.Path.{_≡_}
 use Prim.Native.Nat.{_≤_, _<_}
-use Rattle.reading.specs.Basics.{ℕ, _+_, Bool, _&&_, List, [], _∷_, _++_, flatMap, length, getD, ltb, eqb, if_then_else_, with, below, every, byteAt, wordAt, longAt, Bytes, word}
+use Rattle.reading.specs.Basics.{ℕ, _+_, Bool, _&&_, List, [], _∷_, _++_, flatMap, length, getD, ltb, eqb, if_then_else_, with, below, every, byteAt, wordAt, longAt, Bytes, word, items}
 use Rattle.reading.specs.Reading.{fine, _andThen_, under, Outcome, accepted, refused, outcome, on, _unless_, Command, command, standing, Part, whole, file}
 use Rattle.firing.specs.Firing.{Fired, fired, fire, First}
 use Rattle.firing.specs.Arcs.{Arc, Row, row, weights, Proper}
-use Rattle.firing.specs.Calls.{FireCall, fireCall, firstCall}
+use Rattle.firing.specs.Calls.{FireCall, markingChecks, fireChecks, fireCall, firstCall}
 
 -- ---- the net
 -- each flat place's initial count, and the rows
@@ -54,7 +54,7 @@ rowPart s places rows at =
 -- 0x02, the flat places, the rows, 0x5F
 unfoldable pub readFlat : List ℕ → Outcome Flat
 readFlat s =
-    outcome (file 0x02 (λ start.
+    outcome (file 0x02 (1 ∷ []) (λ start.
     whole s (placePart s) [] start andThen λ initial at.
     whole s (rowPart s (length initial)) [] at andThen λ rows end.
     fine (record { initial = initial; rows = rows }) end) 0x5F s)
@@ -77,7 +77,7 @@ OneFile = (s : List ℕ) (f : Flat) → Bytes s → readFlat s ≡ accepted f �
 -- ---- firing
 -- a row by its number: 1 where there is no such row
 unfoldable pub fireRow : Flat → ℕ → List ℕ → Fired
-fireRow f i m = if ltb i (length (f .rows)) then fire (weights (getD (f .rows) i (row [] [] []))) m else fired 1 m
+fireRow f i m = if ltb i (length (f .rows)) then fire [] (weights (getD (f .rows) i (row [] [] []))) m else fired 1 m
 
 -- an image, 0x61 and a row number u32: 1 for another command byte
 unfoldable pub fireImage : Flat → List ℕ → List ℕ → Fired
@@ -94,8 +94,8 @@ flatSizes s = on (readFlat s) refused λ f. accepted (record { places = length (
 
 -- the call that fires a list of images: flat file, marking, images, lent answers
 unfoldable pub fireImages : List ℕ → List ℕ → List ℕ → List ℕ → FireCall
-fireImages s = fireCall (λ f. length (f .initial)) 5 fireImage (readFlat s)
+fireImages s m images answers = fireCall (λ f. fireChecks (length (f .initial)) 5 m images answers) fireImage (readFlat s) m (items 5 images) answers
 
 -- the call for the first row that fires: flat file, marking
 unfoldable pub firstRow : List ℕ → List ℕ → Outcome (First ℕ)
-firstRow s = firstCall (λ f. length (f .initial)) (λ f. below (length (f .rows))) fireRow (readFlat s)
+firstRow s m = firstCall (λ f. markingChecks (length (f .initial)) m) (λ f. below (length (f .rows))) fireRow (readFlat s) m

@@ -274,17 +274,20 @@ fn row_end(places: usize, rows: usize, a: RowRead) -> Part
 }
 
 // Keeps where row number i starts; past the end of the list it keeps nothing.
-fn keep(starts: &mut [usize], i: usize, start: usize)
+fn keep(starts: &mut [u32], i: usize, start: usize)
+    requires { ⌜ start < 4294967296 ⌝ }
     ensures { λ _. ⌜ now (starts .exit) ≡ set (now (starts .entry)) i start ⌝ }
 {
     if i < starts.len() {
-        starts[i] = start;
+        starts[i] = start as u32;
     }
 }
 
-// The rows, over so many flat places: where each row's arcs start goes into the front of starts, as far as it reaches.
-fn read_rows(s: &[u8], count: usize, start: usize, starts: &mut [usize]) -> Part
+// The rows, over so many flat places: where each row's arcs start goes into the front of starts, as far as it reaches. Each
+// start is a u32: at most 65,535 rows of at most 61,441 bytes each stand before it.
+fn read_rows(s: &[u8], count: usize, start: usize, starts: &mut [u32]) -> Part
     requires { ⌜ count ≤ 4096 ⌝ }
+    requires { ⌜ start ≤ 12290 ⌝ }
     requires { ⌜ start ≤ length (now s) ⌝ }
     ensures { λ r. ⌜ RowsRead (now (s .entry)) count start (now (starts .exit)) r ⌝ }
 {
@@ -402,7 +405,7 @@ fn scan_of(a: Part) -> Scan
 }
 
 // Reads a whole flat file: where each row's arcs start goes into the front of starts, as far as it reaches.
-pub fn scan_file(s: &[u8], starts: &mut [usize]) -> Scan
+pub fn scan_file(s: &[u8], starts: &mut [u32]) -> Scan
     ensures { λ r. ⌜ Scanned (now (s .entry)) (now (starts .exit)) r ⌝ }
 {
     let a = opens(s);

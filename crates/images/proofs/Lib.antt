@@ -1,3 +1,2 @@
 pub mod Imaging
 pub mod Replying
-pub mod Accepted

@@ -3,12 +3,11 @@ use mathlib.Core.Path.{_≡_, ap, subst}
 use Prim.Native.Nat.{_≤_, _<_}
 use borrow.Author.Tests.{le-leb, lt-leb, eq-eqb, ne-eqb}
 use Rattle.reading.specs.Basics.{ℕ, _*_, _/_, _%_, List, none, some, length, over}
-use Rattle.reading.specs.Reading.{Outcome, accepted, refused, failing}
-use Rattle.net.specs.Net.{Net, variablesOf, inTransition}
+use Rattle.reading.specs.Reading.{Outcome, accepted, refused, refusing}
+use Rattle.net.specs.Net.{Net, sizesOf, transitionAt}
 use Rattle.net_file.specs.NetFile.{readNet}
-use Rattle.bindings.specs.Effect.{transitionAt}
 use Rattle.bindings.specs.Orders.{orderOf}
-use Rattle.bindings.specs.internal.Numbers.{digits, those, sizesOver}
+use Rattle.bindings.specs.internal.Numbers.{digits}
 use Rattle.row_numbers.specs.Unfolding.{WriteCall, images, imagesCall, orderCall}
 use Rattle.row_numbers.specs.internal.Walked.{LocatedTold, LocatedRoom}
 use Rattle.bindings.specs.Replies.{bytesOf}
@@ -34,16 +33,16 @@ module _ (s : List ℕ) {number place : ℕ} (is : readNet s ≡ refused number 
 module _ (s : List ℕ) {n : Net} (is : readNet s ≡ accepted n) where
   -- orders that are not whole, no room for the images, and images
   pub images-13 : (orders out : List ℕ) → (length orders % 6 ≡ 0 → ⊥) → wrote (refused 13 0) out ≡ imagesCall s orders out
-  unfolding imagesCall failing
+  unfolding imagesCall refusing
   images-13 orders out h = rw (is, ne-eqb (length orders % 6) 0 h)
 
   module _ (orders out : List ℕ) (whole : length orders % 6 ≡ 0) where
     pub images-14 : length out < length orders / 6 * 5 → wrote (refused 14 0) out ≡ imagesCall s orders out
-    unfolding imagesCall failing
+    unfolding imagesCall refusing
     images-14 h = rw (is, eq-eqb (length orders % 6) 0 whole, lt-leb (length orders / 6 * 5) (length out) h)
 
     pub images-done : (after : List ℕ) → length orders / 6 * 5 ≤ length out → after ≡ over (images n orders) out → wrote (accepted (length orders / 6)) after ≡ imagesCall s orders out
-    unfolding imagesCall failing
+    unfolding imagesCall refusing
     images-done after h e = rw (is, eq-eqb (length orders % 6) 0 whole, le-leb (length orders / 6 * 5) (length out) h, e)
 
   -- no such row
@@ -53,10 +52,13 @@ module _ (s : List ℕ) {n : Net} (is : readNet s ≡ accepted n) where
 
   -- the order of a row
   pub order-found : (row : ℕ) {t index : ℕ} {r : Located} (o : Order) → r ≡ At t index → LocatedTold n row r
-      → bytesOf o ≡ orderOf (record { transition = t; colours = digits (sizesOver n (those n (λ v. inTransition v (transitionAt n t)))) index }) → accepted (some (bytesOf o)) ≡ orderCall s row
-  unfolding orderCall variablesOf
-  order-found row o e h f = rw (is, subst (LocatedTold n row) e h) (ap (λ l. accepted (some l)) f)
+      → bytesOf o ≡ orderOf (record { transition = t; colours = digits (sizesOf n (transitionAt n t)) index }) → accepted (some (bytesOf o)) ≡ orderCall s row
+  unfolding orderCall
+  order-found row o e h f = rw (is, subst (LocatedTold n row) e h .1) (ap (λ l. accepted (some l)) f)
 
 -- its transition is there
-pub located-in : (transitions : ℕ) {t index : ℕ} {r : Located} → r ≡ At t index → LocatedRoom transitions r → t < transitions
-located-in transitions e h = subst (LocatedRoom transitions) e h
+pub located-in : {t index : ℕ} {r : Located} → r ≡ At t index → LocatedRoom r → t < 32
+located-in e h = subst LocatedRoom e h
+
+pub located-of : (n : Net) (row : ℕ) {t index : ℕ} {r : Located} → r ≡ At t index → LocatedTold n row r → t < length (n .transitions)
+located-of n row e h = subst (LocatedTold n row) e h .0

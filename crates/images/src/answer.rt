@@ -1,18 +1,21 @@
 // The images of a list of orders, by the table of row numbers.
-use bindings::Numbered;
-use bindings::binding_number;
+use bindings::Named;
+use bindings::every_binding_has_row;
+use bindings::name_order;
 use flat_file::put_byte;
 use flat_file::put_word;
-use reading::byte_at;
 ghost use mathlib.Core.Path.{_≡_};
+ghost use mathlib.Core.Bool.{true, false};
 ghost use mathlib.Core.List.{List};
 ghost use Prim.Native.Nat.{ℕ, _≤_, _<_, _+_, _*_, _/_};
 ghost use lib.ListN.{length, getD, take, drop};
 ghost use Rattle.reading.specs.Basics.{over};
 ghost use Rattle.net.specs.Net.{Net};
+ghost use Rattle.prepared.specs.internal.Prepared.{Prepared};
+ghost use Rattle.bindings.specs.internal.Legal.{everyRow};
 ghost use Rattle.row_numbers.specs.Unfolding.{rowNumber, image, images};
 ghost use Rattle.flat_file.specs.internal.Output.{Appended};
-ghost use Rattle.row_numbers.specs.internal.Walked.{Starts, Tables};
+ghost use Rattle.row_numbers.specs.internal.Walked.{Starts};
 
 // The image that carries a row number.
 fn write_image(row: u32, out: &mut [u8], at: usize) -> usize
@@ -24,12 +27,13 @@ fn write_image(row: u32, out: &mut [u8], at: usize) -> usize
     put_word(out, next, (row / 65536) as u16)
 }
 
-// The row number of a transition's binding: without a guard they follow each other from its start on, else they stand in the table from there on.
-fn row_at(numbers: &[u32], guard: u16, start: usize, index: usize) -> u32
-    ensures follows { λ r. ⌜ (guard < 1 → start + index < 65536 → r ≡ start + index) ⌝ }
-    ensures stands { λ r. ⌜ (1 ≤ guard → r ≡ getD (now (numbers .entry)) (start + index) 0) ⌝ }
+// The row number of a transition's binding: where every binding has a row they follow each other from its start on, else they stand in the table from there on.
+fn row_at(plan: &[u32; 3584], t: usize, start: usize, numbers: &[u32], index: usize) -> u32
+    requires { ⌜ t < 32 ⌝ }
+    ensures follows { λ r. ⌜ (everyRow (now (plan .entry)) t ≡ true → start + index < 65536 → r ≡ start + index) ⌝ }
+    ensures stands { λ r. ⌜ (everyRow (now (plan .entry)) t ≡ false → r ≡ getD (now (numbers .entry)) (start + index) 0) ⌝ }
 {
-    if guard < 1 {
+    if every_binding_has_row(plan, t) {
         return (start % 65536 + index % 65536) as u32;
     }
     if numbers.len() <= start {
@@ -41,77 +45,47 @@ fn row_at(numbers: &[u32], guard: u16, start: usize, index: usize) -> u32
     numbers[start + index]
 }
 
-// The row number of order number i, 4,294,967,295 where it has no row.
+// The row number of order number i, 4,294,967,295 where it has no row; env is lent for the colours of its binding.
 fn row_of(
-    sizes: &[u8],
-    vars: &[u8],
-    uses: &[u32],
-    guards: &[u16],
-    transitions: usize,
+    plan: &[u32; 3584],
     starts: &[usize],
     numbers: &[u32],
     orders: &[u8],
     i: usize,
+    env: &mut [u8; 32],
 ) -> u32
-    requires { ⌜ transitions ≤ 32 ⌝ }
-    requires { ⌜ length (now uses) ≡ 32 ⌝ }
-    requires { ⌜ length (now guards) ≡ 32 ⌝ }
     requires { ⌜ length (now starts) ≡ 32 ⌝ }
     requires { ⌜ i * 6 + 6 ≤ length (now orders) ⌝ }
-    ensures { λ r. ⌜ ((s own : List ℕ) (n : Net) → Tables s n (now (sizes .entry)) (now (vars .entry)) own (now (uses .entry)) (now (guards .entry)) transitions
-        → Starts n (now (guards .entry)) (now (starts .entry)) (now (numbers .entry)) transitions
+    ensures { λ r. ⌜ ((s : List ℕ) (n : Net) → Prepared s n (now (plan .entry))
+        → Starts n (now (plan .entry)) (now (starts .entry)) (now (numbers .entry)) (length (n .transitions))
         → r ≡ rowNumber n (take 6 (drop (i * 6) (now (orders .entry))))) ⌝ }
 {
-    let at = i * 6;
-    if byte_at(orders, at) != 0x60 {
-        return 4294967295;
-    }
-    let t = byte_at(orders, at + 1);
-    if transitions <= t {
-        return 4294967295;
-    }
-    let Numbered::At { index } = binding_number(uses[t], sizes, vars, orders, at + 2) else {
+    let Named::Of { t, index } = name_order(plan, orders, i, env) else {
         return 4294967295;
     };
-    row_at(numbers, guards[t], starts[t], index)
+    row_at(plan, t, starts[t], numbers, index)
 }
 
 // Writes the image of each order.
 pub fn write_images(
-    sizes: &[u8],
-    vars: &[u8],
-    uses: &[u32],
-    guards: &[u16],
-    transitions: usize,
+    plan: &[u32; 3584],
     starts: &[usize],
     numbers: &[u32],
     orders: &[u8],
     out: &mut [u8],
 )
-    requires { ⌜ transitions ≤ 32 ⌝ }
-    requires { ⌜ length (now uses) ≡ 32 ⌝ }
-    requires { ⌜ length (now guards) ≡ 32 ⌝ }
     requires { ⌜ length (now starts) ≡ 32 ⌝ }
     requires { ⌜ length (now orders) / 6 * 5 ≤ length (now out) ⌝ }
-    ensures { λ _. ⌜ ((s own : List ℕ) (n : Net) → Tables s n (now (sizes .entry)) (now (vars .entry)) own (now (uses .entry)) (now (guards .entry)) transitions
-        → Starts n (now (guards .entry)) (now (starts .entry)) (now (numbers .entry)) transitions
+    ensures { λ _. ⌜ ((s : List ℕ) (n : Net) → Prepared s n (now (plan .entry))
+        → Starts n (now (plan .entry)) (now (starts .entry)) (now (numbers .entry)) (length (n .transitions))
         → now (out .exit) ≡ over (images n (now (orders .entry))) (now (out .entry))) ⌝ }
 {
     let count = orders.len() / 6;
+    let mut env = [0u8; 32];
     let mut next: usize = 0;
     let mut i: usize = 0;
     while i < count {
-        let row = row_of(
-            sizes,
-            vars,
-            uses,
-            guards,
-            transitions,
-            starts,
-            numbers,
-            orders,
-            i,
-        );
+        let row = row_of(plan, starts, numbers, orders, i, &mut env);
         next = write_image(row, out, next);
         i += 1;
     }

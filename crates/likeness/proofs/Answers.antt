@@ -4,18 +4,18 @@ use Prim.Native.Nat.{_≤_, _<_}
 use native.Mathlib.Omega.{arith}
 use borrow.Author.Tests.{lt-ltb, le-ltb}
 use lib.ListN.{length-map}
-use Rattle.reading.specs.Basics.{ℕ, Bool, true, false, List, [], _∷_, map, Option, none, some, length, getElem?, if_then_else_, given, below, any, items, longAt}
+use Rattle.reading.specs.Basics.{ℕ, true, List, [], _∷_, map, Option, none, some, length, getElem?, given, items, longAt}
 use Rattle.reading.proofs.Lists.{All, end, also, in-all, at-map, below-at, getD-at, every-in}
 use Rattle.reading.proofs.Items.{items-joined, of-six}
-use Rattle.firing.specs.Firing.{Weights, fired, lacks, hindered, moved, spills, fire, run}
+use Rattle.firing.specs.Firing.{Weights, fired, fire, run}
 use Rattle.firing.specs.Arcs.{row, weights}
-use Rattle.firing.proofs.Agree.{fire-same, fire-length}
+use Rattle.firing.proofs.Agree.{fire-same, by-answer, fire-length}
 use Rattle.flat_file.specs.Flat.{fireRow, fireImage}
 use Rattle.net.specs.Net.{Net, flatPlaceCount}
 use Rattle.net_file.specs.Limits.{Limits}
 use Rattle.bindings.specs.Effect.{Binding, effect, flatRow}
 use Rattle.bindings.specs.Orders.{named, fireOrder}
-use Rattle.bindings.proofs.Clash.{clash}
+use Rattle.reading.proofs.Clash.{clash}
 use Rattle.row_numbers.specs.Unfolding.{Rowed, rows, unfolded, rowNumber, image, images}
 use Rattle.likeness.specs.Demand3.{Marking, guardHolds, asRow, ListsAgree, RowsFireAlike}
 use Rattle.firing.proofs.Weighted.{row-agrees}
@@ -27,35 +27,26 @@ pub image-back : (i : ℕ) → longAt (image i) 1 ≡ i
 image-back i = omega arith
 
 -- the firing rule never answers 2
-fire-as-row : (w : Weights) (m : List ℕ) → asRow (fire w m) ≡ fire w m
-unfolding fire
-fire-as-row w m = go (any (lacks w m) (below (length m))) (any (hindered w m) (below (length m))) (any (spills w m) (below (length m)))
-  where
-    go : (a b c : Bool)
-        → asRow (if a then fired 3 m else if b then fired 4 m else if c then fired 5 m else fired 0 (map (moved w m) (below (length m))))
-        ≡ (if a then fired 3 m else if b then fired 4 m else if c then fired 5 m else fired 0 (map (moved w m) (below (length m))))
-    go true b c = refl
-    go false true c = refl
-    go false false true = refl
-    go false false false = refl
+fire-as-row : (caps : List ℕ) (w : Weights) (m : List ℕ) → asRow (fire caps w m) ≡ fire caps w m
+fire-as-row caps w m = by-answer caps w m (λ f. asRow f ≡ f) refl refl refl (λ e. refl)
 
 -- firing an order keeps the number of counts
 pub order-keeps : (n : Net) (order m : List ℕ) → length (fireOrder n order m .marking) ≡ length m
 unfolding fireOrder
 order-keeps n order m = by-name (named n order)
   where
-    by-effect : (o : Option Weights) → length ((given o (fired 2 m) λ w. fire w m) .marking) ≡ length m
+    by-effect : (o : Option Weights) → length ((given o (fired 2 m) λ w. fire [] w m) .marking) ≡ length m
     by-effect none = refl
-    by-effect (some w) = fire-length w m
+    by-effect (some w) = fire-length [] w m
 
-    by-name : (o : Option Binding) → length ((given o (fired 1 m) λ b. given (effect n b) (fired 2 m) λ w. fire w m) .marking) ≡ length m
+    by-name : (o : Option Binding) → length ((given o (fired 1 m) λ b. given (effect n b) (fired 2 m) λ w. fire [] w m) .marking) ≡ length m
     by-name none = refl
     by-name (some b) = by-effect (effect n b)
 
 -- a row fires by its binding's weights, and where there is no row the answer is 1
 module _ (n : Net) where
   -- by its weights
-  pub row-fires : (i : ℕ) {r : Rowed} (m : List ℕ) → Marking n m → getElem? (rows n) i ≡ some r → fireImage (unfolded n) (image i) m ≡ fire (r .weights) m
+  pub row-fires : (i : ℕ) {r : Rowed} (m : List ℕ) → Marking n m → getElem? (rows n) i ≡ some r → fireImage (unfolded n) (image i) m ≡ fire [] (r .weights) m
   unfolding fireImage fireRow unfolded
   row-fires i {r} m sized e =
       let lt : i < length (map (λ x. flatRow n (x .weights)) (rows n)) = rw length-map (below-at (rows n) i e) in
@@ -64,7 +55,7 @@ module _ (n : Net) where
         lt-ltb i (length (map (λ x. flatRow n (x .weights)) (rows n))) lt,
         getD-at (map (λ x. flatRow n (x .weights)) (rows n)) i (row [] [] []) (at-map (λ x. flatRow n (x .weights)) (rows n) i e),
       )
-      (fire-same (weights (flatRow n (r .weights))) (r .weights) m (rw sized (row-agrees (flatPlaceCount n) (r .weights))))
+      (fire-same [] (weights (flatRow n (r .weights))) (r .weights) m (rw sized (row-agrees (flatPlaceCount n) (r .weights))))
 
   -- no such row
   pub no-row-fires : (i : ℕ) (m : List ℕ) → length (rows n) ≤ i → fireImage (unfolded n) (image i) m ≡ fired 1 m
@@ -79,7 +70,7 @@ module _ (n : Net) where
       where
         go : Stands n order → fireImage (unfolded n) (image (rowNumber n order)) m ≡ asRow (fireOrder n order m)
         go (without e g f) = rw (e, f m) (no-row-fires noRow m (let h = rows-few n limits in omega arith))
-        go (within i w e at g f) = rw (e, f m, fire-as-row w m) (row-fires i m sized at)
+        go (within i w e at g f) = rw (e, f m, fire-as-row [] w m) (row-fires i m sized at)
 
     -- orders in turn
     in-turn : (m : List ℕ) {orders : List (List ℕ)} → Marking n m → All (λ order. length order ≡ 6) orders
@@ -103,7 +94,7 @@ module _ (n : Net) where
       where
         go : Stands n order → asRow (fireOrder n order m) ≡ fireOrder n order m
         go (without e g f) = clash refl holds g
-        go (within i w e at g f) = rw (f m) (fire-as-row w m)
+        go (within i w e at g f) = rw (f m) (fire-as-row [] w m)
 
     all-as-rows : (m : List ℕ) {orders : List (List ℕ)} → All (λ order. length order ≡ 6) orders → All (λ order. guardHolds n order ≡ true) orders
         → map asRow (run (fireOrder n) m orders) ≡ run (fireOrder n) m orders

@@ -1,13 +1,15 @@
 -- Demand 3 over the calls: the first order that fires is the order of the first row that does. Assumes nothing.
-use mathlib.Core.Path.{_≡_, refl, ap, _∙_}
+use mathlib.Core.Path.{_≡_, refl, sym, ap, subst, _∙_}
 use native.Mathlib.Omega.{arith}
 use native.Mathlib.Nat.{add-zero, zero-add}
 use borrow.Author.Tests.{eqb-true}
-use Rattle.reading.specs.Basics.{ℕ, suc, _+_, Bool, true, false, List, [], _∷_, map, filterMap, Option, none, some, Option·elim, Option·map, length, getElem?, leb, eqb, if_then_else_, given, numbersFrom, below, take}
-use Rattle.reading.specs.Reading.{accepted, refused, on, _unless_, failing}
+use Rattle.reading.specs.Basics.{ℕ, suc, _+_, Bool, true, false, List, [], _∷_, map, filterMap, Option, none, some, Option·elim, Option·map, length, getElem?, leb, eqb, numbersFrom, below, take}
+use Rattle.reading.specs.Reading.{Outcome, accepted, _when-not_}
 use Rattle.reading.proofs.Lists.{In, here, there}
-use Rattle.firing.specs.Firing.{Weights, Fired, First, found, nothing, oneMore, first}
-use Rattle.firing.specs.Calls.{firstCall}
+use Rattle.reading.proofs.Permits.{Permits, Refuses, Judged, all-pass, one-refuses, judged, first-holds}
+use Rattle.firing.specs.Firing.{Weights, First, found, nothing, oneMore, first}
+use Rattle.firing.specs.Calls.{markingChecks, firstCall}
+use Rattle.firing.proofs.Running.{first-is, first-stops}
 use Rattle.flat_file.specs.Flat.{Flat, readFlat, fireRow, fireImage, firstRow}
 use Rattle.net.specs.Net.{Net, flatPlaceCount}
 use Rattle.net_file.specs.NetFile.{readNet}
@@ -73,18 +75,6 @@ module _ {A B R : Type 0} (Q : A → ℕ → Type 0) (code : B → A) (passes : 
       by-row (some r) e here-on next-on y = by-test r (test (code b)) refl e next-on y
 
 -- ---- orders and rows
--- the call on a net that was read
-first-is : {Net A : Type 0} (places : Net → ℕ) (candidates : Net → List A) (turn : Net → A → List ℕ → Fired) (net : Net) (m : List ℕ)
-    → firstCall places candidates turn (accepted net) m ≡ (if eqb (length m) (places net) then accepted (first (λ a. eqb (turn net a m .answer) 0) (candidates net)) else refused 12 0)
-unfolding firstCall failing
-first-is {Net} {A} places candidates turn net m = go (eqb (length m) (places net))
-  where
-    go : (t : Bool)
-        → on (given (if t then none else some 12) (accepted net) λ number. refused number 0) refused (λ net. accepted (first (λ a. eqb (turn net a m .answer) 0) (candidates net)))
-        ≡ (if t then accepted (first (λ a. eqb (turn net a m .answer) 0) (candidates net)) else refused 12 0)
-    go true = refl
-    go false = refl
-
 -- a row is answered as its image is
 pub row-as-image : (f : Flat) (i : ℕ) (m : List ℕ) → fireRow f i m ≡ fireImage f (image i) m
 unfolding fireImage
@@ -117,27 +107,37 @@ module _ (s m : List ℕ) (n : Net) (reads : readNet s ≡ accepted n) where
   found-alike (found-both {a = order} {i = i} e) = let q : orderCall s i ≡ accepted (some order) = rw (reads, e) in both-found q
   found-alike none-both = both-nothing
 
+  abbrev orderCalled : Outcome (First (List ℕ))
+  orderCalled = firstCall (λ net. markingChecks (flatPlaceCount net) m) (λ net. map orderOf (bindings net)) fireOrder (accepted n) m
+
+  abbrev rowCalled : Outcome (First ℕ)
+  rowCalled = firstCall (λ f. markingChecks (length (f .initial)) m) (λ f. below (length (f .rows))) fireRow (accepted (unfolded n)) m
+
   -- the two calls on the nets that were read
-  firsts-alike : FirstAlike s (firstCall flatPlaceCount (λ net. map orderOf (bindings net)) fireOrder (accepted n) m)
-      (firstCall (λ f. length (f .initial)) (λ f. below (length (f .rows))) fireRow (accepted (unfolded n)) m)
+  firsts-alike : FirstAlike s orderCalled rowCalled
   unfolding rows
-  firsts-alike =
-      rw (first-is flatPlaceCount (λ net. map orderOf (bindings net)) fireOrder n m, first-is (λ f. length (f .initial)) (λ f. below (length (f .rows))) fireRow (unfolded n) m, place-count n, row-count n)
-      (go (eqb (length m) (flatPlaceCount n)) refl)
+  firsts-alike = go (judged (markingChecks (flatPlaceCount n) m))
     where
-      go : (t : Bool) → eqb (length m) (flatPlaceCount n) ≡ t
-          → FirstAlike s (if t then accepted (first (λ order. eqb (fireOrder n order m .answer) 0) (map orderOf (bindings n))) else refused 12 0)
-          (if t then accepted (first (λ i. eqb (fireRow (unfolded n) i m .answer) 0) (below (length (rows n)))) else refused 12 0)
-      go true e = found-alike
-          (first-both OrderOf orderOf (rowedIf n) (λ order. eqb (fireOrder n order m .answer) 0) (λ i. eqb (fireRow (unfolded n) i m .answer) 0) (bindings n) 0 unrowed
-          (row-tested (eqb-true (length m) (flatPlaceCount n) e)))
-      go false e = both-refused
+      same-checks : markingChecks (length (unfolded n .initial)) m ≡ markingChecks (flatPlaceCount n) m
+      same-checks = rw (place-count n)
+
+      go : Judged (markingChecks (flatPlaceCount n) m) → FirstAlike s orderCalled rowCalled
+      go (all-pass p) =
+          let fits = eqb-true (length m) (flatPlaceCount n) (first-holds p) in
+          let order-is = first-is (λ net. markingChecks (flatPlaceCount net) m) (λ net. map orderOf (bindings net)) fireOrder (accepted n) m refl p refl in
+          let row-is = first-is (λ f. markingChecks (length (f .initial)) m) (λ f. below (length (f .rows))) fireRow (accepted (unfolded n)) m refl (subst Permits (sym same-checks) p) refl in
+          rw (← order-is, ← row-is, row-count n) (found-alike
+          (first-both OrderOf orderOf (rowedIf n) (λ order. eqb (fireOrder n order m .answer) 0) (λ i. eqb (fireRow (unfolded n) i m .answer) 0) (bindings n) 0 unrowed (row-tested fits)))
+      go (one-refuses k place r) =
+          let order-is = first-stops (λ net. markingChecks (flatPlaceCount net) m) (λ net. map orderOf (bindings net)) fireOrder (accepted n) m refl r in
+          let row-is = first-stops (λ f. markingChecks (length (f .initial)) m) (λ f. below (length (f .rows))) fireRow (accepted (unfolded n)) m refl (subst (λ c. Refuses c k place) (sym same-checks) r) in
+          rw (← order-is, ← row-is) both-refused
 
 -- the demand
 pub first-calls : FirstCallsAgree
 unfolding unfoldCall firstOrder firstRow
 first-calls s m flatOut bytes e =
-    writing-went (λ n. (14 unless leb (length (flatFile n)) (length flatOut)) ∷ []) (λ n. length (flatFile n)) flatFile s flatOut e λ n reads checks is w.
+    writing-went (λ n. (14 when-not leb (length (flatFile n)) (length flatOut)) ∷ []) (λ n. length (flatFile n)) flatFile s flatOut e λ n reads checks is w.
     let flat-is : take bytes (unfoldCall s flatOut .out) ≡ flatFile n = ap (take bytes) w ∙ front (flatFile n) flatOut is in
     let read : readFlat (take bytes (unfoldCall s flatOut .out)) ≡ accepted (unfolded n) = ap readFlat flat-is ∙ alike n (limits s n reads) .reads-back in
     rw (read, reads) (firsts-alike s m n reads)

@@ -7,11 +7,11 @@ use lib.ListN.{List·getD-eq-default}
 use Rattle.reading.specs.Basics.{ℕ, zero, suc, Bool, true, false, _&&_, List, [], _∷_, flatMap, Option, none, some, length, getD, drop, ltb, eqb, given, position, same, byteAt, Bytes, items}
 use Rattle.reading.proofs.Lists.{In, All, end, also, all-in, in-all, all-map, in-at, below-at, getD-at, of-flatMap, every-in, position-at}
 use Rattle.reading.proofs.Keeps.{both-true}
-use Rattle.net.specs.Net.{Net, Transition, sizeOf, variablesOf, sizesOf}
+use Rattle.net.specs.Net.{Net, Transition, sizeOf, variablesOf, sizesOf, transitionAt}
 use Rattle.net_file.specs.Limits.{Limits}
-use Rattle.bindings.specs.Effect.{Binding, transitionAt}
+use Rattle.bindings.specs.Effect.{Binding}
 use Rattle.bindings.specs.Orders.{fits, named}
-use Rattle.bindings.proofs.Clash.{clash}
+use Rattle.reading.proofs.Clash.{clash}
 use Rattle.bindings.proofs.Named.{let-through}
 use Rattle.row_numbers.specs.Unfolding.{rows, rowNumber, image, images}
 use Rattle.row_numbers.proofs.Rows.{noRow, rows-few}

@@ -18,7 +18,7 @@ use Rattle.net_file.specs.Limits.{Limits}
 use Rattle.net_file.proofs.Limits.{limits}
 use Rattle.bindings.specs.Effect.{flatPlaces, flatRow}
 use Rattle.bindings.specs.Orders.{fireOrder}
-use Rattle.bindings.proofs.Clash.{clash}
+use Rattle.reading.proofs.Clash.{clash}
 use Rattle.rows.proofs.FlatPlaces.{flat-places}
 use Rattle.row_numbers.specs.Unfolding.{Rowed, rows, initialAt, unfolded, rowNumber, orderOfRow, image, images}
 use Rattle.likeness.specs.Demand3.{Orders, guardHolds, RowsHaveOrders, ImagesTell, WayBack, InBytes, SomeFires, Alike, Demand3}

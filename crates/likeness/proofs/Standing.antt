@@ -1,7 +1,7 @@
 -- How an order stands to the rows of a net. Assumes nothing.
 use mathlib.Core.Path.{_≡_, refl, sym, _∙_}
 use native.Mathlib.Omega.{arith}
-use Rattle.reading.specs.Basics.{ℕ, true, false, List, Option, none, some, length, getElem?, given}
+use Rattle.reading.specs.Basics.{ℕ, true, false, List, [], Option, none, some, length, getElem?, given}
 use Rattle.firing.specs.Firing.{Weights, fired, fire}
 use Rattle.net.specs.Net.{Net}
 use Rattle.net_file.specs.Limits.{Limits}
@@ -21,7 +21,7 @@ guard-told n b e = sym (legal-is n b) ∙ legal-told n b e
 pub data Stands (n : Net) (order : List ℕ) : Type 0 where
   without : rowNumber n order ≡ noRow → guardHolds n order ≡ false → ((m : List ℕ) → asRow (fireOrder n order m) ≡ fired 1 m) → Stands n order
   within : (i : ℕ) (w : Weights) → rowNumber n order ≡ i → getElem? (rows n) i ≡ some (rowed order w) → guardHolds n order ≡ true
-      → ((m : List ℕ) → fireOrder n order m ≡ fire w m) → Stands n order
+      → ((m : List ℕ) → fireOrder n order m ≡ fire [] w m) → Stands n order
 
 module _ (n : Net) (limits : Limits n) where
   -- every order of 6 bytes stands so

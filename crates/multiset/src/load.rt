@@ -1,8 +1,13 @@
 // The arcs of an arc expression under a binding, appended to two lent lists, one of places and one of weights.
 use evaluation::eval_rank;
+use plan::expression_of;
+use plan::is_pair;
+use plan::ranks_of;
+use plan::start_of;
 use reading::byte_at;
 use reading::word_at;
 use runs::slot;
+use sums::Spot;
 use sums::list_terms;
 use sums::sum_terms;
 ghost use mathlib.Core.Path.{_≡_};
@@ -10,6 +15,7 @@ ghost use mathlib.Core.Bool.{true, false};
 ghost use Prim.Native.Nat.{ℕ, _≤_, _<_, _+_};
 ghost use lib.ListN.{length, getD};
 ghost use Rattle.reading.specs.Basics.{byteAt};
+ghost use Rattle.plan.specs.internal.Layout.{expressionIn};
 ghost use Rattle.runs.specs.internal.Terms.{Appended};
 ghost use Rattle.sums.specs.internal.Loaded.{oneArc, rankArcs, TermsLoaded, ArcLoaded};
 
@@ -122,40 +128,26 @@ fn load_terms(
 // It can call itself, on an empty file and once, so that it is not built into load_arc: the way of 0x40 stays short.
 fn load_listed(
     s: &[u8],
-    sizes: &[u8],
-    vars: &[u8],
+    plan: &[u32; 3584],
     env: &[u8; 32],
-    paired: bool,
-    start: usize,
-    count: usize,
-    at: usize,
+    entry: u64,
     places: &mut [u16],
     amounts: &mut [u16],
     used: usize,
     again: bool,
 ) -> usize
-    requires { ⌜ (start + count ≤ 65535) × (byteAt (now s) at ≡ 0x40 → ⊥) ⌝ }
-    ensures { λ r. ⌜ ArcLoaded (now (s .entry)) (now (sizes .entry)) (now (vars .entry)) (now (env .entry)) paired start count at
+    requires { ⌜ (byteAt (now s) (expressionIn entry) ≡ 0x40 → ⊥) ⌝ }
+    ensures { λ r. ⌜ ArcLoaded (now (s .entry)) (now (plan .entry)) (now (env .entry)) entry
         (now (places .entry)) (now (amounts .entry)) used (now (places .exit)) (now (amounts .exit)) r ⌝ }
 {
     if s.len() < 1 {
         if again {
-            return load_listed(
-                s,
-                sizes,
-                vars,
-                env,
-                paired,
-                start,
-                count,
-                at,
-                places,
-                amounts,
-                used,
-                false,
-            );
+            return load_listed(s, plan, env, entry, places, amounts, used, false);
         }
     }
+    let start = start_of(entry);
+    let count = ranks_of(entry);
+    let at = expression_of(entry);
     if places.len() < count {
         return used;
     }
@@ -164,77 +156,44 @@ fn load_listed(
     }
     let base = used + count;
     if byte_at(s, at) == 0x42 {
-        let sum = sum_terms(
-            &s,
-            &sizes,
-            &vars,
-            env,
-            paired,
-            count,
-            at,
-            places,
-            amounts,
-            base,
-        );
+        let sum = sum_terms(&s, plan, env, entry, at, places, amounts, base);
         if sum.ahead < 1 {
             return load_terms(start, count, base, sum.end, 0, places, amounts, used);
         }
     }
-    let m = list_terms(
-        &s,
-        &sizes,
-        &vars,
-        env,
-        paired,
-        count,
-        16,
-        at,
-        places,
-        amounts,
-        base,
-    );
+    let whole = Spot { left: 16, at };
+    let m = list_terms(&s, plan, env, entry, whole, places, amounts, base);
     load_terms(start, count, base, m.end, m.rest, places, amounts, used)
 }
 
-// Appends the arcs of the expression at a place of the file, for so many ranks of a place whose flat places begin at start.
+// Appends the arcs of an arc's expression, which its entry tells, with the ranks of its place and where the place's flat places begin.
 // A count of one colour or pair, 0x40, has one arc at most.
 pub fn load_arc(
     s: &[u8],
-    sizes: &[u8],
-    vars: &[u8],
+    plan: &[u32; 3584],
     env: &[u8; 32],
-    paired: bool,
-    start: usize,
-    count: usize,
-    at: usize,
+    entry: u64,
     places: &mut [u16],
     amounts: &mut [u16],
     used: usize,
 ) -> usize
-    requires { ⌜ start + count ≤ 65535 ⌝ }
-    ensures { λ r. ⌜ ArcLoaded (now (s .entry)) (now (sizes .entry)) (now (vars .entry)) (now (env .entry)) paired start count at
+    ensures { λ r. ⌜ ArcLoaded (now (s .entry)) (now (plan .entry)) (now (env .entry)) entry
         (now (places .entry)) (now (amounts .entry)) used (now (places .exit)) (now (amounts .exit)) r ⌝ }
 {
+    let at = expression_of(entry);
     if byte_at(s, at) != 0x40 {
-        return load_listed(
-            s,
-            sizes,
-            vars,
-            env,
-            paired,
-            start,
-            count,
-            at,
-            places,
-            amounts,
-            used,
-            true,
-        );
+        return load_listed(s, plan, env, entry, places, amounts, used, true);
     }
-    let rank = eval_rank(s, sizes, vars, env, paired, 15, at + 3).rank;
-    if count <= rank {
+    let rank = eval_rank(s, plan, env, is_pair(entry), 15, at + 3).rank;
+    if ranks_of(entry) <= rank {
         return used;
     }
     let weight = word_at(s, at + 1);
-    append(places, amounts, used, (start + rank) as u16, weight as u16)
+    append(
+        places,
+        amounts,
+        used,
+        (start_of(entry) + rank) as u16,
+        weight as u16,
+    )
 }

@@ -184,9 +184,9 @@ good : (s : List ℕ) (n : Net) → readNet s ≡ accepted n → Good s n
 unfolding readNet
 good s n e = go (ltb 16384 (length s)) e
   where
-    go : (long : Bool) → (if long then refused 1 16384 else outcome (file 0x01 (content s) 0x1F s)) ≡ accepted n → Good s n
+    go : (long : Bool) → (if long then refused 1 16384 else outcome (file 0x01 (1 ∷ []) (content s) 0x1F s)) ≡ accepted n → Good s n
     go true q = let z : _≡_ {A = ℕ} 0 1 = cc in absurd (omega arith)
-    go false q = of-outcome (file-gives 0x01 (content s) 0x1F s (content-keeps s)) q
+    go false q = of-outcome (file-gives 0x01 (1 ∷ []) (content s) 0x1F s (content-keeps s)) q
 
 pub formed : (s : List ℕ) (n : Net) → readNet s ≡ accepted n → Formed n
 formed s n e = good s n e .formed

@@ -123,7 +123,7 @@ pub short : (s : List ℕ) (n : Net) → readNet s ≡ accepted n → length s �
 unfolding readNet
 short s n e = go (ltb 16384 (length s)) refl e
   where
-    go : (t : Bool) → ltb 16384 (length s) ≡ t → (if t then refused 1 16384 else outcome (file 0x01 (content s) 0x1F s)) ≡ accepted n → length s ≤ 16384
+    go : (t : Bool) → ltb 16384 (length s) ≡ t → (if t then refused 1 16384 else outcome (file 0x01 (1 ∷ []) (content s) 0x1F s)) ≡ accepted n → length s ≤ 16384
     go true i q = let z : _≡_ {A = ℕ} 0 1 = cc in absurd (omega arith)
     go false i q = ltb-false 16384 (length s) i
 
@@ -132,6 +132,6 @@ pub limits : (s : List ℕ) (n : Net) → readNet s ≡ accepted n → Limits n
 unfolding readNet
 limits s n e = go (ltb 16384 (length s)) e
   where
-    go : (t : Bool) → (if t then refused 1 16384 else outcome (file 0x01 (content s) 0x1F s)) ≡ accepted n → Limits n
+    go : (t : Bool) → (if t then refused 1 16384 else outcome (file 0x01 (1 ∷ []) (content s) 0x1F s)) ≡ accepted n → Limits n
     go true q = let z : _≡_ {A = ℕ} 0 1 = cc in absurd (omega arith)
-    go false q = outcome-went (file 0x01 (content s) 0x1F s) q λ last f. file-went 0x01 (content s) 0x1F s f λ start next g. content-keeps s start g
+    go false q = outcome-went (file 0x01 (1 ∷ []) (content s) 0x1F s) q λ last f. file-went 0x01 (1 ∷ []) (content s) 0x1F s f λ start next g. content-keeps s start g

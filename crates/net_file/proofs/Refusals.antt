@@ -140,9 +140,9 @@ pub refusal-fits : (s : List ℕ) {number place : ℕ} → readNet s ≡ refused
 unfolding readNet
 refusal-fits s {number} {place} e = go (ltb 16384 (length s)) refl e
   where
-    go : (long : Bool) → ltb 16384 (length s) ≡ long → (if long then refused 1 16384 else outcome (file 0x01 (content s) 0x1F s)) ≡ refused number place → (number ≤ 15) × (place ≤ 16384)
+    go : (long : Bool) → ltb 16384 (length s) ≡ long → (if long then refused 1 16384 else outcome (file 0x01 (1 ∷ []) (content s) 0x1F s)) ≡ refused number place → (number ≤ 15) × (place ≤ 16384)
     go true t q = let a : 1 ≡ number = cc in let b : 16384 ≡ place = cc in omega arith
-    go false t q = omega (arith, of-refusal (file-fits 0x01 (content s) 0x1F s (content-fits s)) q, ltb-false 16384 (length s) t)
+    go false t q = omega (arith, of-refusal (file-fits 0x01 (1 ∷ []) (content s) 0x1F s (content-fits s)) q, ltb-false 16384 (length s) t)
 
 pub refusals-fit : RefusalsFit
 refusals-fit s number place e = omega (arith, refusal-fits s e)

@@ -1,18 +1,19 @@
 -- The whole file: part after part, and the first and the last command. Assumes nothing.
-use mathlib.Core.Path.{_≡_, refl, sym, ap, ap₂, _∙_}
+use mathlib.Core.Path.{_≡_, refl, sym, ap, _∙_}
 use Prim.Native.Nat.{_≤_, _<_}
 use native.Mathlib.Omega.{arith}
 use borrow.Author.Tests.{lt-ltb, le-ltb, eq-eqb, ne-eqb}
 use lib.Seq.{length-take-le, getD-take}
 use Rattle.reading.specs.Basics.{ℕ, _+_, List, [], _∷_, some, length, getD, take, eqb, byteAt}
 use Rattle.reading.proofs.Commands.{end, other, passes, done, fails, needed-past, needed-stray, needs-cut, needs-fails, needs-goes}
+use Rattle.reading.proofs.Lists.{any-in, any-out, one-in, not-one}
 use Rattle.reading.specs.Reading.{Answer, fine, fault, _andThen_, outcome, accepted, refused, _unless_, checked, command, needed, whole, file}
 use Rattle.net.specs.Net.{Place, single, Transition, Tokens, Net, net, variablesOf, bindingSpace, scope}
 use Rattle.net.specs.Reader.{widthOf}
 use Rattle.net_parts.specs.Parts.{setPart, variablePart, placePart, tokensPart}
 use Rattle.net_transitions.specs.Transitions.{transitionPart}
 use Rattle.net_file.specs.NetFile.{content, readNet}
-use Rattle.net.specs.internal.ReaderEnums.{placeOf}
+use Rattle.net.specs.internal.ReaderEnums.{placeIn}
 use Rattle.net_parts.specs.internal.Tables.{placesOf, Started, TokensRead, TokensTold}
 use Rattle.net_transitions.specs.internal.TransitionTables.{over, TransitionsRead}
 use Rattle.net_parts.specs.declared.Part.{Part}
@@ -101,22 +102,22 @@ pub tokens-by : (s : List ℕ) (n : Net) (start : ℕ) (starts initial : List �
     → TokensTold s n start starts initial r → TokensRead s n start starts initial next
 tokens-by s n start starts initial e h = rw e at h
 
-module _ (s sizes vars firsts seconds starts : List ℕ) {sets variables places total : ℕ} (few-sets : sets ≤ 16) (few-variables : variables ≤ 32)
-    (first-sized : length firsts ≡ 32) (second-sized : length seconds ≡ 32)
-    (started : Started (scope (take sets sizes) [] []) (placesOf (take places firsts) (take places seconds)) starts places total) where
-  place-by : (p : ℕ) → p < places → placeOf (getD firsts p 0) (getD seconds p 0) ≡ getD (placesOf (take places firsts) (take places seconds)) p (single 0)
+module _ (s sizes vars kinds starts : List ℕ) {sets variables places total : ℕ} (few-sets : sets ≤ 16) (few-variables : variables ≤ 32)
+    (sized : length kinds ≡ 32)
+    (started : Started (scope (take sets sizes) [] []) (placesOf (take places kinds)) starts places total) where
+  place-by : (p : ℕ) → p < places → placeIn (getD kinds p 0) ≡ getD (placesOf (take places kinds)) p (single 0)
   place-by p lt =
-      let a = length-take-le places firsts (omega (arith, started .few)) in let b = length-take-le places seconds (omega (arith, started .few)) in
-      ap₂ placeOf (sym (getD-take places firsts p 0 lt)) (sym (getD-take places seconds p 0 lt)) ∙ sym (place-at (take places firsts) (take places seconds) p (omega arith) (omega arith))
+      let a = length-take-le places kinds (omega (arith, started .few)) in
+      ap placeIn (sym (getD-take places kinds p 0 lt)) ∙ sym (place-at (take places kinds) p (omega arith))
 
-  module _ (uses guards arcs : List ℕ) {at count space more : ℕ} (t : TransitionsRead s (over (take sets sizes) (take variables vars) (take places firsts) (take places seconds)) at uses guards arcs count space more) where
+  module _ (heads arcs : List ℕ) {at count space more : ℕ} (t : TransitionsRead s (over (take sets sizes) (take variables vars) (take places kinds)) at heads arcs count space more) where
     -- the net that tokens are read over
     abbrev pub before-tokens : Net
-    before-tokens = net (take sets sizes) (take variables vars) (placesOf (take places firsts) (take places seconds)) (t .transitions) []
+    before-tokens = net (take sets sizes) (take variables vars) (placesOf (take places kinds)) (t .transitions) []
 
     pub tables : (initial : List ℕ) {end : ℕ} (k : TokensRead s before-tokens more starts initial end)
-        → NetHolds s (net (take sets sizes) (take variables vars) (placesOf (take places firsts) (take places seconds)) (t .transitions) (k .tokens))
-        sizes vars firsts seconds starts uses guards arcs initial sets variables places total count space
+        → NetHolds s (net (take sets sizes) (take variables vars) (placesOf (take places kinds)) (t .transitions) (k .tokens))
+        sizes vars kinds starts heads arcs initial sets variables places total count space
     tables initial k = record {
       few-sets = few-sets;
       few-variables = few-variables;
@@ -127,7 +128,7 @@ module _ (s sizes vars firsts seconds starts : List ℕ) {sets variables places 
       place-is = place-by;
       started = started-over started;
       transitions-are = t .are;
-      wide = space-same (take sets sizes) (take variables vars) (placesOf (take places firsts) (take places seconds)) (t .transitions) (k .tokens) ∙ t .wide;
+      wide = space-same (take sets sizes) (take variables vars) (placesOf (take places kinds)) (t .transitions) (k .tokens) ∙ t .wide;
       bounded = t .bounded;
       holds = t .holds;
       counts = k .holds;
@@ -157,11 +158,11 @@ module _ (s : List ℕ) (read : ℕ → Answer Net) where
 
   pub open-edition : byteAt s 0 ≡ 0x01 → 2 ≤ length s → (byteAt s 1 ≡ 1 → ⊥) → opened s read ≡ fault 5 0
   unfolding commands
-  open-edition e le ne = needs-fails _ _ 0x01 _ e refl le (fails (ne-eqb (byteAt s 1) 1 ne))
+  open-edition e le ne = needs-fails _ _ 0x01 _ e refl le (fails (any-out (byteAt s 1) (1 ∷ []) (not-one ne)))
 
   pub opens : byteAt s 0 ≡ 0x01 → 2 ≤ length s → byteAt s 1 ≡ 1 → opened s read ≡ read 2
   unfolding commands
-  opens e le f = needs-goes _ _ 0x01 _ e refl le (passes (eq-eqb (byteAt s 1) 1 f) done)
+  opens e le f = needs-goes _ _ 0x01 _ e refl le (passes (any-in (byteAt s 1) (1 ∷ []) (one-in f)) done)
 
 module _ (s : List ℕ) (n : Net) (at : ℕ) where
   close-by : {x : Answer Net} → needed s (command 0x1F 0 [] (fine n) ∷ []) at ≡ x → closed s n at ≡ (x andThen λ a last. checked last ((15 unless eqb last (length s)) ∷ []) a last)

@@ -1,5 +1,5 @@
 -- Reading a whole net file.
-use Rattle.reading.specs.Basics.{ℕ, List, [], length, ltb, if_then_else_}
+use Rattle.reading.specs.Basics.{ℕ, List, [], _∷_, length, ltb, if_then_else_}
 use Rattle.reading.specs.Reading.{Answer, fine, _andThen_, Outcome, outcome, refused, whole, file}
 use Rattle.net.specs.Net.{Net, net, scope}
 use Rattle.net_parts.specs.Parts.{setPart, variablePart, placePart, tokensPart}
@@ -18,5 +18,5 @@ content s start =
 -- at most 16,384 bytes (1), then 0x01, the parts, 0x1F
 unfoldable pub readNet : List ℕ → Outcome Net
 readNet s =
-    let read = outcome (file 0x01 (content s) 0x1F s) in
+    let read = outcome (file 0x01 (1 ∷ []) (content s) 0x1F s) in
     if ltb 16384 (length s) then refused 1 16384 else read

@@ -90,32 +90,25 @@ fn refused(part: Part) -> NetRead
     }
 }
 
-// The whole net file: what it holds goes into the lent tables; named is for the reading alone.
+// The whole net file: what it holds goes into the lent tables.
 pub fn read_net(
     s: &[u8],
     sizes: &mut [u8],
     vars: &mut [u8],
-    firsts: &mut [u8],
-    seconds: &mut [u8],
+    kinds: &mut [u16],
     starts: &mut [usize],
-    uses: &mut [u32],
-    guards: &mut [u16],
-    arcs: &mut [u16],
+    heads: &mut [u32],
+    arcs: &mut [u32],
     initial: &mut [u16],
-    named: &mut [u8],
 ) -> NetRead
     requires { ⌜ length (now sizes) ≡ 16 ⌝ }
     requires { ⌜ length (now vars) ≡ 32 ⌝ }
-    requires { ⌜ length (now firsts) ≡ 32 ⌝ }
-    requires { ⌜ length (now seconds) ≡ 32 ⌝ }
+    requires { ⌜ length (now kinds) ≡ 32 ⌝ }
     requires { ⌜ length (now starts) ≡ 33 ⌝ }
-    requires { ⌜ length (now uses) ≡ 32 ⌝ }
-    requires { ⌜ length (now guards) ≡ 32 ⌝ }
+    requires { ⌜ length (now heads) ≡ 64 ⌝ }
     requires { ⌜ length (now arcs) ≡ 3072 ⌝ }
-    requires { ⌜ length (now initial) ≡ 4096 ⌝ }
-    requires { ⌜ length (now named) ≡ 4096 ⌝ }
-    ensures { λ r. ⌜ NetTold (now (s .entry)) (now (sizes .exit)) (now (vars .exit)) (now (firsts .exit)) (now (seconds .exit)) (now (starts .exit))
-        (now (uses .exit)) (now (guards .exit)) (now (arcs .exit)) (now (initial .exit)) r ⌝ }
+    ensures { λ r. ⌜ NetTold (now (s .entry)) (now (sizes .exit)) (now (vars .exit)) (now (kinds .exit)) (now (starts .exit))
+        (now (heads .exit)) (now (arcs .exit)) (now (initial .exit)) r ⌝ }
 {
     if 16384 < s.len() {
         return NetRead::Refused {
@@ -135,7 +128,7 @@ pub fn read_net(
     let Part::Whole(variables, _, next) = part else {
         return refused(part);
     };
-    let part = read_places(s, &sizes[..sets], firsts, seconds, starts, next);
+    let part = read_places(s, &sizes[..sets], kinds, starts, next);
     let Part::Whole(places, total, next) = part else {
         return refused(part);
     };
@@ -143,17 +136,15 @@ pub fn read_net(
         s,
         &sizes[..sets],
         &vars[..variables],
-        &firsts[..places],
-        &seconds[..places],
-        uses,
-        guards,
+        &kinds[..places],
+        heads,
         arcs,
         next,
     );
     let Part::Whole(transitions, space, next) = part else {
         return refused(part);
     };
-    let part = read_tokens(s, starts, places, total, initial, named, next);
+    let part = read_tokens(s, starts, places, total, initial, next);
     let Part::Whole(_, _, next) = part else {
         return refused(part);
     };

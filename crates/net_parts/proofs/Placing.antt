@@ -1,46 +1,53 @@
 -- Where the loop over the places stands. Assumes nothing.
-use mathlib.Core.Path.{_≡_, refl, sym, ap, ap₂, _∙_}
+use mathlib.Core.Path.{_≡_, refl, sym, ap, _∙_}
 use mathlib.Core.Logic.{⊎-elim}
 use Prim.Native.Nat.{_≤_, _<_}
 use native.Mathlib.Omega.{arith}
 use native.Mathlib.Nat.{eq-or-lt-of-le, mul-one}
 use native.Mathlib.Numerals.{add-one}
 use borrow.Author.Tests.{ne-eqb}
-use lib.ListN.{set, length-set, length-append}
-use lib.Seq.{length-take-le, take-suc-set, take-append-le, take-all, getD-set-same, getD-set-other}
-use Rattle.reading.specs.Basics.{ℕ, suc, _+_, _*_, List, [], _∷_, some, map, sum, length, getD, take, with}
+use lib.ListN.{set, length-set, length-append, length-map}
+use lib.Seq.{take-suc-set, take-append-le, take-all, getD-set-same, getD-set-other}
+use Rattle.reading.specs.Basics.{ℕ, _+_, _*_, _/_, _%_, List, [], _∷_, some, map, sum, length, getD, take, with}
 use Rattle.reading.specs.Reading.{fine, fault, whole}
 use Rattle.reading.proofs.Parts.{Reading, begins, goes-on, ends, stops}
-use Rattle.net.specs.Net.{Place, pair, Net, coloursOf, scope}
+use Rattle.net.specs.Net.{Place, single, pair, Net, coloursOf, scope}
 use Rattle.net_parts.specs.Parts.{placePart}
-use Rattle.net.specs.internal.ReaderEnums.{placeOf}
+use Rattle.net.specs.internal.ReaderEnums.{placeIn}
 use Rattle.net_parts.specs.internal.Steps.{placeStep}
 use Rattle.net_parts.specs.internal.Tables.{placesOf, startOf, PlaceRoom, Started}
 use Rattle.net_parts.specs.declared.PlaceStep.{PlaceStep}
 use Rattle.net_parts.specs.declared.PlaceStep.the-variants.{Done, One, Two, Stop}
 use Rattle.net_parts.proofs.Totals.{sum-with}
 
--- ---- the places of two lists
-pub length-places : (f g : List ℕ) → length f ≡ length g → length (placesOf f g) ≡ length f
+-- ---- the places of a list
+pub length-places : (kinds : List ℕ) → length (placesOf kinds) ≡ length kinds
 unfolding placesOf
-length-places [] g e = refl
-length-places (a ∷ f) [] e = absurd (omega arith)
-length-places (a ∷ f) (b ∷ g) e = ap suc (length-places f g (omega arith))
+length-places kinds = length-map kinds placeIn
 
-pub places-with : (f g : List ℕ) (a b : ℕ) → length f ≡ length g → placesOf (with f a) (with g b) ≡ with (placesOf f g) (placeOf a b)
+pub places-with : (kinds : List ℕ) (k : ℕ) → placesOf (with kinds k) ≡ with (placesOf kinds) (placeIn k)
 unfolding placesOf
-places-with [] [] a b e = refl
-places-with [] (y ∷ g) a b e = absurd (omega arith)
-places-with (x ∷ f) [] a b e = absurd (omega arith)
-places-with (x ∷ f) (y ∷ g) a b e = ap (λ l. placeOf x y ∷ l) (places-with f g a b (omega arith))
+places-with [] k = refl
+places-with (x ∷ kinds) k = ap (λ l. placeIn x ∷ l) (places-with kinds k)
 
--- the fronts of two lent lists, one longer
-pub places-more : (firsts seconds : List ℕ) (count a b : ℕ) → count < length firsts → count < length seconds
-    → placesOf (take (count + 1) (set firsts count a)) (take (count + 1) (set seconds count b)) ≡ with (placesOf (take count firsts) (take count seconds)) (placeOf a b)
-places-more firsts seconds count a b p q =
-    ap₂ placesOf (rw add-one (take-suc-set firsts count a p)) (rw add-one (take-suc-set seconds count b q))
-    ∙ places-with (take count firsts) (take count seconds) a b
-    (length-take-le count firsts (omega arith) ∙ sym (length-take-le count seconds (omega arith)))
+-- the front of a lent list, one longer
+pub places-more : (kinds : List ℕ) (count k : ℕ) → count < length kinds → placesOf (take (count + 1) (set kinds count k)) ≡ with (placesOf (take count kinds)) (placeIn k)
+places-more kinds count k lt = ap placesOf (rw add-one (take-suc-set kinds count k lt)) ∙ places-with (take count kinds) k
+
+-- both sets in one word
+word-first : (a b : ℕ) → a < 256 → (a + 256 * b) % 256 ≡ a
+word-first a b lt = omega arith
+
+word-second : (a b : ℕ) → a < 256 → (a + 256 * b) / 256 ≡ b
+word-second a b lt = omega arith
+
+place-one : (a : ℕ) → a < 256 → placeIn (65280 + a) ≡ single a
+place-one a lt =
+    let e : (65280 + a) % 256 ≡ a = omega arith in let f : (65280 + a) / 256 ≡ 255 = omega arith in
+    rw (e, f)
+
+place-two : (a b : ℕ) → a < 256 → b < 255 → placeIn (a + 256 * b) ≡ pair a b
+place-two a b lt less = rw (word-first a b lt, word-second a b lt, ne-eqb b 255 (λ q. omega arith))
 
 -- ---- where flat places begin
 pub starts-none : (n : Net) (starts : List ℕ) → 0 < length starts → Started n [] (set starts 0 0) 0 0
@@ -76,63 +83,60 @@ starts-more n {places} {starts} {count} {total} x more here lt le room e = recor
         ∙ sym (ap (λ l. sum (map (coloursOf n) l)) (take-append-le p places (x ∷ []) (omega (arith, here .are))))
 
 -- ---- the loop
-abbrev pub fronts : List ℕ → List ℕ → ℕ → List Place
-fronts firsts seconds count = placesOf (take count firsts) (take count seconds)
+abbrev pub front : List ℕ → ℕ → List Place
+front kinds count = placesOf (take count kinds)
 
-pub record Placing (s sets : List ℕ) (start : ℕ) (firsts seconds starts : List ℕ) (count total at : ℕ) : Type 0 where
-  pub first-sized : length firsts ≡ 32
-  pub second-sized : length seconds ≡ 32
+pub record Placing (s sets : List ℕ) (start : ℕ) (kinds starts : List ℕ) (count total at : ℕ) : Type 0 where
+  pub sized : length kinds ≡ 32
   pub start-sized : length starts ≡ 33
-  pub started : Started (scope sets [] []) (fronts firsts seconds count) starts count total
-  pub reading : (variables : List ℕ) → Reading s (placePart s (scope sets variables [])) (fronts firsts seconds count) at
+  pub started : Started (scope sets [] []) (front kinds count) starts count total
+  pub reading : (variables : List ℕ) → Reading s (placePart s (scope sets variables [])) (front kinds count) at
       (whole s (placePart s (scope sets variables [])) [] start)
 
-pub placing-begins : (s sets : List ℕ) (start : ℕ) (firsts seconds starts : List ℕ) → length firsts ≡ 32 → length seconds ≡ 32 → length starts ≡ 33
-    → Placing s sets start firsts seconds (set starts 0 0) 0 0 start
+pub placing-begins : (s sets : List ℕ) (start : ℕ) (kinds starts : List ℕ) → length kinds ≡ 32 → length starts ≡ 33
+    → Placing s sets start kinds (set starts 0 0) 0 0 start
 unfolding placesOf
-placing-begins s sets start firsts seconds starts a b c = record {
-  first-sized = a;
-  second-sized = b;
+placing-begins s sets start kinds starts a c = record {
+  sized = a;
   start-sized = length-set starts 0 0 ∙ c;
   started = starts-none (scope sets [] []) starts (omega arith);
   reading = λ variables. begins s (placePart s (scope sets variables [])) [] start;
 }
 
-module _ {s sets : List ℕ} {start : ℕ} {firsts seconds starts : List ℕ} {count total at : ℕ} (here : Placing s sets start firsts seconds starts count total at) where
+module _ {s sets : List ℕ} {start : ℕ} {kinds starts : List ℕ} {count total at : ℕ} (here : Placing s sets start kinds starts count total at) where
   -- one more place, with its sets in the tables
-  placing-goes : (a b more next : ℕ) → count < 32 → more ≤ 4096 → more ≡ total + coloursOf (scope sets [] []) (placeOf a b) → at < next → next ≤ length s
-      → ((variables : List ℕ) → placePart s (scope sets variables []) (fronts firsts seconds count) at ≡ some (fine (with (fronts firsts seconds count) (placeOf a b)) next))
-      → Placing s sets start (set firsts count a) (set seconds count b) (set starts (count + 1) more) (count + 1) more next
-  placing-goes a b more next room small e lt le step = record {
-    first-sized = length-set firsts count a ∙ here .first-sized;
-    second-sized = length-set seconds count b ∙ here .second-sized;
+  placing-goes : (k : ℕ) (x : Place) (more next : ℕ) → placeIn k ≡ x → count < 32 → more ≤ 4096 → more ≡ total + coloursOf (scope sets [] []) x → at < next → next ≤ length s
+      → ((variables : List ℕ) → placePart s (scope sets variables []) (front kinds count) at ≡ some (fine (with (front kinds count) x) next))
+      → Placing s sets start (set kinds count k) (set starts (count + 1) more) (count + 1) more next
+  placing-goes k x more next is room small e lt le step = record {
+    sized = length-set kinds count k ∙ here .sized;
     start-sized = length-set starts (count + 1) more ∙ here .start-sized;
-    started = rw grown (starts-more (scope sets [] []) (placeOf a b) more (here .started) room small (omega arith) e);
-    reading = λ variables. rw grown (goes-on s (placePart s (scope sets variables [])) (with (fronts firsts seconds count) (placeOf a b)) next (here .reading variables) lt le (step variables));
+    started = rw grown (starts-more (scope sets [] []) x more (here .started) room small (omega arith) e);
+    reading = λ variables. rw grown (goes-on s (placePart s (scope sets variables [])) (with (front kinds count) x) next (here .reading variables) lt le (step variables));
   }
     where
-      grown : fronts (set firsts count a) (set seconds count b) (count + 1) ≡ with (fronts firsts seconds count) (placeOf a b)
-      grown = places-more firsts seconds count a b (omega arith) (omega arith)
+      grown : front (set kinds count k) (count + 1) ≡ with (front kinds count) x
+      grown = places-more kinds count k (omega (arith, here .sized)) ∙ ap (λ y. with (front kinds count) y) is
 
   -- what a step of the code says
   module _ (r : PlaceStep) (is : (variables : List ℕ) (places : List Place) → length places ≡ count
       → sum (map (coloursOf (scope sets variables [])) places) ≡ total → placePart s (scope sets variables []) places at ≡ placeStep places r) (room : PlaceRoom sets (length s) count total at r) where
-    said : (variables : List ℕ) → placePart s (scope sets variables []) (fronts firsts seconds count) at ≡ placeStep (fronts firsts seconds count) r
-    said variables = is variables (fronts firsts seconds count) (here .started .are) (here .started .all)
+    said : (variables : List ℕ) → placePart s (scope sets variables []) (front kinds count) at ≡ placeStep (front kinds count) r
+    said variables = is variables (front kinds count) (here .started .are) (here .started .all)
 
-    pub placing-one : {a more next : ℕ} → r ≡ One a more next → Placing s sets start (set firsts count a) (set seconds count 255) (set starts (count + 1) more) (count + 1) more next
-    placing-one {a} {more} {next} e =
+    pub placing-one : {a more next : ℕ} → a < 256 → r ≡ One a more next → Placing s sets start (set kinds count (65280 + a)) (set starts (count + 1) more) (count + 1) more next
+    placing-one {a} {more} {next} byte e =
         let h = rw e at room in
-        placing-goes a 255 more next (h .0) (h .1) (h .2 ∙ ap (λ k. total + k) (sym (mul-one (getD sets a 0)))) (h .3) (h .4) (λ variables. rw e at (said variables))
+        placing-goes (65280 + a) (single a) more next (place-one a byte) (h .0) (h .1) (h .2 ∙ ap (λ k. total + k) (sym (mul-one (getD sets a 0)))) (h .3) (h .4) (λ variables. rw e at (said variables))
 
-    pub placing-two : {a b more next : ℕ} → length sets ≤ 16 → r ≡ Two a b more next → Placing s sets start (set firsts count a) (set seconds count b) (set starts (count + 1) more) (count + 1) more next
-    placing-two {a} {b} {more} {next} few e =
+    pub placing-two : {a b more next : ℕ} → a < 256 → length sets ≤ 16 → r ≡ Two a b more next
+        → Placing s sets start (set kinds count (a + 256 * b)) (set starts (count + 1) more) (count + 1) more next
+    placing-two {a} {b} {more} {next} byte few e =
         let h = rw e at room in
-        let z : placeOf a b ≡ pair a b = rw (ne-eqb b 255 (λ q. omega arith)) in
-        placing-goes a b more next (h .0) (h .1) (h .2 ∙ ap (λ k. total + k) (ap (λ k. getD sets a 0 * k) (sym (mul-one (getD sets b 0))) ∙ ap (coloursOf (scope sets [] [])) (sym z))) (h .3) (h .4)
-        (λ variables. rw z (rw e at (said variables)))
+        placing-goes (a + 256 * b) (pair a b) more next (place-two a b byte (omega (arith, h .5))) (h .0) (h .1)
+        (h .2 ∙ ap (λ k. total + getD sets a 0 * k) (sym (mul-one (getD sets b 0)))) (h .3) (h .4) (λ variables. rw e at (said variables))
 
-    pub placing-ends : r ≡ Done → (variables : List ℕ) → fine (fronts firsts seconds count) at ≡ whole s (placePart s (scope sets variables [])) [] start
+    pub placing-ends : r ≡ Done → (variables : List ℕ) → fine (front kinds count) at ≡ whole s (placePart s (scope sets variables [])) [] start
     placing-ends e variables = ends s (placePart s (scope sets variables [])) (here .reading variables) (rw e at (said variables))
 
     pub placing-stops : {k p : ℕ} → r ≡ Stop k p → (variables : List ℕ) → fault k p ≡ whole s (placePart s (scope sets variables [])) [] start

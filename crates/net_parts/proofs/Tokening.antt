@@ -159,20 +159,23 @@ module _ (s : List ℕ) (n : Net) (tokens : List Tokens) (at : ℕ) where
 -- a table over the flat places, with one more of the tokens
 module _ {n : Net} {starts : List ℕ} {count total : ℕ} (begun : Started n (n .places) starts count total) where
   pub holds-more : (value : Option Tokens → ℕ) (tokens : List Tokens) (table : List ℕ) (x : Tokens) {new : ℕ} → new ≡ value (some x)
-      → x .place < count → x .rank < coloursOf n (placeAt n (x .place)) → flatAt starts (x .place) (x .rank) < length table
+      → x .place < count → x .rank < coloursOf n (placeAt n (x .place))
       → tokensOn tokens (x .place) (x .rank) ≡ none → Holds n tokens value starts table → Holds n (with tokens x) value starts (set table (flatAt starts (x .place) (x .rank)) new)
-  holds-more value tokens table x {new} e pl rl room fresh here p rank known fit = go (eqb (x .place) p) (eqb (x .rank) rank) refl refl
+  holds-more value tokens table x {new} e pl rl fresh here p rank known fit reached = go (eqb (x .place) p) (eqb (x .rank) rank) refl refl
     where
+      reaches : flatAt starts p rank < length table
+      reaches = omega (arith, length-set table (flatAt starts (x .place) (x .rank)) new)
+
       apart-flat : (flatAt starts p rank ≡ flatAt starts (x .place) (x .rank) → ⊥) → eqb (x .place) p && eqb (x .rank) rank ≡ false
           → getD (set table (flatAt starts (x .place) (x .rank)) new) (flatAt starts p rank) 0 ≡ value (tokensOn (with tokens x) p rank)
-      apart-flat ne q = getD-set-other table (flatAt starts (x .place) (x .rank)) (flatAt starts p rank) new 0 ne ∙ here p rank known fit
+      apart-flat ne q = getD-set-other table (flatAt starts (x .place) (x .rank)) (flatAt starts p rank) new 0 ne ∙ here p rank known fit reaches
           ∙ ap value (sym (find-same (λ t. eqb (t .place) p && eqb (t .rank) rank) tokens x q))
 
       go : (a b : Bool) → eqb (x .place) p ≡ a → eqb (x .rank) rank ≡ b
           → getD (set table (flatAt starts (x .place) (x .rank)) new) (flatAt starts p rank) 0 ≡ value (tokensOn (with tokens x) p rank)
       go true true q z =
           let u = eqb-true (x .place) p q in let w = eqb-true (x .rank) rank z in
-          rw (← u, ← w) (getD-set-same table (flatAt starts (x .place) (x .rank)) new 0 room ∙ e
+          rw (← u, ← w) (getD-set-same table (flatAt starts (x .place) (x .rank)) new 0 (rw (u, w) reaches) ∙ e
           ∙ ap value (sym (find-new (λ t. eqb (t .place) (x .place) && eqb (t .rank) (x .rank)) tokens x fresh (both-hold (eqb (x .place) (x .place)) (eqb (x .rank) (x .rank)) (eq-eqb (x .place) (x .place) refl) (eq-eqb (x .rank) (x .rank) refl)))))
       go false b q z = apart-flat
           (λ same. eqb-false (x .place) p q (apart begun (x .place) p (x .rank) rank pl (omega (arith, begun .are)) rl fit (sym same))) (first-fails (eqb (x .place) p) (eqb (x .rank) rank) q)
@@ -181,7 +184,7 @@ module _ {n : Net} {starts : List ℕ} {count total : ℕ} (begun : Started n (n
 
   pub holds-none : (value : Option Tokens → ℕ) (table : List ℕ) → value none ≡ 0 → ((i : ℕ) → i < total → getD table i 0 ≡ 0) → Holds n [] value starts table
   unfolding find
-  holds-none value table e zeros p rank known fit =
+  holds-none value table e zeros p rank known fit reached =
       let a : p < count = omega (arith, begun .are) in
       let b = starts-next begun p a in let c = starts-rise begun (p + 1) count (omega arith) (omega arith) in
       zeros (flatAt starts p rank) (omega (arith, starts-last begun)) ∙ sym e
@@ -194,13 +197,13 @@ pub record Tokening (s : List ℕ) (n : Net) (start : ℕ) (starts initial named
   pub names : Holds n tokens flag starts named
 
 -- over every net whose flat places begin so
-pub record TokenLoop (s starts : List ℕ) (count total start : ℕ) (initial named : List ℕ) (at : ℕ) : Type 0 where
-  pub counted : length initial ≡ 4096
+pub record TokenLoop (s starts : List ℕ) (count total start len : ℕ) (initial named : List ℕ) (at : ℕ) : Type 0 where
+  pub counted : length initial ≡ len
   pub marked : length named ≡ 4096
   pub each : (n : Net) → Started n (n .places) starts count total → Tokening s n start starts initial named at
 
-pub tokening-begins : {s starts : List ℕ} {count total start : ℕ} (initial named : List ℕ) → length initial ≡ 4096 → length named ≡ 4096
-    → ((i : ℕ) → i < total → getD initial i 0 ≡ 0) → ((i : ℕ) → i < total → getD named i 0 ≡ 0) → TokenLoop s starts count total start initial named start
+pub tokening-begins : {s starts : List ℕ} {count total start len : ℕ} (initial named : List ℕ) → length initial ≡ len → length named ≡ 4096
+    → ((i : ℕ) → i < total → getD initial i 0 ≡ 0) → ((i : ℕ) → i < total → getD named i 0 ≡ 0) → TokenLoop s starts count total start len initial named start
 tokening-begins {s} {starts} {count} {total} {start} initial named a b f g = record {
   counted = a;
   marked = b;
@@ -212,7 +215,7 @@ tokening-begins {s} {starts} {count} {total} {start} initial named a b f g = rec
   };
 }
 
-module _ {s starts : List ℕ} {count total start : ℕ} {initial named : List ℕ} {at : ℕ} (here : TokenLoop s starts count total start initial named at) (r : TokenStep)
+module _ {s starts : List ℕ} {count total start len : ℕ} {initial named : List ℕ} {at : ℕ} (here : TokenLoop s starts count total start len initial named at) (r : TokenStep)
     (is : (n : Net) (tokens : List Tokens) → Started n (n .places) starts count total → Holds n tokens flag starts named → tokensPart s n tokens at ≡ tokenStep tokens r)
     (room : TokenRoom starts named (length s) count at r) where
   pub tokening-ends : r ≡ Done → (n : Net) → Started n (n .places) starts count total → TokensRead s n start starts initial at
@@ -228,7 +231,7 @@ module _ {s starts : List ℕ} {count total start : ℕ} {initial named : List �
   token-below rises {p} e = let h = rw e at room in omega (arith, h .2, rises .bound p (h .0), rises .small)
 
   pub tokening-goes : Rising starts count total → {p rank amount flat next : ℕ} → r ≡ More p rank amount flat next
-      → TokenLoop s starts count total start (set initial flat amount) (set named flat 1) next
+      → TokenLoop s starts count total start len (set initial flat amount) (set named flat 1) next
   tokening-goes rises {p} {rank} {amount} {flat} {next} e = record {
     counted = length-set initial flat amount ∙ here .counted;
     marked = length-set named flat 1 ∙ here .marked;
@@ -244,11 +247,11 @@ module _ {s starts : List ℕ} {count total start : ℕ} {initial named : List �
       step : (n : Net) → Started n (n .places) starts count total → Tokening s n start starts initial named at → Tokening s n start starts (set initial flat amount) (set named flat 1) next
       step n begun now =
           let fit : rank < coloursOf n (placeAt n p) = omega (arith, h .1, h .2, starts-next begun p (h .0)) in
-          let fresh : tokensOn (now .tokens) p rank ≡ none = unnamed (tokensOn (now .tokens) p rank) (sym (now .names p rank (omega (arith, h .0, begun .are)) fit) ∙ (rw (h .1) at (h .5))) in
+          let fresh : tokensOn (now .tokens) p rank ≡ none = unnamed (tokensOn (now .tokens) p rank) (sym (now .names p rank (omega (arith, h .0, begun .are)) fit (omega (arith, h .1, below, here .marked))) ∙ (rw (h .1) at (h .5))) in
           let x : Tokens = record { place = p; rank = rank; count = amount } in
           record {
             tokens = with (now .tokens) x;
             reading = goes-on s (tokensPart s n) (with (now .tokens) x) next (now .reading) (h .3) (h .4) (rw e at (is n (now .tokens) begun (now .names)));
-            counts = rw (h .1) (holds-more begun countOf (now .tokens) initial x refl (h .0) fit (omega (arith, h .1, below, here .counted)) fresh (now .counts));
-            names = rw (h .1) (holds-more begun flag (now .tokens) named x refl (h .0) fit (omega (arith, h .1, below, here .marked)) fresh (now .names));
+            counts = rw (h .1) (holds-more begun countOf (now .tokens) initial x refl (h .0) fit fresh (now .counts));
+            names = rw (h .1) (holds-more begun flag (now .tokens) named x refl (h .0) fit fresh (now .names));
           }

@@ -1,22 +1,24 @@
-// Fronts of lent tables set to 0.
+// The front of a lent table set to 0.
 ghost use mathlib.Core.Path.{_≡_};
 ghost use Prim.Native.Nat.{ℕ, _≤_, _<_};
 ghost use lib.ListN.{length, getD};
 
 // The first n words.
 pub fn clear_words(l: &mut [u16], n: usize)
-    requires { ⌜ n ≤ length (now l) ⌝ }
     ensures { λ r. ⌜ ((i : ℕ) → i < n → getD (now (l .exit)) i 0 ≡ 0) ⌝ }
 {
     let mut i = 0;
     while i < n {
+        if l.len() <= i {
+            return;
+        }
         l[i] = 0;
         i += 1;
     }
 }
 
-// The first n bytes.
-pub fn clear_bytes(l: &mut [u8], n: usize)
+// The first n slots.
+pub fn clear_slots(l: &mut [u32], n: usize)
     requires { ⌜ n ≤ length (now l) ⌝ }
     ensures { λ r. ⌜ ((i : ℕ) → i < n → getD (now (l .exit)) i 0 ≡ 0) ⌝ }
 {

@@ -3,7 +3,7 @@ mod clear;
 mod place;
 mod token;
 
-pub use clear::clear_words;
+pub use clear::clear_slots;
 use net::after;
 use net::entry;
 pub use place::read_places;

@@ -1,4 +1,4 @@
-// The place part: each place's sets and its first flat place go into lent tables.
+// The place part: each place's sets, in one word, and its first flat place go into lent tables.
 use crate::Part;
 use crate::PlaceStep;
 use crate::place_at;
@@ -15,18 +15,16 @@ ghost use Rattle.net_parts.specs.internal.Tables.{placesRead, PlacesHeld
 pub fn read_places(
     s: &[u8],
     sets: &[u8],
-    firsts: &mut [u8],
-    seconds: &mut [u8],
+    kinds: &mut [u16],
     starts: &mut [usize],
     start: usize,
 ) -> Part
     requires { ⌜ length (now sets) ≤ 16 ⌝ }
-    requires { ⌜ length (now firsts) ≡ 32 ⌝ }
-    requires { ⌜ length (now seconds) ≡ 32 ⌝ }
+    requires { ⌜ length (now kinds) ≡ 32 ⌝ }
     requires { ⌜ length (now starts) ≡ 33 ⌝ }
-    ensures is { λ r. ⌜ ((variables : List ℕ) → placesRead (now (firsts .exit)) (now (seconds .exit)) r
+    ensures is { λ r. ⌜ ((variables : List ℕ) → placesRead (now (kinds .exit)) r
         ≡ whole (now (s .entry)) (placePart (now (s .entry)) (scope (now (sets .entry)) variables [])) [] start) ⌝ }
-    ensures held { λ r. ⌜ PlacesHeld (now (sets .entry)) (now (firsts .exit)) (now (seconds .exit)) (now (starts .exit)) r ⌝ }
+    ensures held { λ r. ⌜ PlacesHeld (now (sets .entry)) (now (kinds .exit)) (now (starts .exit)) r ⌝ }
 {
     let mut count: usize = 0;
     let mut total: usize = 0;
@@ -45,8 +43,7 @@ pub fn read_places(
                 total: more,
                 next,
             } => {
-                firsts[count] = set;
-                seconds[count] = 255;
+                kinds[count] = 65280 + set as u16;
                 starts[count + 1] = more;
                 count += 1;
                 total = more;
@@ -58,8 +55,7 @@ pub fn read_places(
                 total: more,
                 next,
             } => {
-                firsts[count] = first;
-                seconds[count] = second;
+                kinds[count] = first as u16 + 256 * (second as u16);
                 starts[count + 1] = more;
                 count += 1;
                 total = more;

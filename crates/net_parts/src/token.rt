@@ -1,13 +1,12 @@
 // The tokens part: the initial count of each flat place goes into a lent table.
 use crate::Part;
-use crate::clear::clear_bytes;
 use crate::clear::clear_words;
 use net::after;
 use reading::word_at;
 ghost use mathlib.Core.Path.{_≡_};
 ghost use mathlib.Core.List.{List};
-ghost use Prim.Native.Nat.{_≤_, _<_};
-ghost use lib.ListN.{length};
+ghost use Prim.Native.Nat.{ℕ, _≤_, _<_};
+ghost use lib.ListN.{length, getD, set};
 ghost use Rattle.net.specs.Net.{Net, Tokens};
 ghost use Rattle.net_parts.specs.Parts.{tokensPart};
 ghost use Rattle.net_parts.specs.internal.Steps.{Bare};
@@ -82,8 +81,17 @@ fn token_at(
     TokenStep::Done
 }
 
-// The tokens part, over places whose flat places begin so; named is for the reading alone.
-pub fn read_tokens(
+// Stores a count; past the end it stores nothing.
+fn store(initial: &mut [u16], flat: usize, count: u16)
+    ensures { λ _. ⌜ now (initial .exit) ≡ set (now (initial .entry)) flat count ⌝ }
+{
+    if flat < initial.len() {
+        initial[flat] = count;
+    }
+}
+
+// The tokens part, over places whose flat places begin so, with a table for marks that has none yet. Counts are stored as far as theirs reaches.
+fn read_marked(
     s: &[u8],
     starts: &[usize],
     places: usize,
@@ -93,14 +101,13 @@ pub fn read_tokens(
     start: usize,
 ) -> Part
     requires { ⌜ Rising (now starts) places total ⌝ }
-    requires { ⌜ length (now initial) ≡ 4096 ⌝ }
     requires { ⌜ length (now named) ≡ 4096 ⌝ }
+    requires { ⌜ ((i : ℕ) → i < total → getD (now named) i 0 ≡ 0) ⌝ }
     ensures bare { λ r. ⌜ Bare r ⌝ }
     ensures told { λ r. ⌜ ((n : Net) → Started n (n .places) (now (starts .entry)) places total
         → TokensTold (now (s .entry)) n start (now (starts .entry)) (now (initial .exit)) r) ⌝ }
 {
     clear_words(initial, total);
-    clear_bytes(named, total);
     let mut at = start;
     loop {
         match token_at(s, starts, places, total, named, at) {
@@ -117,10 +124,28 @@ pub fn read_tokens(
                 flat,
                 next,
             } => {
-                initial[flat] = count;
+                store(initial, flat, count);
                 named[flat] = 1;
                 at = next;
             }
         }
     }
+}
+
+// The same, with marks of its own.
+pub fn read_tokens(
+    s: &[u8],
+    starts: &[usize],
+    places: usize,
+    total: usize,
+    initial: &mut [u16],
+    start: usize,
+) -> Part
+    requires { ⌜ Rising (now starts) places total ⌝ }
+    ensures bare { λ r. ⌜ Bare r ⌝ }
+    ensures told { λ r. ⌜ ((n : Net) → Started n (n .places) (now (starts .entry)) places total
+        → TokensTold (now (s .entry)) n start (now (starts .entry)) (now (initial .exit)) r) ⌝ }
+{
+    let mut named = [0u8; 4096];
+    read_marked(s, starts, places, total, initial, &mut named, start)
 }

@@ -31,26 +31,20 @@ pub fn sizes_of(net: &[u8]) -> NetReply
 {
     let mut sizes = [0u8; 16];
     let mut vars = [0u8; 32];
-    let mut firsts = [0u8; 32];
-    let mut seconds = [0u8; 32];
+    let mut kinds = [0u16; 32];
     let mut starts = [0usize; 33];
-    let mut uses = [0u32; 32];
-    let mut guards = [0u16; 32];
-    let mut arcs = [0u16; 3072];
-    let mut initial = [0u16; 4096];
-    let mut named = [0u8; 4096];
+    let mut heads = [0u32; 64];
+    let mut arcs = [0u32; 3072];
+    let mut initial = [0u16; 0];
     match read_net(
         net,
         &mut sizes,
         &mut vars,
-        &mut firsts,
-        &mut seconds,
+        &mut kinds,
         &mut starts,
-        &mut uses,
-        &mut guards,
+        &mut heads,
         &mut arcs,
         &mut initial,
-        &mut named,
     ) {
         NetRead::Refused { number, place } => NetReply::Refused { number, place },
         NetRead::Whole {

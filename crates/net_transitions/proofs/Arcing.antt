@@ -14,7 +14,7 @@ use Rattle.reading.proofs.Parts.{Reading, begins, goes-on, ends, stops}
 use Rattle.net.specs.Net.{Expression, Place, single, Arc, Net, placeAt, arcOn, ceiling, inExpression, scope}
 use Rattle.net.specs.Reader.{widthOf, readExpression}
 use Rattle.net_transitions.specs.Transitions.{arcPart}
-use Rattle.net.specs.internal.ReaderEnums.{bits, told, placeOf}
+use Rattle.net.specs.internal.ReaderEnums.{bits, told, placeIn}
 use Rattle.arc_expressions.specs.internal.ReaderEnums.{expressionTold}
 use Rattle.net_parts.specs.internal.Tables.{placesOf}
 use Rattle.net_transitions.specs.internal.TransitionTables.{over, Standing, Slot, RowHolds, ArcRead, ArcTold, ArcRoom, ArcsRead}
@@ -29,12 +29,11 @@ use Rattle.net_parts.proofs.Tokening.{find-new, find-same}
 use Rattle.net.proofs.Inside.{expression-ends}
 
 -- the place of a number, by its sets
-pub place-at : (f g : List ℕ) (p : ℕ) → p < length f → length g ≡ length f → getD (placesOf f g) p (single 0) ≡ placeOf (getD f p 0) (getD g p 0)
+pub place-at : (kinds : List ℕ) (p : ℕ) → p < length kinds → getD (placesOf kinds) p (single 0) ≡ placeIn (getD kinds p 0)
 unfolding placesOf
-place-at [] g p lt e = absurd (omega arith)
-place-at (a ∷ f) [] p lt e = absurd (omega arith)
-place-at (a ∷ f) (b ∷ g) zero lt e = refl
-place-at (a ∷ f) (b ∷ g) (suc p) lt e = place-at f g p (omega arith) (omega arith)
+place-at [] p lt = absurd (omega arith)
+place-at (k ∷ kinds) zero lt = refl
+place-at (k ∷ kinds) (suc p) lt = place-at kinds p (omega arith)
 
 -- ---- slots
 pub slot-empty : {A : Type 0} (reads : ℕ → Answer A) (o : Option A) (at : ℕ) → at ≡ 0 → Slot reads o at → o ≡ none
@@ -266,7 +265,7 @@ module _ {s : List ℕ} {n : Net} {start : ℕ} {row : List ℕ} {uses at : ℕ}
             used = joined x (here .used) (h .used);
           }
 
--- ---- a step of the code, over places by their sets in two lists
+-- ---- a step of the code, over places by their sets
 module _ (s : List ℕ) (at : ℕ) (low : 0x16 ≤ byteAt s at) (high : byteAt s at ≤ 0x18) where
   kind-is : byteAt s at - 0x16 < 3
   kind-is = omega arith
@@ -280,38 +279,38 @@ module _ (s : List ℕ) (at : ℕ) (low : 0x16 ≤ byteAt s at) (high : byteAt s
   after-arc {next} is-next =
       by-kind (λ k. byteAt s at ≡ 0x16 + k → next ≡ at + 2) (byteAt s at - 0x16) kind-is (λ e. is-next 1 (ap widthOf e)) (λ e. is-next 1 (ap widthOf e)) (λ e. is-next 1 (ap widthOf e)) stands-there
 
-module _ (s sizes vars f g row : List ℕ) (at : ℕ) (even : length g ≡ length f) (low : 0x16 ≤ byteAt s at) (high : byteAt s at ≤ 0x18) {next : ℕ} (is-next : next ≡ at + 2) where
-  pub step-cut : length s < next → (arcs : List Arc) → arcPart s (over sizes vars f g) arcs at ≡ some (fault 2 (length s))
-  step-cut lt arcs = arcs-cut s (over sizes vars f g) arcs at (byteAt s at - 0x16) (kind-is s at low high) (stands-there s at low high) (rw is-next at lt)
+module _ (s sizes vars kinds row : List ℕ) (at : ℕ) (low : 0x16 ≤ byteAt s at) (high : byteAt s at ≤ 0x18) {next : ℕ} (is-next : next ≡ at + 2) where
+  pub step-cut : length s < next → (arcs : List Arc) → arcPart s (over sizes vars kinds) arcs at ≡ some (fault 2 (length s))
+  step-cut lt arcs = arcs-cut s (over sizes vars kinds) arcs at (byteAt s at - 0x16) (kind-is s at low high) (stands-there s at low high) (rw is-next at lt)
 
   module _ (whole-there : next ≤ length s) where
-    pub step-no-place : length f ≤ byteAt s (at + 1) → (arcs : List Arc) → arcPart s (over sizes vars f g) arcs at ≡ some (fault 5 at)
+    pub step-no-place : length kinds ≤ byteAt s (at + 1) → (arcs : List Arc) → arcPart s (over sizes vars kinds) arcs at ≡ some (fault 5 at)
     step-no-place le arcs =
-        arcs-no-place s (over sizes vars f g) arcs at (byteAt s at - 0x16) (kind-is s at low high) (stands-there s at low high) (rw is-next at whole-there) (byteAt s (at + 1)) refl (rw (length-places f g (sym even)) le)
+        arcs-no-place s (over sizes vars kinds) arcs at (byteAt s at - 0x16) (kind-is s at low high) (stands-there s at low high) (rw is-next at whole-there) (byteAt s (at + 1)) refl (rw (length-places kinds) le)
 
-    module _ (lt : byteAt s (at + 1) < length f) where
-      known-place : byteAt s (at + 1) < length (placesOf f g)
-      known-place = rw (length-places f g (sym even)) lt
+    module _ (lt : byteAt s (at + 1) < length kinds) where
+      known-place : byteAt s (at + 1) < length (placesOf kinds)
+      known-place = rw (length-places kinds) lt
 
-      pub step-again : 0 < getD row ((byteAt s at - 0x16) * 32 + byteAt s (at + 1)) 0 → (arcs : List Arc) → RowHolds s (over sizes vars f g) arcs (λ i. getD row i 0) → arcPart s (over sizes vars f g) arcs at ≡ some (fault 9 at)
-      step-again full arcs holds = arc-again s (over sizes vars f g) arcs at row holds (byteAt s at - 0x16) (kind-is s at low high) (stands-there s at low high) (rw is-next at whole-there) (byteAt s (at + 1)) refl known-place full
+      pub step-again : 0 < getD row ((byteAt s at - 0x16) * 32 + byteAt s (at + 1)) 0 → (arcs : List Arc) → RowHolds s (over sizes vars kinds) arcs (λ i. getD row i 0) → arcPart s (over sizes vars kinds) arcs at ≡ some (fault 9 at)
+      step-again full arcs holds = arc-again s (over sizes vars kinds) arcs at row holds (byteAt s at - 0x16) (kind-is s at low high) (stands-there s at low high) (rw is-next at whole-there) (byteAt s (at + 1)) refl known-place full
 
       module _ (free : getD row ((byteAt s at - 0x16) * 32 + byteAt s (at + 1)) 0 ≡ 0) {r : Read}
-          (e : (places : List Place) → r ≡ expressionTold (readExpression s (scope sizes vars places) (placeOf (getD f (byteAt s (at + 1)) 0) (getD g (byteAt s (at + 1)) 0)) 16 next)) where
-        told-there : r ≡ expressionTold (readExpression s (over sizes vars f g) (placeAt (over sizes vars f g) (byteAt s (at + 1))) 16 (at + 2))
-        told-there = rw (place-at f g (byteAt s (at + 1)) lt even) (rw is-next at (e (placesOf f g)))
+          (e : (places : List Place) → r ≡ expressionTold (readExpression s (scope sizes vars places) (placeIn (getD kinds (byteAt s (at + 1)) 0)) 16 next)) where
+        told-there : r ≡ expressionTold (readExpression s (over sizes vars kinds) (placeAt (over sizes vars kinds) (byteAt s (at + 1))) 16 (at + 2))
+        told-there = rw (place-at kinds (byteAt s (at + 1)) lt) (rw is-next at (e (placesOf kinds)))
 
-        pub step-fault : {k p : ℕ} → r ≡ read.Fault k p → (arcs : List Arc) → RowHolds s (over sizes vars f g) arcs (λ i. getD row i 0) → arcPart s (over sizes vars f g) arcs at ≡ some (fault k p)
+        pub step-fault : {k p : ℕ} → r ≡ read.Fault k p → (arcs : List Arc) → RowHolds s (over sizes vars kinds) arcs (λ i. getD row i 0) → arcPart s (over sizes vars kinds) arcs at ≡ some (fault k p)
         step-fault q arcs holds =
-            arc-fault s (over sizes vars f g) arcs at row holds (byteAt s at - 0x16) (kind-is s at low high) (stands-there s at low high) (rw is-next at whole-there) (byteAt s (at + 1)) refl known-place free (sym q ∙ told-there)
+            arc-fault s (over sizes vars kinds) arcs at row holds (byteAt s at - 0x16) (kind-is s at low high) (stands-there s at low high) (rw is-next at whole-there) (byteAt s (at + 1)) refl known-place free (sym q ∙ told-there)
 
-        pub step-read : {end m uses : ℕ} → r ≡ read.Whole end m uses → (arcs : List Arc) → RowHolds s (over sizes vars f g) arcs (λ i. getD row i 0)
-            → ArcRead s (over sizes vars f g) arcs at row ((byteAt s at - 0x16) * 32 + byteAt s (at + 1)) uses end
+        pub step-read : {end m uses : ℕ} → r ≡ read.Whole end m uses → (arcs : List Arc) → RowHolds s (over sizes vars kinds) arcs (λ i. getD row i 0)
+            → ArcRead s (over sizes vars kinds) arcs at row ((byteAt s at - 0x16) * 32 + byteAt s (at + 1)) uses end
         step-read q arcs holds =
-            arc-read s (over sizes vars f g) arcs at row holds (byteAt s at - 0x16) (kind-is s at low high) (stands-there s at low high) (rw is-next at whole-there) (byteAt s (at + 1)) refl known-place free (sym q ∙ told-there)
+            arc-read s (over sizes vars kinds) arcs at row holds (byteAt s at - 0x16) (kind-is s at low high) (stands-there s at low high) (rw is-next at whole-there) (byteAt s (at + 1)) refl known-place free (sym q ∙ told-there)
 
         pub step-within : {end m uses : ℕ} → r ≡ read.Whole end m uses → (at + 2 < end) × (end ≤ length s)
-        step-within q = expression-within s (over sizes vars f g) (placeAt (over sizes vars f g) (byteAt s (at + 1))) 16 (at + 2) (sym q ∙ told-there)
+        step-within q = expression-within s (over sizes vars kinds) (placeAt (over sizes vars kinds) (byteAt s (at + 1))) 16 (at + 2) (sym q ∙ told-there)
 
 -- ---- for callers: what a slot says of the arc of a kind on a place
 pub record ArcThere (s : List ℕ) (n : Net) (arcs : List Arc) (k p at : ℕ) : Type 0 where

@@ -16,27 +16,51 @@ use Rattle.net_transitions.specs.declared.transition.TransitionStep.{Tra
 use Rattle.net_transitions.specs.declared.transition.TransitionStep.the-variants.{Done, More, Stop}
 use Rattle.net_transitions.proofs.Transitioning.{row-same}
 
+-- a transition's variables and its guard's place put down: the entries are there, and those before are as they were
+abbrev pub headed : List ℕ → ℕ → ℕ → ℕ → List ℕ
+headed heads count used guard = set (set heads count used) (32 + count) guard
+
+module _ (heads : List ℕ) (count used guard : ℕ) (lt : count < 32) (sized : length heads ≡ 64) where
+  headed-sized : length (headed heads count used guard) ≡ 64
+  headed-sized = length-set (set heads count used) (32 + count) guard ∙ length-set heads count used ∙ sized
+
+  headed-guard : getD (headed heads count used guard) (32 + count) 0 ≡ guard
+  headed-guard = getD-set-same (set heads count used) (32 + count) guard 0 (omega (arith, length-set heads count used))
+
+  headed-uses : getD (headed heads count used guard) count 0 ≡ used
+  headed-uses = getD-set-other (set heads count used) (32 + count) count guard 0 (λ z. omega arith) ∙ getD-set-same heads count used 0 (omega arith)
+
+  headed-other : (i : ℕ) → (i ≡ count → ⊥) → (i ≡ 32 + count → ⊥) → getD (headed heads count used guard) i 0 ≡ getD heads i 0
+  headed-other i ne nf = getD-set-other (set heads count used) (32 + count) i guard 0 nf ∙ getD-set-other heads count i used 0 ne
+
 -- one more transition, with its row in the table
-module _ (s : List ℕ) (n : Net) (few : length (n .places) ≤ 32) (uses guards arcs left : List ℕ) (ts : List Transition) (count : ℕ) (are : length ts ≡ count)
-    (uses-room : count < length uses) (guards-room : count < length guards) (kept : (i : ℕ) → i < count * 96 → getD left i 0 ≡ getD arcs i 0) where
-  pub transitions-more : (x : Transition) (guard used : ℕ) → TransitionHolds s n x guard used (λ i. getD left (count * 96 + i) 0) → TransitionsHold s n ts uses guards arcs
-      → TransitionsHold s n (with ts x) (set uses count used) (set guards count guard) left
+module _ (s : List ℕ) (n : Net) (few : length (n .places) ≤ 32) (heads arcs left : List ℕ) (ts : List Transition) (count : ℕ) (are : length ts ≡ count)
+    (room : count < 32) (sized : length heads ≡ 64) (kept : (i : ℕ) → i < count * 96 → getD left i 0 ≡ getD arcs i 0) where
+  pub transitions-more : (x : Transition) (guard used : ℕ) → TransitionHolds s n x guard used (λ i. getD left (count * 96 + i) 0) → TransitionsHold s n ts heads arcs
+      → TransitionsHold s n (with ts x) (headed heads count used guard) left
   transitions-more x guard used new here t lt = ⊎-elim last earlier (eq-or-lt-of-le (let h : t ≤ count = omega (arith, length-append ts (x ∷ [])) in h))
     where
-      is-there : TransitionHolds s n (getD (with ts x) count noTransition) (getD (set guards count guard) count 0) (getD (set uses count used) count 0) (λ i. getD left (count * 96 + i) 0)
+      now : List ℕ
+      now = headed heads count used guard
+
+      is-there : TransitionHolds s n (getD (with ts x) count noTransition) (getD now (32 + count) 0) (getD now count 0) (λ i. getD left (count * 96 + i) 0)
       is-there = rw (
         ap (λ k. getD (with ts x) k noTransition) (sym are) ∙ getD-append-seam ts x [] noTransition,
-        getD-set-same guards count guard 0 guards-room,
-        getD-set-same uses count used 0 uses-room,
+        headed-guard heads count used guard room sized,
+        headed-uses heads count used guard room sized,
       ) new
 
-      last : t ≡ count → TransitionHolds s n (getD (with ts x) t noTransition) (getD (set guards count guard) t 0) (getD (set uses count used) t 0) (λ i. getD left (t * 96 + i) 0)
+      last : t ≡ count → TransitionHolds s n (getD (with ts x) t noTransition) (getD now (32 + t) 0) (getD now t 0) (λ i. getD left (t * 96 + i) 0)
       last e = rw e is-there
 
-      earlier : t < count → TransitionHolds s n (getD (with ts x) t noTransition) (getD (set guards count guard) t 0) (getD (set uses count used) t 0) (λ i. getD left (t * 96 + i) 0)
+      earlier : t < count → TransitionHolds s n (getD (with ts x) t noTransition) (getD now (32 + t) 0) (getD now t 0) (λ i. getD left (t * 96 + i) 0)
       earlier l =
           let old = here t (omega arith) in
-          rw (List·getD-append ts (x ∷ []) noTransition t (omega arith), getD-set-other guards count t guard 0 (λ z. omega arith), getD-set-other uses count t used 0 (λ z. omega arith))
+          rw (
+            List·getD-append ts (x ∷ []) noTransition t (omega arith),
+            headed-other heads count used guard room sized (32 + t) (λ z. omega arith) (λ z. omega arith),
+            headed-other heads count used guard room sized t (λ z. omega arith) (λ z. omega arith),
+          )
           (record {
             guarded = old .guarded;
             arced = row-same s n few (λ i. getD arcs (t * 96 + i) 0) (λ i. getD left (t * 96 + i) 0) (λ i z. sym (kept (t * 96 + i) (omega arith))) _ (old .arced);
@@ -45,9 +69,9 @@ module _ (s : List ℕ) (n : Net) (few : length (n .places) ≤ 32) (uses guards
           })
 
 -- the rows of the transitions so far are as they were
-pub transitions-kept : (s : List ℕ) (n : Net) → length (n .places) ≤ 32 → (uses guards arcs left : List ℕ) (ts : List Transition) (count : ℕ) → length ts ≡ count
-    → ((i : ℕ) → i < count * 96 → getD left i 0 ≡ getD arcs i 0) → TransitionsHold s n ts uses guards arcs → TransitionsHold s n ts uses guards left
-transitions-kept s n few uses guards arcs left ts count are kept here t lt =
+pub transitions-kept : (s : List ℕ) (n : Net) → length (n .places) ≤ 32 → (heads arcs left : List ℕ) (ts : List Transition) (count : ℕ) → length ts ≡ count
+    → ((i : ℕ) → i < count * 96 → getD left i 0 ≡ getD arcs i 0) → TransitionsHold s n ts heads arcs → TransitionsHold s n ts heads left
+transitions-kept s n few heads arcs left ts count are kept here t lt =
     let old = here t lt in
     record {
       guarded = old .guarded;
@@ -56,9 +80,8 @@ transitions-kept s n few uses guards arcs left ts count are kept here t lt =
       few = old .few;
     }
 
-pub record Passing (s : List ℕ) (n : Net) (start : ℕ) (uses guards arcs : List ℕ) (count space at : ℕ) : Type 0 where
-  pub uses-sized : length uses ≡ 32
-  pub guards-sized : length guards ≡ 32
+pub record Passing (s : List ℕ) (n : Net) (start : ℕ) (heads arcs : List ℕ) (count space at : ℕ) : Type 0 where
+  pub sized : length heads ≡ 64
   pub arcs-sized : length arcs ≡ 3072
   pub transitions : List Transition
   pub are : length transitions ≡ count
@@ -66,12 +89,11 @@ pub record Passing (s : List ℕ) (n : Net) (start : ℕ) (uses guards arcs : Li
   pub wide : bindingSpace n transitions ≡ space
   pub bounded : space ≤ 65536
   pub reading : Reading s (transitionPart s n) transitions at (whole s (transitionPart s n) [] start)
-  pub holds : TransitionsHold s n transitions uses guards arcs
+  pub holds : TransitionsHold s n transitions heads arcs
 
-pub passing-begins : (s : List ℕ) (n : Net) (start : ℕ) (uses guards arcs : List ℕ) → length uses ≡ 32 → length guards ≡ 32 → length arcs ≡ 3072 → Passing s n start uses guards arcs 0 0 start
-passing-begins s n start uses guards arcs a b c = record {
-  uses-sized = a;
-  guards-sized = b;
+pub passing-begins : (s : List ℕ) (n : Net) (start : ℕ) (heads arcs : List ℕ) → length heads ≡ 64 → length arcs ≡ 3072 → Passing s n start heads arcs 0 0 start
+passing-begins s n start heads arcs a c = record {
+  sized = a;
   arcs-sized = c;
   transitions = [];
   are = refl;
@@ -82,13 +104,13 @@ passing-begins s n start uses guards arcs a b c = record {
   holds = λ t lt. absurd (omega arith);
 }
 
-module _ {s : List ℕ} {n : Net} {start : ℕ} {uses guards arcs : List ℕ} {count space at : ℕ} (here : Passing s n start uses guards arcs count space at) (left : List ℕ) (r : TransitionStep)
+module _ {s : List ℕ} {n : Net} {start : ℕ} {heads arcs : List ℕ} {count space at : ℕ} (here : Passing s n start heads arcs count space at) (left : List ℕ) (r : TransitionStep)
     (is : (ts : List Transition) → length ts ≡ count → bindingSpace n ts ≡ space → TransitionTold s n ts (transitionPart s n ts at) (λ i. getD left (count * 96 + i) 0) r)
     (room : TransitionRoom (length s) at r) (below : TransitionFew count r) (kept : (i : ℕ) → i < count * 96 → getD left i 0 ≡ getD arcs i 0) where
   said : TransitionTold s n (here .transitions) (transitionPart s n (here .transitions) at) (λ i. getD left (count * 96 + i) 0) r
   said = is (here .transitions) (here .are) (here .wide)
 
-  pub passing-ends : length (n .places) ≤ 32 → r ≡ Done → TransitionsRead s n start uses guards left count space at
+  pub passing-ends : length (n .places) ≤ 32 → r ≡ Done → TransitionsRead s n start heads left count space at
   passing-ends small e = record {
     transitions = here .transitions;
     read = ends s (transitionPart s n) (here .reading) (rw e at said);
@@ -96,28 +118,27 @@ module _ {s : List ℕ} {n : Net} {start : ℕ} {uses guards arcs : List ℕ} {c
     few = here .few;
     wide = here .wide;
     bounded = here .bounded;
-    holds = transitions-kept s n small uses guards arcs left (here .transitions) count (here .are) kept (here .holds);
+    holds = transitions-kept s n small heads arcs left (here .transitions) count (here .are) kept (here .holds);
   }
 
   pub passing-stops : {k p : ℕ} → r ≡ Stop k p → fault k p ≡ whole s (transitionPart s n) [] start
   passing-stops e = stops s (transitionPart s n) (here .reading) (rw e at room) (rw e at said)
 
   pub passing-goes : length (n .places) ≤ 32 → length left ≡ 3072 → {guard used more next : ℕ} → r ≡ More guard used more next
-      → Passing s n start (set uses count used) (set guards count guard) left (count + 1) more next
-  passing-goes small sized {guard} {used} {more} {next} e = go (rw e at said) (rw e at room) (rw e at below)
+      → Passing s n start (headed heads count used guard) left (count + 1) more next
+  passing-goes small left-sized {guard} {used} {more} {next} e = go (rw e at said) (rw e at room) (rw e at below)
     where
       go : TransitionRead s n (here .transitions) (transitionPart s n (here .transitions) at) (λ i. getD left (count * 96 + i) 0) guard used more next
-          → (more ≤ 65536) × (at < next) × (next ≤ length s) → count < 32 → Passing s n start (set uses count used) (set guards count guard) left (count + 1) more next
+          → (more ≤ 65536) × (at < next) × (next ≤ length s) → count < 32 → Passing s n start (headed heads count used guard) left (count + 1) more next
       go h b lt = record {
-        uses-sized = length-set uses count used ∙ here .uses-sized;
-        guards-sized = length-set guards count guard ∙ here .guards-sized;
-        arcs-sized = sized;
+        sized = headed-sized heads count used guard lt (here .sized);
+        arcs-sized = left-sized;
         transitions = with (here .transitions) (h .transition);
         are = length-append (here .transitions) (h .transition ∷ []) ∙ ap (λ k. k + 1) (here .are);
         few = omega arith;
         wide = h .wide;
         bounded = b .0;
         reading = goes-on s (transitionPart s n) (with (here .transitions) (h .transition)) next (here .reading) (b .1) (b .2) (h .goes);
-        holds = transitions-more s n small uses guards arcs left (here .transitions) count (here .are) (omega (arith, here .uses-sized)) (omega (arith, here .guards-sized)) kept
+        holds = transitions-more s n small heads arcs left (here .transitions) count (here .are) lt (here .sized) kept
             (h .transition) guard used (h .holds) (here .holds);
       }

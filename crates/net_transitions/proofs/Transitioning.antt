@@ -98,38 +98,38 @@ module _ (s : List ℕ) (n : Net) (transitions : List Transition) (at next : ℕ
       }
 
 -- ---- a transition by what the code's calls tell: of its guard, of its arcs, and of its end
-module _ (s sizes vars f g : List ℕ) (next : ℕ) {guard : Read} (of-guard : (places : List Place) → guard ≡ guardTold (readGuardIf s (scope sizes vars places) next)) where
-  pub stops-in-guard : (at : ℕ) {k p : ℕ} → guard ≡ read.Fault k p → (transitions : List Transition) → some (inside s (over sizes vars f g) transitions at next) ≡ some (fault k p)
-  stops-in-guard at q transitions = guard-faults s (over sizes vars f g) transitions at next (heard-fault (λ g. 0) inGuard (readGuardIf s (over sizes vars f g) next) (sym q ∙ of-guard (placesOf f g)))
+module _ (s sizes vars kinds : List ℕ) (next : ℕ) {guard : Read} (of-guard : (places : List Place) → guard ≡ guardTold (readGuardIf s (scope sizes vars places) next)) where
+  pub stops-in-guard : (at : ℕ) {k p : ℕ} → guard ≡ read.Fault k p → (transitions : List Transition) → some (inside s (over sizes vars kinds) transitions at next) ≡ some (fault k p)
+  stops-in-guard at q transitions = guard-faults s (over sizes vars kinds) transitions at next (heard-fault (λ g. 0) inGuard (readGuardIf s (over sizes vars kinds) next) (sym q ∙ of-guard (placesOf kinds)))
 
   module _ {more m used : ℕ} (whole-guard : guard ≡ read.Whole more m used) where
-    heard-guard : Heard inGuard (readGuardIf s (over sizes vars f g) next) more used
-    heard-guard = heard (λ g. 0) inGuard (readGuardIf s (over sizes vars f g) next) (sym whole-guard ∙ of-guard (placesOf f g))
+    heard-guard : Heard inGuard (readGuardIf s (over sizes vars kinds) next) more used
+    heard-guard = heard (λ g. 0) inGuard (readGuardIf s (over sizes vars kinds) next) (sym whole-guard ∙ of-guard (placesOf kinds))
 
     pub guard-inside : next ≤ length s → (next ≤ more) × (more ≤ length s)
-    guard-inside le = guard-within s (over sizes vars f g) next (heard-guard .value) more (heard-guard .is) le
+    guard-inside le = guard-within s (over sizes vars kinds) next (heard-guard .value) more (heard-guard .is) le
 
-    module _ (row : List ℕ) (arcs : Read) (of-arcs : ArcsTold s (over sizes vars f g) more row arcs) (at : ℕ) where
-      pub stops-in-arcs : {k p : ℕ} → arcs ≡ read.Fault k p → (transitions : List Transition) → some (inside s (over sizes vars f g) transitions at next) ≡ some (fault k p)
-      stops-in-arcs q transitions = arcs-fault s (over sizes vars f g) transitions at next heard-guard (rw q at of-arcs)
+    module _ (row : List ℕ) (arcs : Read) (of-arcs : ArcsTold s (over sizes vars kinds) more row arcs) (at : ℕ) where
+      pub stops-in-arcs : {k p : ℕ} → arcs ≡ read.Fault k p → (transitions : List Transition) → some (inside s (over sizes vars kinds) transitions at next) ≡ some (fault k p)
+      stops-in-arcs q transitions = arcs-fault s (over sizes vars kinds) transitions at next heard-guard (rw q at of-arcs)
 
       module _ {last l uses : ℕ} (whole-arcs : arcs ≡ read.Whole last l uses) where
-        heard-arcs : ArcsRead s (over sizes vars f g) more row uses last
+        heard-arcs : ArcsRead s (over sizes vars kinds) more row uses last
         heard-arcs = rw whole-arcs at of-arcs
 
         module _ (space : ℕ) (closed : Read)
             (of-end : (places : List Place) (transitions : List Transition) (t : Transition) → bitOr used uses ≡ bits (λ v. inTransition v t) 32
             → bindingSpace (scope sizes vars places) transitions ≡ space → ClosedTold s (scope sizes vars places) transitions at t last closed)
-            (transitions : List Transition) (so-far : bindingSpace (over sizes vars f g) transitions ≡ space) where
-          told-end : ClosedTold s (over sizes vars f g) transitions at (record { guard = heard-guard .value; arcs = heard-arcs .arcs }) last closed
-          told-end = of-end (placesOf f g) transitions (record { guard = heard-guard .value; arcs = heard-arcs .arcs }) (variables-joined s (over sizes vars f g) transitions at next heard-guard heard-arcs) so-far
+            (transitions : List Transition) (so-far : bindingSpace (over sizes vars kinds) transitions ≡ space) where
+          told-end : ClosedTold s (over sizes vars kinds) transitions at (record { guard = heard-guard .value; arcs = heard-arcs .arcs }) last closed
+          told-end = of-end (placesOf kinds) transitions (record { guard = heard-guard .value; arcs = heard-arcs .arcs }) (variables-joined s (over sizes vars kinds) transitions at next heard-guard heard-arcs) so-far
 
-          pub stops-at-end : {k p : ℕ} → closed ≡ read.Fault k p → some (inside s (over sizes vars f g) transitions at next) ≡ some (fault k p)
-          stops-at-end q = end-faults s (over sizes vars f g) transitions at next heard-guard heard-arcs (rw q at told-end)
+          pub stops-at-end : {k p : ℕ} → closed ≡ read.Fault k p → some (inside s (over sizes vars kinds) transitions at next) ≡ some (fault k p)
+          stops-at-end q = end-faults s (over sizes vars kinds) transitions at next heard-guard heard-arcs (rw q at told-end)
 
           pub reads-whole : {end total u : ℕ} → closed ≡ read.Whole end total u
-              → TransitionRead s (over sizes vars f g) transitions (some (inside s (over sizes vars f g) transitions at next)) (λ i. getD row i 0) (guardPlace s next) (bitOr used uses) total last
-          reads-whole q = let k = rw q at told-end in transition-read s (over sizes vars f g) transitions at next heard-guard heard-arcs (k .0) (k .1) (k .2)
+              → TransitionRead s (over sizes vars kinds) transitions (some (inside s (over sizes vars kinds) transitions at next)) (λ i. getD row i 0) (guardPlace s next) (bitOr used uses) total last
+          reads-whole q = let k = rw q at told-end in transition-read s (over sizes vars kinds) transitions at next heard-guard heard-arcs (k .0) (k .1) (k .2)
 
 -- ---- the command
 module _ (s : List ℕ) (n : Net) (transitions : List Transition) (at : ℕ) where

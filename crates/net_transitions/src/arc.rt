@@ -3,7 +3,7 @@ use arc_expressions::read_expression;
 use net::Read;
 use net::after;
 use net::fault;
-use net_parts::clear_words;
+use net_parts::clear_slots;
 ghost use mathlib.Core.Path.{_≡_};
 ghost use mathlib.Core.List.{List};
 ghost use Prim.Native.Nat.{_≤_, _<_};
@@ -40,21 +40,12 @@ fn stopped(e: Read) -> ArcStep
 }
 
 // The arc command at a place, over places by their sets.
-fn arc_at(
-    s: &[u8],
-    sizes: &[u8],
-    vars: &[u8],
-    firsts: &[u8],
-    seconds: &[u8],
-    row: &[u16],
-    at: usize,
-) -> ArcStep
+fn arc_at(s: &[u8], sizes: &[u8], vars: &[u8], kinds: &[u16], row: &[u32], at: usize) -> ArcStep
     requires { ⌜ length (now vars) ≤ 32 ⌝ }
-    requires { ⌜ length (now firsts) ≤ 32 ⌝ }
-    requires { ⌜ length (now seconds) ≡ length (now firsts) ⌝ }
+    requires { ⌜ length (now kinds) ≤ 32 ⌝ }
     requires { ⌜ length (now row) ≡ 96 ⌝ }
-    ensures is { λ r. ⌜ ((arcs : List Arc) → RowHolds (now (s .entry)) (over (now (sizes .entry)) (now (vars .entry)) (now (firsts .entry)) (now (seconds .entry))) arcs (λ i. getD (now (row .entry)) i 0)
-        → ArcTold (now (s .entry)) (over (now (sizes .entry)) (now (vars .entry)) (now (firsts .entry)) (now (seconds .entry))) arcs at (now (row .entry)) r) ⌝ }
+    ensures is { λ r. ⌜ ((arcs : List Arc) → RowHolds (now (s .entry)) (over (now (sizes .entry)) (now (vars .entry)) (now (kinds .entry))) arcs (λ i. getD (now (row .entry)) i 0)
+        → ArcTold (now (s .entry)) (over (now (sizes .entry)) (now (vars .entry)) (now (kinds .entry))) arcs at (now (row .entry)) r) ⌝ }
     ensures room { λ r. ⌜ ArcRoom (length (now (s .entry))) at r ⌝ }
 {
     if s.len() <= at {
@@ -72,14 +63,14 @@ fn arc_at(
         return stop(2, s.len());
     }
     let p = s[at + 1] as usize;
-    if firsts.len() <= p {
+    if kinds.len() <= p {
         return stop(5, at);
     }
     let slot = (b - 0x16) as usize * 32 + p;
     if 0 < row[slot] {
         return stop(9, at);
     }
-    let e = read_expression(s, sizes, vars, firsts[p], seconds[p], 16, next);
+    let e = read_expression(s, sizes, vars, kinds[p], 16, next);
     let Read::Whole {
         next: end,
         set: _,
@@ -100,24 +91,22 @@ pub fn read_arcs(
     s: &[u8],
     sizes: &[u8],
     vars: &[u8],
-    firsts: &[u8],
-    seconds: &[u8],
-    row: &mut [u16],
+    kinds: &[u16],
+    row: &mut [u32],
     start: usize,
 ) -> Read
     requires { ⌜ length (now s) ≤ 16384 ⌝ }
     requires { ⌜ length (now vars) ≤ 32 ⌝ }
-    requires { ⌜ length (now firsts) ≤ 32 ⌝ }
-    requires { ⌜ length (now seconds) ≡ length (now firsts) ⌝ }
+    requires { ⌜ length (now kinds) ≤ 32 ⌝ }
     requires { ⌜ length (now row) ≡ 96 ⌝ }
-    ensures is { λ r. ⌜ ArcsTold (now (s .entry)) (over (now (sizes .entry)) (now (vars .entry)) (now (firsts .entry)) (now (seconds .entry))) start (now (row .exit)) r ⌝ }
+    ensures is { λ r. ⌜ ArcsTold (now (s .entry)) (over (now (sizes .entry)) (now (vars .entry)) (now (kinds .entry))) start (now (row .exit)) r ⌝ }
     ensures room { λ r. ⌜ ArcsRoom (length (now (s .entry))) start r ⌝ }
 {
-    clear_words(row, 96);
+    clear_slots(row, 96);
     let mut uses: u32 = 0;
     let mut at = start;
     loop {
-        match arc_at(s, sizes, vars, firsts, seconds, row, at) {
+        match arc_at(s, sizes, vars, kinds, row, at) {
             ArcStep::Done => {
                 return Read::Whole {
                     next: at,
@@ -133,7 +122,7 @@ pub fn read_arcs(
                 uses: more,
                 next,
             } => {
-                row[slot] = (at + 2) as u16;
+                row[slot] = (at + 2) as u32;
                 uses = uses | more;
                 at = next;
             }

@@ -99,24 +99,22 @@ fn transition_in(
     s: &[u8],
     sizes: &[u8],
     vars: &[u8],
-    firsts: &[u8],
-    seconds: &[u8],
+    kinds: &[u16],
     space: usize,
-    row: &mut [u16],
+    row: &mut [u32],
     at: usize,
     next: usize,
 ) -> TransitionStep
     requires { ⌜ length (now s) ≤ 16384 ⌝ }
     requires { ⌜ length (now vars) ≤ 32 ⌝ }
-    requires { ⌜ length (now firsts) ≤ 32 ⌝ }
-    requires { ⌜ length (now seconds) ≡ length (now firsts) ⌝ }
+    requires { ⌜ length (now kinds) ≤ 32 ⌝ }
     requires { ⌜ length (now row) ≡ 96 ⌝ }
     requires { ⌜ space ≤ 65536 ⌝ }
     requires { ⌜ at < next ⌝ }
     requires { ⌜ next ≤ length (now s) ⌝ }
-    ensures is { λ r. ⌜ ((transitions : List Transition) → bindingSpace (over (now (sizes .entry)) (now (vars .entry)) (now (firsts .entry)) (now (seconds .entry))) transitions ≡ space
-        → TransitionTold (now (s .entry)) (over (now (sizes .entry)) (now (vars .entry)) (now (firsts .entry)) (now (seconds .entry))) transitions
-        (some (inside (now (s .entry)) (over (now (sizes .entry)) (now (vars .entry)) (now (firsts .entry)) (now (seconds .entry))) transitions at next)) (λ i. getD (now (row .exit)) i 0) r) ⌝ }
+    ensures is { λ r. ⌜ ((transitions : List Transition) → bindingSpace (over (now (sizes .entry)) (now (vars .entry)) (now (kinds .entry))) transitions ≡ space
+        → TransitionTold (now (s .entry)) (over (now (sizes .entry)) (now (vars .entry)) (now (kinds .entry))) transitions
+        (some (inside (now (s .entry)) (over (now (sizes .entry)) (now (vars .entry)) (now (kinds .entry))) transitions at next)) (λ i. getD (now (row .exit)) i 0) r) ⌝ }
     ensures room { λ r. ⌜ TransitionRoom (length (now (s .entry))) at r ⌝ }
 {
     let guard = read_guard_if(s, sizes, vars, next);
@@ -128,7 +126,7 @@ fn transition_in(
     else {
         return stopped(guard);
     };
-    let arcs = read_arcs(s, sizes, vars, firsts, seconds, row, more);
+    let arcs = read_arcs(s, sizes, vars, kinds, row, more);
     let Read::Whole {
         next: end,
         set: _,
@@ -159,23 +157,21 @@ pub fn transition_at(
     s: &[u8],
     sizes: &[u8],
     vars: &[u8],
-    firsts: &[u8],
-    seconds: &[u8],
+    kinds: &[u16],
     count: usize,
     space: usize,
-    arcs: &mut [u16],
+    arcs: &mut [u32],
     at: usize,
 ) -> TransitionStep
     requires { ⌜ length (now s) ≤ 16384 ⌝ }
     requires { ⌜ length (now vars) ≤ 32 ⌝ }
-    requires { ⌜ length (now firsts) ≤ 32 ⌝ }
-    requires { ⌜ length (now seconds) ≡ length (now firsts) ⌝ }
+    requires { ⌜ length (now kinds) ≤ 32 ⌝ }
     requires { ⌜ length (now arcs) ≡ 3072 ⌝ }
     requires { ⌜ space ≤ 65536 ⌝ }
     ensures is { λ r. ⌜ ((transitions : List Transition) → length transitions ≡ count
-        → bindingSpace (over (now (sizes .entry)) (now (vars .entry)) (now (firsts .entry)) (now (seconds .entry))) transitions ≡ space
-        → TransitionTold (now (s .entry)) (over (now (sizes .entry)) (now (vars .entry)) (now (firsts .entry)) (now (seconds .entry))) transitions
-        (transitionPart (now (s .entry)) (over (now (sizes .entry)) (now (vars .entry)) (now (firsts .entry)) (now (seconds .entry))) transitions at)
+        → bindingSpace (over (now (sizes .entry)) (now (vars .entry)) (now (kinds .entry))) transitions ≡ space
+        → TransitionTold (now (s .entry)) (over (now (sizes .entry)) (now (vars .entry)) (now (kinds .entry))) transitions
+        (transitionPart (now (s .entry)) (over (now (sizes .entry)) (now (vars .entry)) (now (kinds .entry))) transitions at)
         (λ i. getD (now (arcs .exit)) (count * 96 + i) 0) r) ⌝ }
     ensures room { λ r. ⌜ TransitionRoom (length (now (s .entry))) at r ⌝ }
     ensures few { λ r. ⌜ TransitionFew count r ⌝ }
@@ -194,17 +190,7 @@ pub fn transition_at(
         let next = after(s, at);
         let from = count * 96;
         let to = from + 96;
-        return transition_in(
-            s,
-            sizes,
-            vars,
-            firsts,
-            seconds,
-            space,
-            &mut arcs[from..to],
-            at,
-            next,
-        );
+        return transition_in(s, sizes, vars, kinds, space, &mut arcs[from..to], at, next);
     }
     TransitionStep::Done
 }

@@ -1,4 +1,4 @@
-// The transition part: each transition's variables, the place of its guard and its row of arcs go into lent tables.
+// The transition part: each transition's variables, 32 entries on the place of its guard, and its row of arcs go into lent tables.
 use crate::transition::TransitionStep;
 use crate::transition::transition_at;
 use net_parts::Part;
@@ -12,28 +12,24 @@ pub fn read_transitions(
     s: &[u8],
     sizes: &[u8],
     vars: &[u8],
-    firsts: &[u8],
-    seconds: &[u8],
-    uses: &mut [u32],
-    guards: &mut [u16],
-    arcs: &mut [u16],
+    kinds: &[u16],
+    heads: &mut [u32],
+    arcs: &mut [u32],
     start: usize,
 ) -> Part
     requires { ⌜ length (now s) ≤ 16384 ⌝ }
     requires { ⌜ length (now vars) ≤ 32 ⌝ }
-    requires { ⌜ length (now firsts) ≤ 32 ⌝ }
-    requires { ⌜ length (now seconds) ≡ length (now firsts) ⌝ }
-    requires { ⌜ length (now uses) ≡ 32 ⌝ }
-    requires { ⌜ length (now guards) ≡ 32 ⌝ }
+    requires { ⌜ length (now kinds) ≤ 32 ⌝ }
+    requires { ⌜ length (now heads) ≡ 64 ⌝ }
     requires { ⌜ length (now arcs) ≡ 3072 ⌝ }
-    ensures { λ r. ⌜ TransitionsTold (now (s .entry)) (over (now (sizes .entry)) (now (vars .entry)) (now (firsts .entry)) (now (seconds .entry))) start
-        (now (uses .exit)) (now (guards .exit)) (now (arcs .exit)) r ⌝ }
+    ensures { λ r. ⌜ TransitionsTold (now (s .entry)) (over (now (sizes .entry)) (now (vars .entry)) (now (kinds .entry))) start
+        (now (heads .exit)) (now (arcs .exit)) r ⌝ }
 {
     let mut count: usize = 0;
     let mut space: usize = 0;
     let mut at = start;
     loop {
-        match transition_at(s, sizes, vars, firsts, seconds, count, space, arcs, at) {
+        match transition_at(s, sizes, vars, kinds, count, space, arcs, at) {
             TransitionStep::Done => {
                 return Part::Whole(count, space, at);
             }
@@ -46,8 +42,8 @@ pub fn read_transitions(
                 space: more,
                 next,
             } => {
-                uses[count] = used;
-                guards[count] = guard;
+                heads[count] = used;
+                heads[32 + count] = guard as u32;
                 count += 1;
                 space = more;
                 at = next;

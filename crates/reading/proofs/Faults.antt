@@ -94,9 +94,9 @@ module _ {A : Type 0} (s : List ℕ) (at : ℕ) (le : at ≤ length s) where
       (by-test (Fits (length s)) (ltb at (length s)) (λ t. tells (omega arith) le) (λ t. tells (omega arith) (omega arith)))
 
 -- a whole file
-pub file-fits : {A : Type 0} (opening : ℕ) (content : ℕ → Answer A) (closing : ℕ) (s : List ℕ) → From (length s) content → Fits (length s) (file opening content closing s)
+pub file-fits : {A : Type 0} (opening : ℕ) (editions : List ℕ) (content : ℕ → Answer A) (closing : ℕ) (s : List ℕ) → From (length s) content → Fits (length s) (file opening editions content closing s)
 unfolding file
-file-fits opening content closing s h =
+file-fits opening editions content closing s h =
     then-fits (needed-fits s 0 (omega arith) refl (also h end)) (λ a at le.
     then-fits (needed-fits s at le refl (also (λ next more. goes more) end)) (λ b last more.
     checks-fit ((15 unless eqb last (length s)) ∷ []) refl more (goes more)))

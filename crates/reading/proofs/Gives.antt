@@ -83,8 +83,8 @@ module _ {A : Type 0} {P : A → Type 0} where
   needed-gives s at {commands} hs = to-gives (needed s commands at) (λ b last e. needed-went s at (went b last hs) e)
 
   -- a whole file
-  pub file-gives : (opening : ℕ) (content : ℕ → Answer A) (closing : ℕ) (s : List ℕ) → ((start : ℕ) → Gives P (content start)) → Gives P (file opening content closing s)
-  file-gives opening content closing s h = to-gives (file opening content closing s) (λ a last e. file-went opening content closing s e (λ start next f. of-gives (h start) f))
+  pub file-gives : (opening : ℕ) (editions : List ℕ) (content : ℕ → Answer A) (closing : ℕ) (s : List ℕ) → ((start : ℕ) → Gives P (content start)) → Gives P (file opening editions content closing s)
+  file-gives opening editions content closing s h = to-gives (file opening editions content closing s) (λ a last e. file-went opening editions content closing s e (λ start next f. of-gives (h start) f))
 
 -- one reading after another
 module _ {A B : Type 0} {P : A → Type 0} {Q : B → Type 0} where

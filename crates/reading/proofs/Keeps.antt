@@ -3,9 +3,9 @@ use mathlib.Core.Path.{_≡_, refl, ap, _∙_}
 use Prim.Native.Nat.{_≤_}
 use native.Mathlib.Omega.{arith}
 use borrow.Author.Tests.{ltb-false, eqb-true}
-use Rattle.reading.specs.Basics.{ℕ, zero, suc, _+_, Bool, true, false, _&&_, List, [], _∷_, Option, some, none, Option·map, length, ltb, eqb, if_then_else_, given, find, byteAt}
+use Rattle.reading.specs.Basics.{ℕ, zero, suc, _+_, Bool, true, false, _&&_, List, [], _∷_, Option, some, none, Option·map, length, ltb, eqb, if_then_else_, given, any, find, byteAt}
 use Rattle.reading.specs.Reading.{Answer, fine, fault, _andThen_, under, accepted, outcome, Check, _unless_, failing, checked, Command, command, obey, standing, needed, Part, onward, repeat, file}
-use Rattle.reading.proofs.Lists.{All, end, also}
+use Rattle.reading.proofs.Lists.{In, All, end, also, in-any}
 
 -- a fault is no value
 pub no-value : {A C : Type 0} {k p last : ℕ} {a : A} → fault k p ≡ fine a last → C
@@ -126,23 +126,23 @@ pub repeat-keeps : {A : Type 0} (part : Part A) (P : A → Type 0) → ((a b : A
 repeat-keeps part P step fuel at p e = repeat-keeps-at part (λ a place. P a) step fuel at p e
 
 -- ---- files
--- the first two bytes, the content from 2 on, and the end command behind it, the last byte
-pub file-stood : {A P : Type 0} (opening : ℕ) (content : ℕ → Answer A) (closing : ℕ) (s : List ℕ) {a : A} {last : ℕ} → file opening content closing s ≡ fine a last
-    → ((next : ℕ) → byteAt s 0 ≡ opening → byteAt s 1 ≡ 1 → 2 ≤ length s → content 2 ≡ fine a next → byteAt s next ≡ closing → next + 1 ≡ length s → P) → P
+-- the first byte, an edition, the content from 2 on, and the end command behind it, the last byte
+pub file-stood : {A P : Type 0} (opening : ℕ) (editions : List ℕ) (content : ℕ → Answer A) (closing : ℕ) (s : List ℕ) {a : A} {last : ℕ} → file opening editions content closing s ≡ fine a last
+    → ((next : ℕ) → byteAt s 0 ≡ opening → In (byteAt s 1) editions → 2 ≤ length s → content 2 ≡ fine a next → byteAt s next ≡ closing → next + 1 ≡ length s → P) → P
 unfolding file
-file-stood opening content closing s {a} {last} e h =
-    then-went (needed s (command opening 1 ((5 unless eqb (byteAt s 1) 1) ∷ []) content ∷ []) 0) _ e λ b at f g.
+file-stood opening editions content closing s {a} {last} e h =
+    then-went (needed s (command opening 1 ((5 unless any (eqb (byteAt s 1)) editions) ∷ []) content ∷ []) 0) _ e λ b at f g.
     then-went (needed s (command closing 0 [] (fine b) ∷ []) at) _ g λ c more i j.
     needed-stood s at (also (λ closes fits ok q. needed-stood s 0 (also (λ opens long edition r.
     let (tail, k) = checked-went more ((15 unless eqb more (length s)) ∷ []) c more j in
     let l : b ≡ a = cc in
     let m : at + 1 ≡ more = cc in
-    h at opens (eqb-true (byteAt s 1) 1 (edition .0)) long (rw (← l) r) closes (m ∙ eqb-true more (length s) (tail .0))) end) f) end) i
+    h at opens (in-any (byteAt s 1) editions (edition .0)) long (rw (← l) r) closes (m ∙ eqb-true more (length s) (tail .0))) end) f) end) i
 
 -- the content alone
-pub file-went : {A P : Type 0} (opening : ℕ) (content : ℕ → Answer A) (closing : ℕ) (s : List ℕ) {a : A} {last : ℕ} → file opening content closing s ≡ fine a last
+pub file-went : {A P : Type 0} (opening : ℕ) (editions : List ℕ) (content : ℕ → Answer A) (closing : ℕ) (s : List ℕ) {a : A} {last : ℕ} → file opening editions content closing s ≡ fine a last
     → ((start next : ℕ) → content start ≡ fine a next → P) → P
-file-went opening content closing s e h = file-stood opening content closing s e λ next opens edition long reads closes all. h 2 next reads
+file-went opening editions content closing s e h = file-stood opening editions content closing s e λ next opens edition long reads closes all. h 2 next reads
 
 -- an accepted value was read
 pub outcome-went : {A P : Type 0} (x : Answer A) {a : A} → outcome x ≡ accepted a → ((next : ℕ) → x ≡ fine a next → P) → P

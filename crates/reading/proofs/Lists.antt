@@ -31,6 +31,16 @@ module _ {A : Type 0} where
   pub there : {a b : A} {l : List A} → In a l → In a (b ∷ l)
   there m = List·Memᴰ·tail m
 
+  -- the only element of a list
+  pub in-one : {a b : A} → In a (b ∷ []) → a ≡ b
+  in-one m = in-cases (λ e. e) (λ k. absurd (List·Memᴰ·not-nil k)) m
+
+  pub one-in : {a b : A} → a ≡ b → In a (b ∷ [])
+  one-in e = List·Memᴰ·head e
+
+  pub not-one : {a b : A} → (a ≡ b → ⊥) → In a (b ∷ []) → ⊥
+  not-one ne m = ne (in-one m)
+
   -- what holds of all holds of each, and back
   pub all-in : {P : A → Type 0} {l : List A} {a : A} → All P l → In a l → P a
   all-in end m = absurd (List·Memᴰ·not-nil m)
@@ -241,11 +251,57 @@ unfolding numbersFrom
 length-from a zero = refl
 length-from a (suc n) = ap suc (length-from (a + 1) n)
 
--- from one further on
+-- each of them, and what a function gives of each
+pub from-at : (a n i : ℕ) → i < n → getElem? (numbersFrom a n) i ≡ some (a + i)
+unfolding numbersFrom
+from-at a zero i h = absurd (omega arith)
+from-at a (suc n) zero h = let e : a ≡ a + 0 = omega arith in ap some e
+from-at a (suc n) (suc i) h = from-at (a + 1) n i (omega arith) ∙ ap some (let e : a + 1 + i ≡ a + suc i = omega arith in e)
+
+pub getD-from : (f : ℕ → ℕ) (a n i : ℕ) → i < n → getD (map f (numbersFrom a n)) i 0 ≡ f (a + i)
+getD-from f a n i h = getD-at (map f (numbersFrom a n)) i 0 (at-map f (numbersFrom a n) i (from-at a n i h))
+
+-- ---- the numbers below a number
+pub length-below : (n : ℕ) → length (below n) ≡ n
+length-below n = length-from 0 n
+
+pub below-is : (n i : ℕ) → i < n → getElem? (below n) i ≡ some i
+below-is n i h = from-at 0 n i h ∙ ap some (let e : 0 + i ≡ i = omega arith in e)
+
+pub getD-below : (f : ℕ → ℕ) (n i : ℕ) → i < n → getD (map f (below n)) i 0 ≡ f i
+getD-below f n i h = getD-from f 0 n i h ∙ (let e : 0 + i ≡ i = omega arith in ap f e)
+
+-- ---- the numbers from one further on
 pub map-from : {A : Type 0} (f : ℕ → A) (a n : ℕ) → map f (numbersFrom (a + 1) n) ≡ map (λ i. f (i + 1)) (numbersFrom a n)
 unfolding numbersFrom
 map-from f a zero = refl
 map-from f a (suc n) = ap (λ l. f (a + 1) ∷ l) (map-from f (a + 1) n)
+
+-- ---- a number among some, tested
+pub in-any : (b : ℕ) (l : List ℕ) → any (eqb b) l ≡ true → In b l
+unfolding any
+in-any b [] e = let z : _≡_ {A = ℕ} 0 1 = cc in absurd (omega arith)
+in-any b (a ∷ l) e = go (eqb b a) refl (in-any b l) e
+  where
+    go : (t : Bool) → eqb b a ≡ t → (any (eqb b) l ≡ true → In b l) → t || any (eqb b) l ≡ true → In b (a ∷ l)
+    go true f ih q = List·Memᴰ·head (eqb-true b a f)
+    go false f ih q = there (ih q)
+
+pub any-in : (b : ℕ) (l : List ℕ) → In b l → any (eqb b) l ≡ true
+unfolding any
+any-in b [] m = absurd (List·Memᴰ·not-nil m)
+any-in b (a ∷ l) m = in-cases (λ e. rw (eq-eqb b a e)) (λ k. later (eqb b a) (any-in b l k)) m
+  where
+    later : (t : Bool) → any (eqb b) l ≡ true → t || any (eqb b) l ≡ true
+    later true e = refl
+    later false e = e
+
+pub any-out : (b : ℕ) (l : List ℕ) → (In b l → ⊥) → any (eqb b) l ≡ false
+any-out b l h = go (any (eqb b) l) refl
+  where
+    go : (t : Bool) → any (eqb b) l ≡ t → t ≡ false
+    go true e = absurd (h (in-any b l e))
+    go false e = refl
 
 -- ---- equal at each element
 module _ {A : Type 0} where
@@ -321,3 +377,16 @@ pub map-getD : {A B : Type 0} (f : A → B) (l : List A) (d : A) → map (λ i. 
 unfolding numbersFrom
 map-getD f [] d = refl
 map-getD f (a ∷ l) d = ap (λ m. f a ∷ m) (map-from (λ i. f (getD (a ∷ l) i d)) 0 (length l) ∙ map-same (λ i. f (getD (a ∷ l) (i + 1) d)) (λ i. f (getD l i d)) (below (length l)) (λ i m. rw (add-one i)) ∙ map-getD f l d)
+
+-- ---- pieces
+-- pieces of a list made piece by piece
+pub flat-flat : {A B C : Type 0} (f : B → List C) (g : A → List B) (l : List A) → flatMap f (flatMap g l) ≡ flatMap (λ a. flatMap f (g a)) l
+unfolding flatMap
+flat-flat f g [] = refl
+flat-flat f g (a ∷ l) = flat-append f (g a) (flatMap g l) ∙ ap (λ k. flatMap f (g a) ++ k) (flat-flat f g l)
+
+-- one more number at the end
+pub flat-more : {A : Type 0} (f : ℕ → List A) (a p : ℕ) → flatMap f (numbersFrom a (suc p)) ≡ flatMap f (numbersFrom a p) ++ f (a + p)
+unfolding flatMap numbersFrom
+flat-more f a zero = let e : a + 0 ≡ a = omega arith in rw (e, append-nil)
+flat-more f a (suc p) = let e : a + suc p ≡ a + 1 + p = omega arith in rw (flat-more f (a + 1) p, e, append-assoc)

@@ -1,5 +1,5 @@
 -- How files are read: answers and outcomes, commands with their checks, the parts of a file.
-use Rattle.reading.specs.Basics.{ℕ, zero, suc, _+_, _-_, Bool, List, [], _∷_, Option, none, some, Option·map, length, ltb, eqb, if_then_else_, given, find, byteAt}
+use Rattle.reading.specs.Basics.{ℕ, zero, suc, _+_, _-_, Bool, List, [], _∷_, Option, none, some, Option·map, length, ltb, eqb, if_then_else_, given, any, find, byteAt}
 
 -- reading a piece of a file gives a value and the next place, or a fault's number and place
 pub data Answer (A : Type 0) : Type 0 where
@@ -45,9 +45,25 @@ failing ((number unless condition) ∷ checks) = if condition then failing check
 abbrev pub checked : {A : Type 0} → ℕ → List Check → A → ℕ → Answer A
 checked at checks a next = given (failing checks) (fine a next) λ number. fault number at
 
--- the checks of a call on a net: file faults come first, then these, at place 0
-abbrev pub permitted : {Net : Type 0} → (Net → List Check) → Outcome Net → Outcome Net
-permitted checks read = on read refused λ net. given (failing (checks net)) (accepted net) λ number. refused number 0
+-- the checks of a call: a refusal's number, and the place that it is given at; the check passes where it has no place
+infix 20 _at?_
+pub data CallCheck : Type 0 where
+  _at?_ : (number : ℕ) (place : Option ℕ) → CallCheck
+
+-- at place 0, where a condition fails
+infix 20 _when-not_
+abbrev pub _when-not_ : ℕ → Bool → CallCheck
+number when-not condition = number at? (if condition then none else some 0)
+
+-- the first check that has a place refuses, whatever else is given
+unfoldable pub refusing : {A : Type 0} → List CallCheck → Outcome A → Outcome A
+refusing [] otherwise = otherwise
+refusing ((number at? none) ∷ checks) otherwise = refusing checks otherwise
+refusing ((number at? some place) ∷ checks) otherwise = refused number place
+
+-- a call on a net: file faults come first, then its checks
+abbrev pub permitted : {Net : Type 0} → (Net → List CallCheck) → Outcome Net → Outcome Net
+permitted checks read = on read refused λ net. refusing (checks net) (accepted net)
 
 -- ---- commands
 -- a command: its byte, the width of its operands, its checks in order, and how the reading goes on after the operands
@@ -95,9 +111,9 @@ repeat part (suc fuel) a at = onward (repeat part fuel) a at (part a at)
 abbrev pub whole : {A : Type 0} → List ℕ → Part A → A → ℕ → Answer A
 whole s part a at = repeat part (length s - at) a at
 
--- a whole file: the opening command with edition 1, the content, the end command, and nothing after it (15)
-unfoldable pub file : {A : Type 0} → ℕ → (ℕ → Answer A) → ℕ → List ℕ → Answer A
-file opening content closing s =
-    needed s (command opening 1 ((5 unless eqb (byteAt s 1) 1) ∷ []) content ∷ []) 0 andThen λ a at.
+-- a whole file: the opening command with one of some editions, the content, the end command, and nothing after it (15)
+unfoldable pub file : {A : Type 0} → ℕ → List ℕ → (ℕ → Answer A) → ℕ → List ℕ → Answer A
+file opening editions content closing s =
+    needed s (command opening 1 ((5 unless any (eqb (byteAt s 1)) editions) ∷ []) content ∷ []) 0 andThen λ a at.
     needed s (command closing 0 [] (fine a) ∷ []) at andThen λ a end.
     checked end ((15 unless eqb end (length s)) ∷ []) a end

@@ -1,36 +1,41 @@
 -- The bytes of the rows, where no row of a transition has more arcs than so many; and the loop that adds the bounds up. Assumes nothing.
-use mathlib.Core.Path.{refl}
+use mathlib.Core.Path.{_≡_, refl, sym, _∙_}
 use Prim.Native.Nat.{_≤_, _<_}
 use native.Mathlib.Omega.{arith}
 use Rattle.reading.specs.Basics.{ℕ, _+_, _*_, List, flatMap, length, getD, below, product}
 use Rattle.flat_file.proofs.Written.{length-row}
-use Rattle.net.specs.Net.{sizesOf}
-use Rattle.bindings.specs.Effect.{transitionAt, flatRow}
+use Rattle.net.specs.Net.{sizesOf, transitionAt, flatPlaceCount}
+use Rattle.plan.specs.internal.Layout.{flatPlacesIn}
+use Rattle.bindings.specs.Effect.{flatRow}
 use Rattle.row_lengths.specs.internal.MostRows.{MostRow}
 use Rattle.row_bytes.specs.internal.RowBytes.{transitionBytes, Ruled}
 use Rattle.row_numbers.specs.internal.Walked.{entries}
 use Rattle.row_numbers.specs.internal.Marks.{Counted}
 use Rattle.row_numbers.proofs.Marking.{marks-few, effects-most}
-use Rattle.row_bytes.proofs.RowBytes.{Measuring, measure-begins, measure-goes, measure-ends, tables-ready}
+use Rattle.row_bytes.proofs.RowBytes.{Measuring, measure-begins, measure-goes, measure-ends}
 use Rattle.row_bytes.proofs.RowLengths.{rows-told}
 
--- ---- what the tables tell
-module _ {s sizes vars own guards arcs marks rows : List ℕ} {transitions : ℕ} (ruled : Ruled s sizes vars own guards arcs marks transitions) (counted : Counted (ruled .net) rows transitions)
-    {t : ℕ} (lt : t < transitions) where
+-- ---- what the table tells
+-- how many flat places there are
+pub front-is : {s plan marks : List ℕ} (ruled : Ruled s plan marks) {count : ℕ} → count ≡ flatPlacesIn plan → count ≡ flatPlaceCount (ruled .net)
+front-is ruled e = e ∙ sym (ruled .ready .flat-places-are)
+
+module _ {s plan marks rows : List ℕ} (ruled : Ruled s plan marks) (counted : Counted (ruled .net) rows (length (ruled .net .transitions)))
+    {t : ℕ} (lt : t < length (ruled .net .transitions)) where
   -- a transition has few rows
   pub rows-few : getD rows t 0 ≤ 65536
   rows-few =
       let many = product (sizesOf (ruled .net) (transitionAt (ruled .net) t)) in
-      omega (arith, counted .row t lt, effects-most (ruled .net) t many, marks-few (tables-ready (ruled .ready)) {many = many} {base = entries (ruled .net) guards t} lt refl refl)
+      omega (arith, counted .row t lt, effects-most (ruled .net) t many, marks-few (ruled .ready) {many = many} {base = entries (ruled .net) plan t} lt refl refl)
 
   -- and they take no more bytes than so many of the longest
-  pub transition-most : {most : ℕ} → MostRow s sizes vars arcs t most → length (transitionBytes (ruled .net) t) ≤ getD rows t 0 * (1 + 5 * most)
+  pub transition-most : {most : ℕ} → MostRow s plan t most → length (transitionBytes (ruled .net) t) ≤ getD rows t 0 * (1 + 5 * most)
   unfolding transitionBytes
   transition-most told =
       rw (counted .row t lt) (rows-told _≤_ (omega arith) (λ a b c d p q. omega arith) (ruled .net) t refl (λ i w inside e. omega (
         arith,
         length-row (flatRow (ruled .net) w),
-        told (ruled .net) guards (ruled .ready .read) (ruled .ready .drawing) (omega (arith, ruled .ready .transitions-are)) i w inside e,
+        told (ruled .net) (ruled .ready) lt i w inside e,
       )))
 
 -- ---- all of them

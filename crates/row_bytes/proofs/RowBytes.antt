@@ -3,33 +3,29 @@ use mathlib.Core.Path.{_≡_, refl, sym, ap, _∙_}
 use Prim.Native.Nat.{_≤_, _<_}
 use native.Mathlib.Omega.{arith}
 use native.Mathlib.Nat.{add-zero}
-use borrow.Author.Tests.{le-ltb}
 use lib.ListN.{length-append}
-use Rattle.reading.specs.Basics.{ℕ, zero, suc, _+_, _*_, _-_, true, false, List, [], _∷_, _++_, map, flatMap, filterMap, Option, none, some, length, getD, getElem?, given, numbersFrom, below, product}
+use Rattle.reading.specs.Basics.{ℕ, zero, suc, _+_, _*_, _-_, Bool, true, false, List, [], _∷_, _++_, map, flatMap, filterMap, Option, none, some, length, getElem?, given, numbersFrom, below, product}
 use Rattle.firing.specs.Firing.{Weights}
 use Rattle.firing.specs.Arcs.{Row}
 use Rattle.firing.specs.internal.RowLists.{rowIn}
 use Rattle.firing.specs.declared.Ends.{Ends}
 use Rattle.flat_file.specs.Flat.{rowBytes}
-use Rattle.net.specs.Net.{Net, sizesOf}
-use Rattle.net_file.specs.Limits.{Limits}
-use Rattle.net_file.specs.Formed.{Formed}
-use Rattle.net_file.proofs.Limits.{limits}
-use Rattle.net_file.proofs.Formed.{formed}
-use Rattle.bindings.specs.Effect.{Binding, transitionAt, choices, bindings, effect, flatRow}
+use Rattle.net.specs.Net.{Net, sizesOf, transitionAt}
+use Rattle.bindings.specs.Effect.{Binding, choices, bindings, effect, flatRow}
 use Rattle.bindings.specs.internal.Numbers.{digits}
 use Rattle.bindings.specs.internal.Bindings.{Binds, numbered}
-use Rattle.rows.specs.internal.Drawing.{RowLoaded}
+use Rattle.bindings.specs.internal.Legal.{everyRow}
+use Rattle.rows.specs.internal.Effects.{RowLoaded}
 use Rattle.rows.specs.internal.Loading.{LoadsRow}
-use Rattle.bindings.specs.internal.TransitionVariables.{Owned}
-use Rattle.rows.specs.internal.Prepared.{Prepared}
+use Rattle.prepared.specs.internal.Prepared.{Prepared}
+use Rattle.prepared.proofs.Known.{its-limits}
 use Rattle.bindings.proofs.Bindings.{bound, bindingsOf, choices-length}
 use Rattle.bindings.proofs.Digits.{choices-at}
-use Rattle.rows.proofs.Split.{flat-flat}
+use Rattle.reading.proofs.Lists.{flat-flat}
 use Rattle.row_numbers.specs.Unfolding.{Rowed, rows, unfolded}
-use Rattle.row_numbers.specs.internal.Walked.{takesEffect, entriesAt, entries, Tables}
+use Rattle.row_numbers.specs.internal.Walked.{takesEffect, entriesAt, entries}
 use Rattle.row_numbers.specs.internal.Marks.{markAt, hasRow}
-use Rattle.row_bytes.specs.internal.RowBytes.{bindingBytes, transitionBytes, Ruled, Known, Here, Roomy}
+use Rattle.row_bytes.specs.internal.RowBytes.{bindingBytes, transitionBytes, Ruled, Known, Bound, Here, Roomy}
 use Rattle.flat_file.proofs.Appending.{length-row-in, Going, go-begin}
 use Rattle.row_numbers.proofs.Rows.{rowedIf}
 use Rattle.row_numbers.proofs.Tabled.{entries-next}
@@ -111,28 +107,38 @@ no-effect n t i e = go (effect n (numbered n t i)) e
     go none q = refl
     go (some w) q = let z : _≡_ {A = ℕ} 0 1 = cc in absurd (omega arith)
 
-module _ {s sizes vars env arcs marks : List ℕ} {guard t k : ℕ} (here : Here s sizes vars env arcs marks guard t k) where
-  -- it has no row
-  pub gives-nothing : false ≡ hasRow guard marks k → bindingBytes (here .net) t (here .index) ≡ []
-  gives-nothing e = no-effect (here .net) t (here .index) (sym (e ∙ here .told))
+-- its row was loaded
+module _ {s plan env : List ℕ} {t : ℕ} (it : Bound s plan env t) (places amounts places' amounts' : List ℕ) {r : Ends}
+    (told : LoadsRow s plan env t places amounts places' amounts' r) (p : Roomy s places) (a : Roomy s amounts) where
+  pub row-here : RowLoaded (it .net) (numbered (it .net) t (it .index)) places' amounts' (r .takes) (r .puts) (r .hinders)
+  row-here =
+      told (it .net) (digits (sizesOf (it .net) (transitionAt (it .net) t)) (it .index)) (it .ready) (it .stands) (it .binds)
+      (p (it .net) (it .ready .read)) (a (it .net) (it .ready .read))
 
-  -- its row was loaded
-  module _ (places amounts places' amounts' : List ℕ) {r : Ends} (told : LoadsRow s sizes vars env arcs t places amounts places' amounts' r) (p : Roomy s places) (a : Roomy s amounts) where
-    pub row-here : RowLoaded (here .net) (numbered (here .net) t (here .index)) places' amounts' (r .takes) (r .puts) (r .hinders)
-    row-here =
-        told (here .net) (here .guards) (digits (sizesOf (here .net) (transitionAt (here .net) t)) (here .index)) (here .drawing) (here .stands) (here .binds)
-        (p (here .net) (here .read)) (a (here .net) (here .read))
+  pub row-fits : r .hinders ≤ 12288
+  row-fits = omega (arith, row-here .fits, its-limits (it .ready) .flat-places)
 
-    pub row-fits : r .hinders ≤ 12288
-    row-fits = omega (arith, row-here .fits, limits s (here .net) (here .read) .flat-places)
+  pub gives-row : bindingBytes (it .net) t (it .index) ≡ rowBytes (rowIn places' amounts' (r .takes) (r .puts) (r .hinders))
+  unfolding bindingBytes
+  gives-row = by-effect (it .net) t (it .index) (it .takes-effect) (λ w q. rw q (ap rowBytes (sym (row-here .row w q))))
 
-    module _ (e : true ≡ hasRow guard marks k) where
-      pub gives-row : bindingBytes (here .net) t (here .index) ≡ rowBytes (rowIn places' amounts' (r .takes) (r .puts) (r .hinders))
-      unfolding bindingBytes
-      gives-row = by-effect (here .net) t (here .index) (sym (e ∙ here .told)) (λ w q. rw q (ap rowBytes (sym (row-here .row w q))))
+  pub gives-length : length (bindingBytes (it .net) t (it .index)) ≡ 1 + 5 * r .hinders
+  gives-length = ap length gives-row ∙ length-row-in places' amounts' (r .takes) (r .puts) (r .hinders) (row-here .puts-after) (row-here .hinders-after)
 
-      pub gives-length : length (bindingBytes (here .net) t (here .index)) ≡ 1 + 5 * r .hinders
-      gives-length = ap length gives-row ∙ length-row-in places' amounts' (r .takes) (r .puts) (r .hinders) (row-here .puts-after) (row-here .hinders-after)
+-- whether it has one is told
+module _ {s plan env marks : List ℕ} {t k : ℕ} (here : Here s plan env marks t k) {b : Bool} (e : k < 65536 → b ≡ hasRow (everyRow plan t) marks k) where
+  pub gives-nothing : b ≡ false → bindingBytes (here .net) t (here .index) ≡ []
+  gives-nothing q = no-effect (here .net) t (here .index) (sym (here .told) ∙ sym (e (here .few)) ∙ q)
+
+  abbrev pub bound-here : b ≡ true → Bound s plan env t
+  bound-here q = record {
+    net = here .net;
+    index = here .index;
+    ready = here .ready;
+    stands = here .stands;
+    binds = here .binds;
+    takes-effect = sym (here .told) ∙ sym (e (here .few)) ∙ q;
+  }
 
 -- ---- the loops
 -- the numbers that are left
@@ -185,90 +191,63 @@ write-begins f many out at = let e : many - 0 ≡ many = omega arith in rw e (go
 
 -- ---- from bindings to a transition, and from transitions to all
 -- a binding in the walk over a transition
-abbrev pub here-of : {s sizes vars own arcs marks : List ℕ} {env : List ℕ} {guard t many base i : ℕ} (known : Known s sizes vars own arcs marks guard t many base)
-    → i < many → Binds (known .net) (numbered (known .net) t i) env → Here s sizes vars env arcs marks guard t (base + i)
-here-of {i = i} known lt binds = record {
-  net = known .net;
-  guards = known .guards;
-  index = i;
-  read = known .read;
-  drawing = known .drawing;
-  stands = known .stands;
-  binds = binds;
-  few = omega (arith, known .few);
-  told = known .told i lt;
-}
+module _ {s plan marks : List ℕ} {t many base : ℕ} (known : Known s plan marks t many base) where
+  abbrev pub here-of : {env : List ℕ} {i : ℕ} → i < many → Binds (known .net) (numbered (known .net) t i) env → Here s plan env marks t (base + i)
+  here-of {i = i} lt binds = record {
+    net = known .net;
+    index = i;
+    ready = known .ready;
+    stands = known .stands;
+    binds = binds;
+    few = omega (arith, known .few);
+    told = known .told i lt;
+  }
 
--- where a word of marks is 0, 32 bindings give nothing
-pub known-over : {s sizes vars own arcs marks : List ℕ} {guard t many base : ℕ} (known : Known s sizes vars own arcs marks guard t many base) (i : ℕ)
-    → i + 32 ≤ many → 1 ≤ guard → ((j : ℕ) → j < 32 → markAt marks (base + i + j) ≡ false)
-    → flatMap (bindingBytes (known .net) t) (numbersFrom i (many - i)) ≡ flatMap (bindingBytes (known .net) t) (numbersFrom (i + 32) (many - (i + 32)))
-known-over {marks = marks} {guard = guard} {t = t} {many = many} {base = base} known i le guarded blank =
-    left-over (bindingBytes (known .net) t) many i 32 le (λ j lt.
-    let e : base + (i + j) ≡ base + i + j = omega arith in
-    no-effect (known .net) t (i + j) (sym (known .told (i + j) (omega arith)) ∙ rw (le-ltb guard 1 guarded, e) (blank j lt)))
+  -- where a word of marks is 0, 32 bindings give nothing
+  pub known-over : (i : ℕ) → i + 32 ≤ many → everyRow plan t ≡ false → ((j : ℕ) → j < 32 → markAt marks (base + i + j) ≡ false)
+      → flatMap (bindingBytes (known .net) t) (numbersFrom i (many - i)) ≡ flatMap (bindingBytes (known .net) t) (numbersFrom (i + 32) (many - (i + 32)))
+  known-over i le marked blank =
+      left-over (bindingBytes (known .net) t) many i 32 le (λ j lt.
+      let e : base + (i + j) ≡ base + i + j = omega arith in
+      no-effect (known .net) t (i + j) (sym (known .told (i + j) (omega arith)) ∙ rw (marked, e) (blank j lt)))
 
--- the colours of the next, or so many on
-pub binds-on : (env after : List ℕ) (i step : ℕ) {s sizes vars own arcs marks : List ℕ} {guard t many base : ℕ} (known : Known s sizes vars own arcs marks guard t many base)
-    → ((n : Net) (i : ℕ) → Owned n own → Limits n → Formed n → t < length (n .transitions) → i + step < product (sizesOf n (transitionAt n t))
-    → Binds n (numbered n t i) env → Binds n (numbered n t (i + step)) after)
-    → Binds (known .net) (numbered (known .net) t i) env → i + step < many → Binds (known .net) (numbered (known .net) t (i + step)) after
-binds-on env after i step {s = s} known next binds lt =
-    next (known .net) i (known .owned) (limits s (known .net) (known .read)) (formed s (known .net) (known .read)) (known .stands) (omega (arith, known .size)) binds
+  -- and where one has no row, it alone
+  pub known-past : (i : ℕ) → i < many → {b : Bool} → (base + i < 65536 → b ≡ hasRow (everyRow plan t) marks (base + i)) → b ≡ false
+      → flatMap (bindingBytes (known .net) t) (numbersFrom i (many - i)) ≡ flatMap (bindingBytes (known .net) t) (numbersFrom (i + 1) (many - (i + 1)))
+  known-past i lt e q =
+      left-over (bindingBytes (known .net) t) many i 1 (omega arith) (λ j less.
+      let z : i + j ≡ i = omega arith in
+      rw z (no-effect (known .net) t i (sym (known .told i lt) ∙ sym (e (omega (arith, known .few))) ∙ q)))
 
-pub binds-next : (env after : List ℕ) (i : ℕ) {s sizes vars own arcs marks : List ℕ} {guard t many base : ℕ} (known : Known s sizes vars own arcs marks guard t many base)
-    → ((n : Net) (i : ℕ) → Owned n own → Limits n → Formed n → t < length (n .transitions) → i + 1 < product (sizesOf n (transitionAt n t))
-    → Binds n (numbered n t i) env → Binds n (numbered n t (i + 1)) after)
-    → Binds (known .net) (numbered (known .net) t i) env → i + 1 < many → Binds (known .net) (numbered (known .net) t (i + 1)) after
-binds-next env after i known = binds-on env after i 1 known
-
--- the tables of all
-pub tables-ready : {s sizes vars own uses guards arcs : List ℕ} {n : Net} {transitions : ℕ} → Prepared s n sizes vars own uses guards arcs transitions → Tables s n sizes vars own uses guards transitions
-tables-ready {s = s} {n = n} ready = record {
-  limits = limits s n (ready .read);
-  are = ready .transitions-are;
-  used = λ t lt. ready .used t (omega (arith, ready .transitions-are));
-  each = λ t lt.
-      let less : t < length (n .transitions) = omega (arith, ready .transitions-are) in
-      record {
-        limits = limits s n (ready .read);
-        formed = formed s n (ready .read);
-        sets = ready .drawing .sets;
-        variables = ready .drawing .variables;
-        owned = ready .owned;
-        stands = less;
-        standing = ready .drawing .guard t less;
-      };
-}
+  -- the colours of the next, or so many on
+  pub binds-on : (env after : List ℕ) (i step : ℕ)
+      → ((s : List ℕ) (n : Net) (i : ℕ) → Prepared s n plan → t < length (n .transitions) → i + step < product (sizesOf n (transitionAt n t))
+      → Binds n (numbered n t i) env → Binds n (numbered n t (i + step)) after)
+      → Binds (known .net) (numbered (known .net) t i) env → i + step < many → Binds (known .net) (numbered (known .net) t (i + step)) after
+  binds-on env after i step next binds lt = next s (known .net) i (known .ready) (known .stands) (omega (arith, known .size)) binds
 
 -- a transition in the walk over all
-module _ {s sizes vars own guards arcs marks : List ℕ} {transitions : ℕ} (ruled : Ruled s sizes vars own guards arcs marks transitions) {t many : ℕ} (lt : t < transitions)
-    (told : (n : Net) → Owned n own → Limits n → t < length (n .transitions) → many ≡ product (sizesOf n (transitionAt n t))) where
+module _ {s plan marks : List ℕ} (ruled : Ruled s plan marks) {t many : ℕ} (lt : t < length (ruled .net .transitions))
+    (told : (s : List ℕ) (n : Net) → Prepared s n plan → t < length (n .transitions) → many ≡ product (sizesOf n (transitionAt n t))) where
   pub all-many : many ≡ product (sizesOf (ruled .net) (transitionAt (ruled .net) t))
-  all-many =
-      let less : t < length (ruled .net .transitions) = omega (arith, ruled .ready .transitions-are) in
-      told (ruled .net) (ruled .ready .owned) (limits s (ruled .net) (ruled .ready .read)) less
+  all-many = told s (ruled .net) (ruled .ready) lt
 
   pub all-given : flatMap (bindingBytes (ruled .net) t) (below many) ≡ transitionBytes (ruled .net) t
   unfolding transitionBytes
   all-given = ap (λ k. flatMap (bindingBytes (ruled .net) t) (below k)) all-many
 
-  abbrev pub known-of : {guard base : ℕ} → guard ≡ getD guards t 0 → base ≡ entries (ruled .net) guards t → Known s sizes vars own arcs marks guard t many base
-  known-of g from = record {
+  abbrev pub known-of : {base : ℕ} → base ≡ entries (ruled .net) plan t → Known s plan marks t many base
+  known-of from = record {
     net = ruled .net;
-    guards = guards;
-    read = ruled .ready .read;
-    drawing = ruled .ready .drawing;
-    owned = ruled .ready .owned;
-    stands = omega (arith, ruled .ready .transitions-are);
+    ready = ruled .ready;
+    stands = lt;
     size = all-many;
-    few = marks-few (tables-ready (ruled .ready)) lt all-many from;
-    told = marks-told (tables-ready (ruled .ready)) lt all-many from (ruled .marked) g;
+    few = marks-few (ruled .ready) lt all-many from;
+    told = marks-told (ruled .ready) lt all-many from (ruled .marked);
   }
 
--- where the next one's marks stand
-pub entries-then : (n : Net) (guards : List ℕ) (t : ℕ) {guard many base more : ℕ} → guard ≡ getD guards t 0 → many ≡ product (sizesOf n (transitionAt n t)) → base ≡ entries n guards t
-    → more ≡ entriesAt guard many → base + more ≡ entries n guards (t + 1)
-entries-then n guards t {guard} {many} {base} {more} g is from e =
-    let q : more ≡ entriesAt (getD guards t 0) (product (sizesOf n (transitionAt n t))) = e ∙ ap (λ x. entriesAt x many) g ∙ ap (entriesAt (getD guards t 0)) is in
-    omega (arith, entries-next n guards t)
+  -- where the next one's marks stand
+  pub entries-then : {base more : ℕ} → base ≡ entries (ruled .net) plan t → more ≡ entriesAt (everyRow plan t) many → base + more ≡ entries (ruled .net) plan (t + 1)
+  entries-then {base} {more} from e =
+      let q : more ≡ entriesAt (everyRow plan t) (product (sizesOf (ruled .net) (transitionAt (ruled .net) t))) = e ∙ ap (entriesAt (everyRow plan t)) all-many in
+      omega (arith, entries-next (ruled .net) plan t)

@@ -8,8 +8,8 @@ use Rattle.reading.specs.Basics.{ℕ, zero, suc, _+_, _*_, Bool, true, false, L
 use Rattle.firing.specs.Firing.{Weights}
 use Rattle.flat_file.specs.Flat.{rowBytes}
 use Rattle.flat_file.proofs.Written.{length-row}
-use Rattle.net.specs.Net.{Net, sizesOf}
-use Rattle.bindings.specs.Effect.{transitionAt, effect, flatRow}
+use Rattle.net.specs.Net.{Net, sizesOf, transitionAt}
+use Rattle.bindings.specs.Effect.{effect, flatRow}
 use Rattle.bindings.specs.internal.Bindings.{numbered}
 use Rattle.row_lengths.specs.internal.Steady.{SteadyRow, SteadyWithin}
 use Rattle.row_lengths.specs.declared.steady.Steady.{Steady}
@@ -66,12 +66,12 @@ rows-measured n t {many} {rows} {row} is e long = ap (λ x. x * row) e ∙ sym (
 pub product-most : (rows row : ℕ) → rows ≤ 65536 → row ≤ 31456801 → rows * row ≤ 2100000000000
 product-most rows row h k = omega (arith, mul-le-mul h k)
 
--- ---- what the tables tell
+-- ---- what the table tells
 -- how long a transition's rows are
-pub rows-long : {s sizes vars own arcs marks : List ℕ} {guard t many base : ℕ} (known : Known s sizes vars own arcs marks guard t many base) {r : Steady} {long : ℕ}
-    → r ≡ steady.Arcs long → SteadyRow s arcs t r → RowsLong (known .net) t (1 + 5 * long)
-rows-long {s = s} {sizes = sizes} {vars = vars} {arcs = arcs} {t = t} known {r} {long} e told i w inside f =
-    let q = subst (SteadyRow s arcs t) e told (known .net) sizes vars (known .guards) (known .read) (known .drawing) (known .stands) i w inside f in
+pub rows-long : {s plan marks : List ℕ} {t many base : ℕ} (known : Known s plan marks t many base) {r : Steady} {long : ℕ}
+    → r ≡ steady.Arcs long → SteadyRow s plan t r → RowsLong (known .net) t (1 + 5 * long)
+rows-long {s = s} {plan = plan} {t = t} known {r} {long} e told i w inside f =
+    let q = subst (SteadyRow s plan t) e told (known .net) (known .ready) (known .stands) i w inside f in
     length-row (flatRow (known .net) w) ∙ omega (arith, q)
 
 -- and that is within bounds

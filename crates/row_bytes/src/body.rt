@@ -1,8 +1,9 @@
-// The rows of a flat file, from the tables of a net: how many bytes they take, and the bytes themselves, binding by binding.
+// The rows of a flat file, from a prepared net: how many bytes they take, and the bytes themselves, binding by binding.
 use bindings::next_binding;
 use bindings::skip_bindings;
 use bindings::space_of;
 use flat_file::write_row;
+use plan::transitions_of;
 use row_lengths::Steady;
 use row_lengths::steady_row;
 use row_numbers::entries_of;
@@ -14,17 +15,21 @@ ghost use Prim.Native.Nat.{_+_, _*_, _≤_, _<_};
 ghost use lib.ListN.{length};
 ghost use Rattle.reading.specs.Basics.{flatMap, below};
 ghost use Rattle.flat_file.specs.internal.Output.{Appended};
-ghost use Rattle.row_bytes.specs.internal.RowBytes.{bindingBytes, transitionBytes, Ruled, Known, Here, Roomy};
+ghost use Rattle.row_bytes.specs.internal.RowBytes.{bindingBytes, allBytes, Ruled, Known, Bound, Here, Roomy};
 ghost use Rattle.row_numbers.specs.internal.Marks.{effects, Counted};
+
+// The bindings of a transition: how many there are, and where their marks begin.
+pub struct Stretch {
+    pub t: usize,
+    pub many: usize,
+    pub base: usize,
+}
 
 // How many bytes a binding gives: those of its row, if it has one. Its mark is number k.
 fn measure_one(
     s: &[u8],
-    sizes: &[u8],
-    vars: &[u8],
+    plan: &[u32; 3584],
     env: &[u8; 32],
-    guard: u16,
-    arcs: &[u64; 3072],
     t: usize,
     marks: &[u32; 2048],
     k: usize,
@@ -32,57 +37,41 @@ fn measure_one(
     amounts: &mut [u16],
 ) -> usize
     requires { ⌜ (t < 32) × Roomy (now s) (now places) × Roomy (now s) (now amounts) ⌝ }
-    requires { ⌜ Here (now s) (now sizes) (now vars) (now env) (now arcs) (now marks) guard t k ⌝ }
-    ensures is { λ r. ⌜ ((h : Here (now (s .entry)) (now (sizes .entry)) (now (vars .entry)) (now (env .entry)) (now (arcs .entry)) (now (marks .entry)) guard t k)
-        → r ≡ length (bindingBytes (h .net) t (h .index))) ⌝ }
+    requires { ⌜ Here (now s) (now plan) (now env) (now marks) t k ⌝ }
+    ensures is { λ r. ⌜ ((h : Here (now (s .entry)) (now (plan .entry)) (now (env .entry)) (now (marks .entry)) t k) → r ≡ length (bindingBytes (h .net) t (h .index))) ⌝ }
     ensures small { λ r. ⌜ r ≤ 61441 ⌝ }
 {
-    if has_row(guard, marks, k) {
-        let ends = load_row(s, sizes, vars, env, arcs, t, places, amounts);
+    if has_row(plan, t, marks, k) {
+        let ends = load_row(s, plan, env, t, places, amounts);
         return 1 + 5 * ends.hinders;
     }
     0
 }
 
-// How many bytes all bindings of a transition give; its marks stand from base on.
+// How many bytes all bindings of a transition give.
 fn measure_bindings(
     s: &[u8],
-    sizes: &[u8],
-    vars: &[u8],
-    own: &[u16; 128],
-    guard: u16,
-    arcs: &[u64; 3072],
-    t: usize,
-    many: usize,
-    base: usize,
+    plan: &[u32; 3584],
+    those: Stretch,
     marks: &[u32; 2048],
     places: &mut [u16],
     amounts: &mut [u16],
 ) -> usize
-    requires { ⌜ (t < 32) × Roomy (now s) (now places) × Roomy (now s) (now amounts) ⌝ }
-    requires { ⌜ Known (now s) (now sizes) (now vars) (now own) (now arcs) (now marks) guard t many base ⌝ }
-    ensures is { λ r. ⌜ ((k : Known (now (s .entry)) (now (sizes .entry)) (now (vars .entry)) (now (own .entry)) (now (arcs .entry)) (now (marks .entry)) guard t many base)
-        → r ≡ length (flatMap (bindingBytes (k .net) t) (below many))) ⌝ }
+    requires { ⌜ (those .t < 32) × Roomy (now s) (now places) × Roomy (now s) (now amounts) ⌝ }
+    requires { ⌜ Known (now s) (now plan) (now marks) (those .t) (those .many) (those .base) ⌝ }
+    ensures is { λ r. ⌜ ((k : Known (now (s .entry)) (now (plan .entry)) (now (marks .entry)) (those .t) (those .many) (those .base))
+        → r ≡ length (flatMap (bindingBytes (k .net) (those .t)) (below (those .many)))) ⌝ }
     ensures small { λ r. ⌜ r ≤ 4026597376 ⌝ }
 {
+    let t = those.t;
+    let many = those.many;
+    let base = those.base;
     let mut env = [0u8; 32];
     let mut total: usize = 0;
     let mut i: usize = 0;
     while i < many {
-        total += measure_one(
-            s,
-            sizes,
-            vars,
-            &env,
-            guard,
-            arcs,
-            t,
-            marks,
-            base + i,
-            places,
-            amounts,
-        );
-        next_binding(own, t, &mut env);
+        total += measure_one(s, plan, &env, t, marks, base + i, places, amounts);
+        next_binding(plan, t, &mut env);
         i += 1;
     }
     total
@@ -91,40 +80,21 @@ fn measure_bindings(
 // How many bytes all bindings of a transition with so many rows give. Rows that are all of one length are not loaded for it.
 fn measure_transition(
     s: &[u8],
-    sizes: &[u8],
-    vars: &[u8],
-    own: &[u16; 128],
-    guard: u16,
-    arcs: &[u64; 3072],
-    t: usize,
-    many: usize,
-    base: usize,
+    plan: &[u32; 3584],
+    those: Stretch,
     marks: &[u32; 2048],
     rows: usize,
     places: &mut [u16],
     amounts: &mut [u16],
 ) -> usize
-    requires { ⌜ (t < 32) × Roomy (now s) (now places) × Roomy (now s) (now amounts) × (rows ≤ 65536) ⌝ }
-    requires { ⌜ Known (now s) (now sizes) (now vars) (now own) (now arcs) (now marks) guard t many base ⌝ }
-    ensures is { λ r. ⌜ ((k : Known (now (s .entry)) (now (sizes .entry)) (now (vars .entry)) (now (own .entry)) (now (arcs .entry)) (now (marks .entry)) guard t many base)
-        → rows ≡ effects (k .net) t many → r ≡ length (flatMap (bindingBytes (k .net) t) (below many))) ⌝ }
+    requires { ⌜ (those .t < 32) × Roomy (now s) (now places) × Roomy (now s) (now amounts) × (rows ≤ 65536) ⌝ }
+    requires { ⌜ Known (now s) (now plan) (now marks) (those .t) (those .many) (those .base) ⌝ }
+    ensures is { λ r. ⌜ ((k : Known (now (s .entry)) (now (plan .entry)) (now (marks .entry)) (those .t) (those .many) (those .base))
+        → rows ≡ effects (k .net) (those .t) (those .many) → r ≡ length (flatMap (bindingBytes (k .net) (those .t)) (below (those .many)))) ⌝ }
     ensures small { λ r. ⌜ r ≤ 2100000000000 ⌝ }
 {
-    let Steady::Arcs { count } = steady_row(s, arcs, t) else {
-        return measure_bindings(
-            s,
-            sizes,
-            vars,
-            own,
-            guard,
-            arcs,
-            t,
-            many,
-            base,
-            marks,
-            places,
-            amounts,
-        );
+    let Steady::Arcs { count } = steady_row(s, plan, those.t) else {
+        return measure_bindings(s, plan, those, marks, places, amounts);
     };
     rows * (1 + 5 * count)
 }
@@ -132,133 +102,93 @@ fn measure_transition(
 // How many bytes the rows of all transitions take.
 pub fn measure_all(
     s: &[u8],
-    sizes: &[u8],
-    vars: &[u8],
-    own: &[u16; 128],
-    guards: &[u16; 32],
-    arcs: &[u64; 3072],
-    transitions: usize,
+    plan: &[u32; 3584],
     marks: &[u32; 2048],
     rows: &[usize; 32],
     places: &mut [u16],
     amounts: &mut [u16],
 ) -> usize
-    requires { ⌜ (transitions ≤ 32) × Roomy (now s) (now places) × Roomy (now s) (now amounts) ⌝ }
-    requires { ⌜ ((k : Ruled (now s) (now sizes) (now vars) (now own) (now guards) (now arcs) (now marks) transitions) × Counted (k .net) (now rows) transitions) ⌝ }
-    ensures is { λ r. ⌜ ((k : Ruled (now (s .entry)) (now (sizes .entry)) (now (vars .entry)) (now (own .entry)) (now (guards .entry)) (now (arcs .entry)) (now (marks .entry)) transitions)
-        → Counted (k .net) (now (rows .entry)) transitions → r ≡ length (flatMap (transitionBytes (k .net)) (below transitions))) ⌝ }
+    requires { ⌜ Roomy (now s) (now places) × Roomy (now s) (now amounts) ⌝ }
+    requires { ⌜ ((k : Ruled (now s) (now plan) (now marks)) × Counted (k .net) (now rows) (length (k .net .transitions))) ⌝ }
+    ensures is { λ r. ⌜ ((k : Ruled (now (s .entry)) (now (plan .entry)) (now (marks .entry)))
+        → Counted (k .net) (now (rows .entry)) (length (k .net .transitions)) → r ≡ length (allBytes (k .net))) ⌝ }
     ensures small { λ r. ⌜ r ≤ 67200000000000 ⌝ }
 {
+    let transitions = transitions_of(plan);
     let mut total: usize = 0;
     let mut base: usize = 0;
     let mut t: usize = 0;
     while t < transitions {
-        let guard = guards[t];
-        let many = space_of(own, t);
-        total += measure_transition(
-            s,
-            sizes,
-            vars,
-            own,
-            guard,
-            arcs,
-            t,
-            many,
-            base,
-            marks,
-            rows[t],
-            places,
-            amounts,
-        );
-        base += entries_of(guard, many);
+        let many = space_of(plan, t);
+        let those = Stretch { t, many, base };
+        total += measure_transition(s, plan, those, marks, rows[t], places, amounts);
+        base += entries_of(plan, t, many);
         t += 1;
     }
     total
 }
 
-// Writes the row of a binding, if it has one. Its mark is number k.
-fn write_one(
+// Writes the row of a binding that has one.
+fn write_bound(
     s: &[u8],
-    sizes: &[u8],
-    vars: &[u8],
+    plan: &[u32; 3584],
     env: &[u8; 32],
-    guard: u16,
-    arcs: &[u64; 3072],
     t: usize,
-    marks: &[u32; 2048],
-    k: usize,
     places: &mut [u16],
     amounts: &mut [u16],
     out: &mut [u8],
     at: usize,
 ) -> usize
     requires { ⌜ (t < 32) × Roomy (now s) (now places) × Roomy (now s) (now amounts) ⌝ }
-    requires { ⌜ ((h : Here (now s) (now sizes) (now vars) (now env) (now arcs) (now marks) guard t k) × (at + length (bindingBytes (h .net) t (h .index)) ≤ length (now out))) ⌝ }
-    ensures { λ r. ⌜ ((h : Here (now (s .entry)) (now (sizes .entry)) (now (vars .entry)) (now (env .entry)) (now (arcs .entry)) (now (marks .entry)) guard t k)
+    requires { ⌜ ((h : Bound (now s) (now plan) (now env) t) × (at + length (bindingBytes (h .net) t (h .index)) ≤ length (now out))) ⌝ }
+    ensures { λ r. ⌜ ((h : Bound (now (s .entry)) (now (plan .entry)) (now (env .entry)) t)
         → Appended (now (out .entry)) (now (out .exit)) at r (bindingBytes (h .net) t (h .index))) ⌝ }
 {
-    if has_row(guard, marks, k) {
-        let ends = load_row(s, sizes, vars, env, arcs, t, places, amounts);
-        return write_row(
-            places,
-            amounts,
-            ends.takes,
-            ends.puts,
-            ends.hinders,
-            out,
-            at,
-        );
-    }
-    at
+    let ends = load_row(s, plan, env, t, places, amounts);
+    write_row(
+        places,
+        amounts,
+        ends.takes,
+        ends.puts,
+        ends.hinders,
+        out,
+        at,
+    )
 }
 
-// Writes the rows of all bindings of a transition; its marks stand from base on. Where a word of them is 0, it passes over 32 at once.
+// Writes the rows of all bindings of a transition. Where a word of their marks is 0, it passes over 32 at once.
 fn write_bindings(
     s: &[u8],
-    sizes: &[u8],
-    vars: &[u8],
-    own: &[u16; 128],
-    guard: u16,
-    arcs: &[u64; 3072],
-    t: usize,
-    many: usize,
-    base: usize,
+    plan: &[u32; 3584],
+    those: Stretch,
     marks: &[u32; 2048],
     places: &mut [u16],
     amounts: &mut [u16],
     out: &mut [u8],
     at: usize,
 ) -> usize
-    requires { ⌜ (t < 32) × Roomy (now s) (now places) × Roomy (now s) (now amounts) ⌝ }
-    requires { ⌜ ((k : Known (now s) (now sizes) (now vars) (now own) (now arcs) (now marks) guard t many base)
-        × (at + length (flatMap (bindingBytes (k .net) t) (below many)) ≤ length (now out))) ⌝ }
-    ensures { λ r. ⌜ ((k : Known (now (s .entry)) (now (sizes .entry)) (now (vars .entry)) (now (own .entry)) (now (arcs .entry)) (now (marks .entry)) guard t many base)
-        → Appended (now (out .entry)) (now (out .exit)) at r (flatMap (bindingBytes (k .net) t) (below many))) ⌝ }
+    requires { ⌜ (those .t < 32) × Roomy (now s) (now places) × Roomy (now s) (now amounts) ⌝ }
+    requires { ⌜ ((k : Known (now s) (now plan) (now marks) (those .t) (those .many) (those .base))
+        × (at + length (flatMap (bindingBytes (k .net) (those .t)) (below (those .many))) ≤ length (now out))) ⌝ }
+    ensures { λ r. ⌜ ((k : Known (now (s .entry)) (now (plan .entry)) (now (marks .entry)) (those .t) (those .many) (those .base))
+        → Appended (now (out .entry)) (now (out .exit)) at r (flatMap (bindingBytes (k .net) (those .t)) (below (those .many)))) ⌝ }
 {
+    let t = those.t;
+    let many = those.many;
+    let base = those.base;
     let mut env = [0u8; 32];
     let mut next = at;
     let mut i: usize = 0;
     while i < many {
-        if has_none(guard, marks, base + i, many - i) {
-            skip_bindings(own, t, 32, &mut env);
+        if has_none(plan, t, marks, base + i, many - i) {
+            skip_bindings(plan, t, 32, &mut env);
             i += 32;
+        } else if has_row(plan, t, marks, base + i) {
+            next = write_bound(s, plan, &env, t, places, amounts, out, next);
+            next_binding(plan, t, &mut env);
+            i += 1;
         } else {
-            next = write_one(
-                s,
-                sizes,
-                vars,
-                &env,
-                guard,
-                arcs,
-                t,
-                marks,
-                base + i,
-                places,
-                amounts,
-                out,
-                next,
-            );
-            next_binding(own, t, &mut env);
+            next_binding(plan, t, &mut env);
             i += 1;
         }
     }
@@ -268,47 +198,27 @@ fn write_bindings(
 // Writes the rows of all transitions.
 pub fn write_all(
     s: &[u8],
-    sizes: &[u8],
-    vars: &[u8],
-    own: &[u16; 128],
-    guards: &[u16; 32],
-    arcs: &[u64; 3072],
-    transitions: usize,
+    plan: &[u32; 3584],
     marks: &[u32; 2048],
     places: &mut [u16],
     amounts: &mut [u16],
     out: &mut [u8],
     at: usize,
 ) -> usize
-    requires { ⌜ (transitions ≤ 32) × Roomy (now s) (now places) × Roomy (now s) (now amounts) ⌝ }
-    requires { ⌜ ((k : Ruled (now s) (now sizes) (now vars) (now own) (now guards) (now arcs) (now marks) transitions)
-        × (at + length (flatMap (transitionBytes (k .net)) (below transitions)) ≤ length (now out))) ⌝ }
-    ensures { λ r. ⌜ ((k : Ruled (now (s .entry)) (now (sizes .entry)) (now (vars .entry)) (now (own .entry)) (now (guards .entry)) (now (arcs .entry)) (now (marks .entry)) transitions)
-        → Appended (now (out .entry)) (now (out .exit)) at r (flatMap (transitionBytes (k .net)) (below transitions))) ⌝ }
+    requires { ⌜ Roomy (now s) (now places) × Roomy (now s) (now amounts) ⌝ }
+    requires { ⌜ ((k : Ruled (now s) (now plan) (now marks)) × (at + length (allBytes (k .net)) ≤ length (now out))) ⌝ }
+    ensures { λ r. ⌜ ((k : Ruled (now (s .entry)) (now (plan .entry)) (now (marks .entry)))
+        → Appended (now (out .entry)) (now (out .exit)) at r (allBytes (k .net))) ⌝ }
 {
+    let transitions = transitions_of(plan);
     let mut next = at;
     let mut base: usize = 0;
     let mut t: usize = 0;
     while t < transitions {
-        let guard = guards[t];
-        let many = space_of(own, t);
-        next = write_bindings(
-            s,
-            sizes,
-            vars,
-            own,
-            guard,
-            arcs,
-            t,
-            many,
-            base,
-            marks,
-            places,
-            amounts,
-            out,
-            next,
-        );
-        base += entries_of(guard, many);
+        let many = space_of(plan, t);
+        let those = Stretch { t, many, base };
+        next = write_bindings(s, plan, those, marks, places, amounts, out, next);
+        base += entries_of(plan, t, many);
         t += 1;
     }
     next

@@ -1,76 +1,55 @@
 // Whether the flat file fits into a lent list: by a bound on each transition's rows, and measured only where the bound does not tell.
 use crate::body::measure_all;
+use plan::flat_places_of;
+use plan::transitions_of;
 use row_lengths::most_row;
 ghost use mathlib.Core.Path.{_≡_};
 ghost use mathlib.Core.List.{List};
 ghost use Prim.Native.Nat.{ℕ, _+_, _*_, _≤_, _<_};
 ghost use lib.ListN.{length, getD};
 ghost use lib.Dec.{leb};
-ghost use Rattle.reading.specs.Basics.{flatMap, below};
-ghost use Rattle.row_bytes.specs.internal.RowBytes.{transitionBytes, Ruled, Roomy};
+ghost use Rattle.net.specs.Net.{flatPlaceCount};
+ghost use Rattle.plan.specs.internal.Layout.{transitionsIn};
+ghost use Rattle.row_bytes.specs.internal.RowBytes.{allBytes, Ruled, Roomy};
 ghost use Rattle.row_numbers.specs.internal.Marks.{Counted};
 
 // How many bytes the rows of all transitions take at most. No row is loaded for it.
-fn bound_all(
-    s: &[u8],
-    sizes: &[u8],
-    vars: &[u8],
-    arcs: &[u64; 3072],
-    transitions: usize,
-    rows: &[usize; 32],
-) -> usize
-    requires { ⌜ (transitions ≤ 32) × ((t : ℕ) → t < transitions → getD (now rows) t 0 ≤ 65536) ⌝ }
-    ensures is { λ r. ⌜ ((own guards marks : List ℕ) (k : Ruled (now (s .entry)) (now (sizes .entry)) (now (vars .entry)) own guards (now (arcs .entry)) marks transitions)
-        → Counted (k .net) (now (rows .entry)) transitions → length (flatMap (transitionBytes (k .net)) (below transitions)) ≤ r) ⌝ }
+fn bound_all(s: &[u8], plan: &[u32; 3584], rows: &[usize; 32]) -> usize
+    requires { ⌜ ((t : ℕ) → t < transitionsIn (now plan) → getD (now rows) t 0 ≤ 65536) ⌝ }
+    ensures is { λ r. ⌜ ((marks : List ℕ) (k : Ruled (now (s .entry)) (now (plan .entry)) marks)
+        → Counted (k .net) (now (rows .entry)) (length (k .net .transitions)) → length (allBytes (k .net)) ≤ r) ⌝ }
     ensures small { λ r. ⌜ r ≤ 67200000000000 ⌝ }
 {
+    let transitions = transitions_of(plan);
     let mut total: usize = 0;
     let mut t: usize = 0;
     while t < transitions {
-        let most = most_row(s, sizes, vars, arcs, t);
+        let most = most_row(s, plan, t);
         total += rows[t] * (1 + 5 * most);
         t += 1;
     }
     total
 }
 
-// Whether a flat file with so many places, and these rows, fits into so many bytes.
+// Whether a flat file with these rows fits into so many bytes.
 pub fn fits(
     s: &[u8],
-    sizes: &[u8],
-    vars: &[u8],
-    own: &[u16; 128],
-    guards: &[u16; 32],
-    arcs: &[u64; 3072],
-    total: usize,
-    transitions: usize,
+    plan: &[u32; 3584],
     marks: &[u32; 2048],
     rows: &[usize; 32],
     places: &mut [u16],
     amounts: &mut [u16],
     size: usize,
 ) -> bool
-    requires { ⌜ (transitions ≤ 32) × (total ≤ 4096) × Roomy (now s) (now places) × Roomy (now s) (now amounts) ⌝ }
-    requires { ⌜ ((k : Ruled (now s) (now sizes) (now vars) (now own) (now guards) (now arcs) (now marks) transitions) × Counted (k .net) (now rows) transitions) ⌝ }
-    ensures { λ r. ⌜ ((k : Ruled (now (s .entry)) (now (sizes .entry)) (now (vars .entry)) (now (own .entry)) (now (guards .entry)) (now (arcs .entry)) (now (marks .entry)) transitions)
-        → Counted (k .net) (now (rows .entry)) transitions → r ≡ leb (3 + 3 * total + length (flatMap (transitionBytes (k .net)) (below transitions))) size) ⌝ }
+    requires { ⌜ Roomy (now s) (now places) × Roomy (now s) (now amounts) ⌝ }
+    requires { ⌜ ((k : Ruled (now s) (now plan) (now marks)) × Counted (k .net) (now rows) (length (k .net .transitions))) ⌝ }
+    ensures { λ r. ⌜ ((k : Ruled (now (s .entry)) (now (plan .entry)) (now (marks .entry)))
+        → Counted (k .net) (now (rows .entry)) (length (k .net .transitions))
+        → r ≡ leb (3 + 3 * flatPlaceCount (k .net) + length (allBytes (k .net))) size) ⌝ }
 {
-    let most = bound_all(s, sizes, vars, arcs, transitions, rows);
-    if 3 + 3 * total + most <= size {
+    let front = 3 + 3 * flat_places_of(plan);
+    if front + bound_all(s, plan, rows) <= size {
         return true;
     }
-    let measured = measure_all(
-        s,
-        sizes,
-        vars,
-        own,
-        guards,
-        arcs,
-        transitions,
-        marks,
-        rows,
-        places,
-        amounts,
-    );
-    3 + 3 * total + measured <= size
+    front + measure_all(s, plan, marks, rows, places, amounts) <= size
 }

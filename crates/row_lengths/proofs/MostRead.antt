@@ -6,13 +6,14 @@ use Rattle.reading.specs.Reading.{Answer, fine, fault, under}
 use Rattle.net.specs.Net.{Colour, Expression, times, Place, single, pair, Net}
 use Rattle.net.specs.Reader.{readColour, readExpression, twoOf, amount, capped}
 use Rattle.arc_expressions.specs.internal.ReaderEnums.{joins}
-use Rattle.evaluation.specs.internal.Evaluated.{Ranks}
+use Rattle.plan.specs.internal.Layout.{expressionIn, ranksIn, pairIn}
+use Rattle.evaluation.specs.internal.Evaluated.{Ranks, scopeIn, placeBy}
 use Rattle.evaluation.specs.declared.evaluate.Ranked.{Ranked}
 use Rattle.net.proofs.Shut.{commands}
 use Rattle.evaluation.proofs.Values.{needed-by}
 use Rattle.arc_expressions.proofs.Expressions.{expression-step, expression-in}
 use Rattle.evaluation.proofs.Weights.{joined-by, times-by, one-by, two-by, expression-past, expression-shut, expression-stray}
-use Rattle.row_lengths.specs.internal.MostArcs.{most, mostJoined, MostTold}
+use Rattle.row_lengths.specs.internal.MostArcs.{most, mostJoined, MostTold, MostArc}
 use Rattle.row_lengths.specs.declared.arcs.Most.{Most}
 use Rattle.sums.proofs.Listing.{either-byte}
 
@@ -103,3 +104,9 @@ module _ (s : List ℕ) (n : Net) (place : Place) (left at count : ℕ) where
 pub arcs-told : (s : List ℕ) (n : Net) (place : Place) (left at count : ℕ) (r : Most) {e : Expression} {next : ℕ} → MostTold count r (readExpression s n place left at)
     → readExpression s n place left at ≡ fine e next → r .arcs ≡ most count e
 arcs-told s n place left at count r told read = subst (MostTold count r) read told .0
+
+-- of the expression of an arc's entry, from its parts
+pub entry-told : (s plan : List ℕ) (entry : ℕ) (r : Most) {paired : Bool} {ranks at : ℕ} → paired ≡ pairIn entry → ranks ≡ ranksIn entry → at ≡ expressionIn entry
+    → ((known : List Place) (first second : ℕ) → MostTold ranks r (readExpression s (scopeIn plan known) (placeBy paired first second) 16 at)) → MostArc s plan entry (r .arcs)
+entry-told s plan entry r p q e told known first second next x reads =
+    arcs-told s (scopeIn plan known) (placeBy (pairIn entry) first second) 16 (expressionIn entry) (ranksIn entry) r (rw (p, q, e) at told known first second) reads

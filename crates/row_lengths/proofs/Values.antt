@@ -6,13 +6,13 @@ use borrow.Author.Tests.{eqb-true}
 use Rattle.reading.specs.Basics.{ℕ, Bool, true, false, List, [], _∷_, map, Option, none, some, length, getD, getElem?, eqb, if_then_else_, given}
 use Rattle.reading.proofs.Lists.{In, at-below, getD-at, at-in}
 use Rattle.firing.specs.Firing.{Weights}
-use Rattle.net.specs.Net.{Net, sizeOf, arcOn, variablesOf, noTransition}
+use Rattle.net.specs.Net.{Net, sizeOf, arcOn, variablesOf, noTransition, transitionAt}
 use Rattle.net.specs.Values.{weight}
 use Rattle.net_file.specs.Limits.{Limits}
 use Rattle.net_file.specs.Formed.{Fitting, Words}
 use Rattle.net_file.proofs.Formed.{found-in}
 use Rattle.row_lengths.proofs.Ranges.{weight-word}
-use Rattle.bindings.specs.Effect.{Binding, transitionAt, bindings, standsFor, FlatPlace, flatPlaces, arcWeight, weightsOf, effect, colouring}
+use Rattle.bindings.specs.Effect.{Binding, bindings, standsFor, FlatPlace, flatPlaces, arcWeight, weightsOf, effect, colouring}
 use Rattle.bindings.proofs.Bindings.{Fit, more, binding-fits}
 use Rattle.bindings.proofs.Legal.{effect-weighs}
 

@@ -1,4 +1,7 @@
 // How many arcs a transition's rows have, where every binding has as many.
+use plan::arc_of;
+use plan::expression_of;
+use plan::ranks_of;
 use reading::byte_at;
 use reading::word_at;
 ghost use mathlib.Core.Path.{_≡_};
@@ -77,19 +80,19 @@ fn steady_arc(s: &[u8], ranks: usize, at: usize) -> Steady
 }
 
 // How many arcs a transition's arcs of a kind give, entry after entry of its row in the packed table, up to the first 0.
-fn steady_kind(s: &[u8], arcs: &[u64; 3072], base: usize) -> Steady
+fn steady_kind(s: &[u8], plan: &[u32; 3584], base: usize) -> Steady
     requires { ⌜ base ≤ 3040 ⌝ }
-    ensures is { λ r. ⌜ SteadyKind (now (s .entry)) (now (arcs .entry)) base r ⌝ }
+    ensures is { λ r. ⌜ SteadyKind (now (s .entry)) (now (plan .entry)) base r ⌝ }
     ensures small { λ r. ⌜ SteadyWithin 2097120 r ⌝ }
 {
     let mut total: usize = 0;
     let mut i: usize = 0;
     while i < 32 {
-        let entry = arcs[base + i] as usize;
+        let entry = arc_of(plan, base + i);
         if entry < 1 {
             return Steady::Arcs { count: total };
         }
-        let more = steady_arc(s, entry / 2 % 8192, entry / 134217728);
+        let more = steady_arc(s, ranks_of(entry), expression_of(entry));
         let Steady::Arcs { count: n } = more else {
             return Steady::Varies;
         };
@@ -100,19 +103,19 @@ fn steady_kind(s: &[u8], arcs: &[u64; 3072], base: usize) -> Steady
 }
 
 // How many arcs each row of a transition has.
-pub fn steady_row(s: &[u8], arcs: &[u64; 3072], t: usize) -> Steady
+pub fn steady_row(s: &[u8], plan: &[u32; 3584], t: usize) -> Steady
     requires { ⌜ t < 32 ⌝ }
-    ensures is { λ r. ⌜ SteadyRow (now (s .entry)) (now (arcs .entry)) t r ⌝ }
+    ensures is { λ r. ⌜ SteadyRow (now (s .entry)) (now (plan .entry)) t r ⌝ }
     ensures small { λ r. ⌜ SteadyWithin 6291360 r ⌝ }
 {
     let base = t * 96;
-    let Steady::Arcs { count: takes } = steady_kind(s, arcs, base) else {
+    let Steady::Arcs { count: takes } = steady_kind(s, plan, base) else {
         return Steady::Varies;
     };
-    let Steady::Arcs { count: puts } = steady_kind(s, arcs, base + 32) else {
+    let Steady::Arcs { count: puts } = steady_kind(s, plan, base + 32) else {
         return Steady::Varies;
     };
-    let Steady::Arcs { count: hinders } = steady_kind(s, arcs, base + 64) else {
+    let Steady::Arcs { count: hinders } = steady_kind(s, plan, base + 64) else {
         return Steady::Varies;
     };
     Steady::Arcs {

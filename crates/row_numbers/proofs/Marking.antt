@@ -14,13 +14,16 @@ use lib.ListN.{set}
 use lib.Pow.{low, shl-shr, pow-lt, pow-add, pow-pos}
 use lib.Seq.{getD-set-same, getD-set-other}
 use Rattle.reading.specs.Basics.{ℕ, zero, suc, _+_, _/_, _%_, Bool, true, false, _||_, _&&_, eqb, ltb, if_then_else_, List, length, getD, replicate, keep, numbersFrom, below, product}
-use Rattle.net.specs.Net.{Net, sizesOf}
+use Rattle.net.specs.Net.{Net, sizesOf, transitionAt}
 use Rattle.net.specs.internal.ReaderEnums.{member}
+use Rattle.reading.proofs.Clash.{clash}
+use Rattle.prepared.specs.internal.Prepared.{Prepared}
+use Rattle.prepared.proofs.Known.{its-limits}
+use Rattle.bindings.specs.internal.Legal.{everyRow}
 use Rattle.net_transitions.proofs.Spaces.{count-next, count-takes}
-use Rattle.bindings.specs.Effect.{transitionAt}
-use Rattle.row_numbers.specs.internal.Walked.{takesEffect, entries, Listed, Tables}
+use Rattle.row_numbers.specs.internal.Walked.{takesEffect, entries}
 use Rattle.row_numbers.specs.internal.Marks.{markAt, hasRow, Blank, effects, Marking, Marked, Counted}
-use Rattle.row_numbers.proofs.Tabled.{guard-none, number-small, entries-begin, entries-next, entries-rise, entries-few, entries-most, entries-without, entries-with}
+use Rattle.row_numbers.proofs.Tabled.{every-takes, number-small, entries-begin, entries-next, entries-rise, entries-few, entries-most, entries-without, entries-with}
 
 -- ---- bits
 or-low : (a b : ℕ) → bitOr a b % 2 ≡ max (a % 2) (b % 2)
@@ -167,22 +170,22 @@ module _ (n : Net) (t : ℕ) where
   effects-all (suc i) h =
       subst (λ k. k ≡ effects n t k) (add-one i) (ap (λ c. c + 1) (effects-all i (λ j lt. h j (omega arith))) ∙ sym (count-takes (takesEffect n t) i (h i (omega arith))))
 
-  -- as where there is no guard
-  pub effects-unguarded : {s sizes vars own : List ℕ} {guard : ℕ} → Listed s n sizes vars own t guard → guard < 1 → (many : ℕ) → many ≡ effects n t many
-  effects-unguarded listed without many = effects-all many (λ i lt. guard-none listed i without)
+  -- as where every binding has a row
+  pub effects-every : {s plan : List ℕ} → Prepared s n plan → t < length (n .transitions) → everyRow plan t ≡ true → (many : ℕ) → many ≡ effects n t many
+  effects-every p less every many = effects-all many (λ i lt. every-takes p less every i)
 
 -- ---- one transition after another
 -- so many transitions are marked and counted, with so many marks
-pub record Reached (n : Net) (guards marks rows : List ℕ) (t base : ℕ) : Type 0 where
-  pub used : base ≡ entries n guards t
-  pub marked : Marked n guards marks t
+pub record Reached (n : Net) (plan marks rows : List ℕ) (t base : ℕ) : Type 0 where
+  pub used : base ≡ entries n plan t
+  pub marked : Marked n plan marks t
   pub counted : Counted n rows t
   pub blank : Blank marks base
 
-module _ (n : Net) (guards : List ℕ) where
-  pub reach-begins : {marks : List ℕ} (rows : List ℕ) → Blank marks 0 → Reached n guards marks rows 0 0
+module _ (n : Net) (plan : List ℕ) where
+  pub reach-begins : {marks : List ℕ} (rows : List ℕ) → Blank marks 0 → Reached n plan marks rows 0 0
   reach-begins rows blank = record {
-    used = entries-begin n guards;
+    used = entries-begin n plan;
     marked = record { told = λ t i lt. absurd (omega arith) };
     counted = record { row = λ t lt. absurd (omega arith) };
     blank = blank;
@@ -197,33 +200,33 @@ module _ (n : Net) (guards : List ℕ) where
         (eq-or-lt-of-le (let le : u ≤ t = omega arith in le));
   }
 
-  module _ {marks rows : List ℕ} {t base many : ℕ} (was : Reached n guards marks rows t base) (room : t < length rows) (is : many ≡ product (sizesOf n (transitionAt n t))) where
-    -- one without a guard more
-    pub reach-follows : {s sizes vars own : List ℕ} → Listed s n sizes vars own t (getD guards t 0) → getD guards t 0 < 1 → Reached n guards marks (set rows t many) (t + 1) base
-    reach-follows listed without = record {
-      used = omega (arith, was .used, entries-next n guards t, entries-without (getD guards t 0) (product (sizesOf n (transitionAt n t))) without);
+  module _ {marks rows : List ℕ} {t base many : ℕ} (was : Reached n plan marks rows t base) (room : t < length rows) (is : many ≡ product (sizesOf n (transitionAt n t))) where
+    -- one more of which every binding has a row
+    pub reach-follows : {s : List ℕ} → Prepared s n plan → t < length (n .transitions) → everyRow plan t ≡ true → Reached n plan marks (set rows t many) (t + 1) base
+    reach-follows p less without = record {
+      used = omega (arith, was .used, entries-next n plan t, entries-without (everyRow plan t) (product (sizesOf n (transitionAt n t))) without);
       marked = record {
         told = λ u i lt guarded inside. ⊎-elim
-            (λ e. let g : 1 ≤ getD guards t 0 = rw e at guarded in absurd (omega arith))
+            (λ e. clash (ap (everyRow plan) (sym e)) without guarded)
             (λ less. was .marked .told u i less guarded inside)
             (eq-or-lt-of-le (let le : u ≤ t = omega arith in le));
       };
-      counted = counted-more (was .counted) room (effects-unguarded n t listed without many ∙ ap (effects n t) is);
+      counted = counted-more (was .counted) room (effects-every n t p less without many ∙ ap (effects n t) is);
       blank = was .blank;
     }
 
-    -- one with a guard more
-    pub reach-goes : {after : List ℕ} {count : ℕ} → 1 ≤ getD guards t 0 → (count ≡ effects n t many) × Marking n t marks after base many
-        → Reached n guards after (set rows t count) (t + 1) (base + many)
+    -- one more with marks
+    pub reach-goes : {after : List ℕ} {count : ℕ} → everyRow plan t ≡ false → (count ≡ effects n t many) × Marking n t marks after base many
+        → Reached n plan after (set rows t count) (t + 1) (base + many)
     reach-goes {after} guarded (counts, marking) = record {
-      used = omega (arith, was .used, entries-next n guards t, entries-with (getD guards t 0) (product (sizesOf n (transitionAt n t))) guarded);
+      used = omega (arith, was .used, entries-next n plan t, entries-with (everyRow plan t) (product (sizesOf n (transitionAt n t))) guarded);
       marked = record {
         told = λ u i lt g inside. ⊎-elim
             (λ e. here u i e inside)
             (λ less.
             let k : t ≡ u + 1 + (t - (u + 1)) = omega arith in
-            let rise = rw (← k) at (entries-rise n guards (u + 1) (t - (u + 1))) in
-            marking .same (entries n guards u + i) (omega (arith, was .used, entries-next n guards u, entries-with (getD guards u 0) (product (sizesOf n (transitionAt n u))) g))
+            let rise = rw (← k) at (entries-rise n plan (u + 1) (t - (u + 1))) in
+            marking .same (entries n plan u + i) (omega (arith, was .used, entries-next n plan u, entries-with (everyRow plan u) (product (sizesOf n (transitionAt n u))) g))
             ∙ was .marked .told u i less g inside)
             (eq-or-lt-of-le (let le : u ≤ t = omega arith in le));
       };
@@ -231,37 +234,34 @@ module _ (n : Net) (guards : List ℕ) where
       blank = marking .blank;
     }
       where
-        here : (u i : ℕ) → u ≡ t → i < product (sizesOf n (transitionAt n u)) → markAt after (entries n guards u + i) ≡ takesEffect n u i
-        here u i e inside = subst (λ v. i < product (sizesOf n (transitionAt n v)) → markAt after (entries n guards v + i) ≡ takesEffect n v i) (sym e)
-            (λ less. let q : entries n guards t + i ≡ base + i = omega (arith, was .used) in ap (markAt after) q ∙ marking .told i (omega arith)) inside
+        here : (u i : ℕ) → u ≡ t → i < product (sizesOf n (transitionAt n u)) → markAt after (entries n plan u + i) ≡ takesEffect n u i
+        here u i e inside = subst (λ v. i < product (sizesOf n (transitionAt n v)) → markAt after (entries n plan v + i) ≡ takesEffect n v i) (sym e)
+            (λ less. let q : entries n plan t + i ≡ base + i = omega (arith, was .used) in ap (markAt after) q ∙ marking .told i (omega arith)) inside
 
   -- all of them
-  pub reach-ends : {marks rows : List ℕ} {t base transitions : ℕ} → Reached n guards marks rows t base → t ≡ transitions → Marked n guards marks transitions × Counted n rows transitions
-  reach-ends {marks} {rows} was e = subst (λ k. Marked n guards marks k × Counted n rows k) e (was .marked, was .counted)
+  pub reach-ends : {marks rows : List ℕ} {t base transitions : ℕ} → Reached n plan marks rows t base → t ≡ transitions → Marked n plan marks transitions × Counted n rows transitions
+  reach-ends {marks} {rows} was e = subst (λ k. Marked n plan marks k × Counted n rows k) e (was .marked, was .counted)
 
 -- ---- reading the marks of a transition
-module _ {s sizes vars own uses guards : List ℕ} {n : Net} {transitions : ℕ} (tables : Tables s n sizes vars own uses guards transitions) {t many base : ℕ} (lt : t < transitions)
-    (is : many ≡ product (sizesOf n (transitionAt n t))) (from : base ≡ entries n guards t) where
+module _ {s plan : List ℕ} {n : Net} (p : Prepared s n plan) {t many base : ℕ} (lt : t < length (n .transitions))
+    (is : many ≡ product (sizesOf n (transitionAt n t))) (from : base ≡ entries n plan t) where
   -- its bindings stand below 65,536
   pub marks-few : base + many ≤ 65536
   marks-few = go (ltb 0 many) refl
     where
-      less : t < length (n .transitions)
-      less = omega (arith, tables .are)
-
       go : (b : Bool) → ltb 0 many ≡ b → base + many ≤ 65536
       go true e =
           let h = ltb-true 0 many e in
-          omega (arith, number-small n t (many - 1) (tables .limits) less (omega arith), entries-most n guards t (omega arith))
+          omega (arith, number-small n t (many - 1) (its-limits p) lt (omega arith), entries-most n plan t (omega arith))
       go false e =
           let h = ltb-false 0 many e in
-          let k : transitions ≡ t + (transitions - t) = omega arith in
-          omega (arith, entries-few tables, rw (← k) at (entries-rise n guards t (transitions - t)))
+          let k : length (n .transitions) ≡ t + (length (n .transitions) - t) = omega arith in
+          omega (arith, entries-few p, rw (← k) at (entries-rise n plan t (length (n .transitions) - t)))
 
   -- what they tell
-  pub marks-told : {marks : List ℕ} {guard : ℕ} → Marked n guards marks transitions → guard ≡ getD guards t 0 → (i : ℕ) → i < many → hasRow guard marks (base + i) ≡ takesEffect n t i
-  marks-told {marks} {guard} marked g i inside = rw (g, from) (go (ltb (getD guards t 0) 1) refl)
+  pub marks-told : {marks : List ℕ} → Marked n plan marks (length (n .transitions)) → (i : ℕ) → i < many → hasRow (everyRow plan t) marks (base + i) ≡ takesEffect n t i
+  marks-told {marks} marked i inside = rw from (go (everyRow plan t) refl)
     where
-      go : (b : Bool) → ltb (getD guards t 0) 1 ≡ b → (if ltb (getD guards t 0) 1 then true else markAt marks (entries n guards t + i)) ≡ takesEffect n t i
-      go true e = rw e (guard-none (tables .each t lt) i (ltb-true (getD guards t 0) 1 e))
-      go false e = rw e (marked .told t i lt (ltb-false (getD guards t 0) 1 e) (omega arith))
+      go : (b : Bool) → everyRow plan t ≡ b → (if b then true else markAt marks (entries n plan t + i)) ≡ takesEffect n t i
+      go true e = every-takes p lt e i
+      go false e = marked .told t i lt e (omega arith)

@@ -2,17 +2,20 @@
 use mathlib.Core.Path.{_≡_, ap, _∙_, subst}
 use Prim.Native.Nat.{_≤_, _<_, _-_}
 use native.Mathlib.Omega.{arith}
-use Rattle.reading.specs.Basics.{ℕ, _+_, List, none, some, length, product}
-use Rattle.net.specs.Net.{Net, sizesOf}
-use Rattle.bindings.specs.Effect.{transitionAt, bindings}
+use Rattle.reading.specs.Basics.{ℕ, _+_, true, List, none, some, length, product}
+use Rattle.net.specs.Net.{Net, sizesOf, transitionAt}
+use Rattle.bindings.specs.Effect.{bindings}
+use Rattle.prepared.specs.internal.Prepared.{Prepared}
+use Rattle.prepared.proofs.Known.{its-limits}
+use Rattle.bindings.specs.internal.Legal.{everyRow}
 use Rattle.bindings.specs.internal.Numbers.{before}
 use Rattle.bindings.proofs.Digits.{bindings-at, before-all}
 use Rattle.row_numbers.specs.Unfolding.{orderOfRow}
-use Rattle.row_numbers.specs.internal.Walked.{passed, orderAt, Listed, SoughtTold, SoughtRoom}
+use Rattle.row_numbers.specs.internal.Walked.{passed, orderAt, SoughtTold, SoughtRoom}
 use Rattle.row_numbers.specs.declared.seek.Sought.{Sought}
 use Rattle.row_numbers.specs.declared.seek.Sought.the-variants.{At, Past}
 use Rattle.row_numbers.proofs.Walking.{passed-all, order-here, order-past}
-use Rattle.row_numbers.proofs.Tabled.{guard-none, count-passes, row-each}
+use Rattle.row_numbers.proofs.Tabled.{every-takes, count-passes, row-each}
 
 module _ (n : Net) (t i : ℕ) (lt : t < length (n .transitions)) (inside : i < product (sizesOf n (transitionAt n t))) where
   -- the row is that of binding number i
@@ -20,21 +23,21 @@ module _ (n : Net) (t i : ℕ) (lt : t < length (n .transitions)) (inside : i < 
       → orderOfRow n row ≡ some (orderAt n t i)
   sought-here {row} is more le less = order-here n (before n t + i) (bindings-at n t i lt inside) row (omega arith) (omega arith)
 
--- a transition without a guard
-module _ {s sizes vars own : List ℕ} {n : Net} {t guard : ℕ} (listed : Listed s n sizes vars own t guard) (without : guard < 1) where
+-- a transition of which every binding has a row
+module _ {s plan : List ℕ} {n : Net} {t : ℕ} (p : Prepared s n plan) (lt : t < length (n .transitions)) (every : everyRow plan t ≡ true) where
   -- the row is that of the binding as many after its first as the row after its first row
   pub sought-follows : (row : ℕ) {count size : ℕ} → count ≡ passed n (before n t) → size ≡ product (sizesOf n (transitionAt n t)) → count ≤ row → row - count < size
       → orderOfRow n row ≡ some (orderAt n t (row - count))
   sought-follows row {count} is size-is le less =
       let i : ℕ = row - count in
       let inside : i < product (sizesOf n (transitionAt n t)) = omega arith in
-      let at = row-each listed without i (omega arith) in
-      let more = count-passes n t i (listed .limits) (listed .stands) inside (guard-none listed i without) at in
-      order-here n (before n t + i) (bindings-at n t i (listed .stands) inside) row (omega arith) (omega arith)
+      let at = row-each p lt every i (omega arith) in
+      let more = count-passes n t i (its-limits p) lt inside (every-takes p lt every i) at in
+      order-here n (before n t + i) (bindings-at n t i lt inside) row (omega arith) (omega arith)
 
   -- the rows with all of its bindings
   pub sought-past : {count size : ℕ} → count ≡ passed n (before n t) → size ≡ product (sizesOf n (transitionAt n t)) → count + size ≡ passed n (before n t + size)
-  sought-past {count} {size} is size-is = rw is (row-each listed without size (omega arith))
+  sought-past {count} {size} is size-is = rw is (row-each p lt every size (omega arith))
 
 -- what a transition's search told
 pub the-index : (n : Net) (t size row : ℕ) {index : ℕ} {r : Sought} → r ≡ At index → SoughtTold n t size row r → orderOfRow n row ≡ some (orderAt n t index)

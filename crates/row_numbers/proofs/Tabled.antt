@@ -5,59 +5,45 @@ use Prim.Native.Nat.{_≤_, _<_, _-_}
 use native.Mathlib.Omega.{arith}
 use native.Mathlib.Nat.{add-zero, eq-or-lt-of-le}
 use native.Mathlib.Numerals.{add-one}
-use borrow.Author.Tests.{ltb-true, ltb-false, lt-ltb, le-ltb}
+use borrow.Author.Tests.{ltb-true, ltb-false}
 use lib.ListN.{set}
 use lib.Seq.{getD-set-same, getD-set-other}
-use Rattle.reading.specs.Basics.{ℕ, zero, suc, _+_, Bool, true, false, ltb, if_then_else_, _||_, List, some, length, getD, getElem?, any, product}
+use Rattle.reading.specs.Basics.{ℕ, zero, suc, _+_, Bool, true, false, ltb, List, some, length, getD, getElem?, product}
 use Rattle.reading.proofs.Lists.{below-at}
-use Rattle.net.specs.Net.{Transition, Net, inGuard, inExpression, variablesOf, sizesOf, scope}
-use Rattle.net.specs.Reader.{readGuard}
-use Rattle.net.specs.Values.{holds}
-use Rattle.evaluation.specs.internal.Evaluated.{Held}
+use Rattle.net.specs.Net.{Net, sizesOf, transitionAt}
+use Rattle.plan.specs.internal.Layout.{transitionsIn}
 use Rattle.net_file.specs.Limits.{Limits}
-use Rattle.evaluation.specs.declared.evaluate.Tested.{Tested}
-use Rattle.net.proofs.Alike.{holds-alike, holds-bound}
-use Rattle.bindings.specs.Effect.{Binding, transitionAt, standsFor, bindings}
+use Rattle.reading.proofs.Clash.{clash}
+use Rattle.prepared.specs.internal.Prepared.{Prepared}
+use Rattle.prepared.proofs.Known.{its-limits}
+use Rattle.bindings.specs.Effect.{Binding, bindings, legal}
 use Rattle.bindings.specs.Orders.{orderOf}
-use Rattle.bindings.specs.internal.Bindings.{Binds, numbered}
+use Rattle.bindings.specs.internal.Bindings.{numbered}
+use Rattle.bindings.specs.internal.Legal.{everyRow}
 use Rattle.bindings.specs.internal.Numbers.{digits, before}
 use Rattle.bindings.proofs.Bindings.{bindings-length}
 use Rattle.bindings.proofs.Digits.{bindings-at, before-next, before-all}
 use Rattle.row_numbers.specs.Unfolding.{rowNumber}
-use Rattle.row_numbers.specs.internal.Walked.{passed, takesEffect, entriesAt, entries, Numbers, Follows, Starts, Listed, Tables}
+use Rattle.row_numbers.specs.internal.Walked.{passed, takesEffect, entriesAt, entries, Numbers, Follows, Starts}
 use Rattle.row_numbers.proofs.Walking.{passed-none, passed-most, effect-passes, effect-fails, number-passes, number-fails}
-use Rattle.bindings.proofs.Legal.{legal-is, legal-told}
+use Rattle.bindings.proofs.Legal.{legal-told, every-legal}
 
--- ---- one guard
-in-first : (a b : Bool) → a ≡ true → a || b ≡ true
-in-first a b e = rw e
+-- ---- transitions by their count in the table
+module _ {s plan : List ℕ} {n : Net} (p : Prepared s n plan) {count : ℕ} (is : count ≡ transitionsIn plan) where
+  pub in-net : {t : ℕ} → t < count → t < length (n .transitions)
+  in-net lt = omega (arith, p .transitions-are)
 
-module _ {s sizes vars own : List ℕ} {n : Net} {t guard : ℕ} (listed : Listed s n sizes vars own t guard) (i : ℕ) where
-  abbrev this : Transition
-  this = transitionAt n t
+  pub all-of-net : {t : ℕ} → t ≤ count → count ≤ t → t ≡ length (n .transitions)
+  all-of-net most least = omega (arith, p .transitions-are)
 
-  -- the colours of binding number i
-  abbrev env : ℕ → ℕ
-  env = standsFor (variablesOf n this) (digits (sizesOf n this) i)
+-- ---- one binding's effect
+-- it has one where it is legal
+pub effect-told : (n : Net) (t i : ℕ) {b : Bool} → b ≡ legal n (numbered n t i) → b ≡ takesEffect n t i
+effect-told n t i e = e ∙ legal-told n (numbered n t i) refl
 
-  -- it has an effect where its guard holds
-  effect-told : {b : Bool} → b ≡ holds n env (this .guard) → b ≡ takesEffect n t i
-  effect-told e = e ∙ sym (legal-is n (numbered n t i)) ∙ legal-told n (numbered n t i) refl
-
-  -- there is no guard
-  pub guard-none : guard < 1 → true ≡ takesEffect n t i
-  unfolding holds
-  guard-none h = let e : guard ≡ 0 = omega arith in effect-told (rw (listed .standing .without e))
-
-  -- it is evaluated where it stands
-  pub guard-told : (slots : List ℕ) (r : Tested) → 1 ≤ guard → Binds n (numbered n t i) slots
-      → Held (scope sizes vars (n .places)) slots r (readGuard s (scope sizes vars (n .places)) 16 guard) → r .holds ≡ takesEffect n t i
-  guard-told slots r h given held =
-      let is = subst (Held (scope sizes vars (n .places)) slots r) (listed .standing .stands (omega arith) .reads) held in
-      effect-told
-      (ap (λ x. x .holds) is
-      ∙ sym (holds-alike n (scope sizes vars (n .places)) (listed .sets) (listed .variables) (λ v. getD slots v 0) (this .guard))
-      ∙ holds-bound n (λ v. getD slots v 0) env (this .guard) (λ v q. given v (in-first (inGuard v (this .guard)) (any (λ a. inExpression v (a .expression)) (this .arcs)) q)))
+-- where every binding has a row, it has one
+pub every-takes : {s plan : List ℕ} {n : Net} {t : ℕ} → Prepared s n plan → t < length (n .transitions) → everyRow plan t ≡ true → (i : ℕ) → true ≡ takesEffect n t i
+every-takes {n = n} {t = t} p lt e i = effect-told n t i (sym (every-legal p lt (digits (sizesOf n (transitionAt n t)) i) e))
 
 -- ---- one binding
 module _ (n : Net) (t i : ℕ) (limits : Limits n) (lt : t < length (n .transitions)) (inside : i < product (sizesOf n (transitionAt n t))) where
@@ -110,7 +96,7 @@ pub passed-then : (n : Net) {t size total : ℕ} → t < length (n .transitions)
     → total ≡ passed n (before n (t + 1))
 passed-then n {t} {size} lt is e = let q : before n t + size ≡ before n (t + 1) = omega (arith, before-next n t lt) in e ∙ ap (passed n) q
 
--- ---- a transition with a guard
+-- ---- a transition with entries
 -- no binding yet
 pub number-none : (n : Net) (t : ℕ) (numbers : List ℕ) (base : ℕ) → Numbers n t numbers base 0
 number-none n t numbers base = record { number = λ j lt. absurd (omega arith) }
@@ -130,13 +116,13 @@ number-turn n t limits lt {i = i} less is room here more row none e =
 pub same-below : (numbers : List ℕ) {after : List ℕ} (base i j x : ℕ) → after ≡ set numbers (base + i) x → j < base → getD after j 0 ≡ getD numbers j 0
 same-below numbers base i j x e lt = rw e (getD-set-other numbers (base + i) j x 0 (λ q. omega arith))
 
--- ---- a transition without a guard
-module _ {s sizes vars own : List ℕ} {n : Net} {t guard : ℕ} (listed : Listed s n sizes vars own t guard) (without : guard < 1) where
+-- ---- a transition of which every binding has a row
+module _ {s plan : List ℕ} {n : Net} {t : ℕ} (p : Prepared s n plan) (lt : t < length (n .transitions)) (every : everyRow plan t ≡ true) where
   -- each of its bindings has a row
   pub row-each : (i : ℕ) → i ≤ product (sizesOf n (transitionAt n t)) → passed n (before n t) + i ≡ passed n (before n t + i)
   row-each zero le = let e : before n t ≡ before n t + 0 = omega arith in add-zero (passed n (before n t)) ∙ ap (passed n) e
   row-each (suc i) le =
-      let h = count-passes n t i (listed .limits) (listed .stands) (omega arith) (guard-none listed i without) (row-each i (omega arith)) in
+      let h = count-passes n t i (its-limits p) lt (omega arith) (every-takes p lt every i) (row-each i (omega arith)) in
       let e : passed n (before n t) + (i + 1) ≡ passed n (before n t) + i + 1 = omega arith in
       rw (← add-one i) (e ∙ passed-next n t i h)
 
@@ -144,70 +130,66 @@ module _ {s sizes vars own : List ℕ} {n : Net} {t guard : ℕ} (listed : Liste
   pub follows : Follows n t (passed n (before n t)) (product (sizesOf n (transitionAt n t)))
   follows = record {
     number = λ i inside.
-        let more = count-passes n t i (listed .limits) (listed .stands) inside (guard-none listed i without) refl in
-        row-each i (omega arith) ∙ number-passes n (before n t + i) (here n t i (listed .limits) (listed .stands) inside) (listed .limits) (omega arith);
-    few = λ i inside. omega (arith, row-each i (omega arith), passed-most n (before n t + i), number-small n t i (listed .limits) (listed .stands) inside);
+        let more = count-passes n t i (its-limits p) lt inside (every-takes p lt every i) refl in
+        row-each i (omega arith) ∙ number-passes n (before n t + i) (here n t i (its-limits p) lt inside) (its-limits p) (omega arith);
+    few = λ i inside. omega (arith, row-each i (omega arith), passed-most n (before n t + i), number-small n t i (its-limits p) lt inside);
   }
 
 -- ---- entries
-at-most : (guard size : ℕ) → entriesAt guard size ≤ size
-at-most guard size = go (ltb guard 1)
-  where
-    go : (b : Bool) → (if b then 0 else size) ≤ size
-    go true = omega arith
-    go false = omega arith
+at-most : (every : Bool) (size : ℕ) → entriesAt every size ≤ size
+at-most true size = omega arith
+at-most false size = omega arith
 
-pub entries-without : (guard size : ℕ) → guard < 1 → 0 ≡ entriesAt guard size
-entries-without guard size h = rw (lt-ltb guard 1 h)
+pub entries-without : (every : Bool) (size : ℕ) → every ≡ true → 0 ≡ entriesAt every size
+entries-without every size h = rw h
 
-pub entries-with : (guard size : ℕ) → 1 ≤ guard → size ≡ entriesAt guard size
-entries-with guard size h = rw (le-ltb guard 1 h)
+pub entries-with : (every : Bool) (size : ℕ) → every ≡ false → size ≡ entriesAt every size
+entries-with every size h = rw h
 
-module _ (n : Net) (guards : List ℕ) where
-  pub entries-begin : 0 ≡ entries n guards 0
+module _ (n : Net) (plan : List ℕ) where
+  pub entries-begin : 0 ≡ entries n plan 0
   unfolding entries
   entries-begin = refl
 
-  pub entries-next : (t : ℕ) → entries n guards (t + 1) ≡ entries n guards t + entriesAt (getD guards t 0) (product (sizesOf n (transitionAt n t)))
+  pub entries-next : (t : ℕ) → entries n plan (t + 1) ≡ entries n plan t + entriesAt (everyRow plan t) (product (sizesOf n (transitionAt n t)))
   unfolding entries
   entries-next t = rw add-one
 
   -- the first have no more than all
-  pub entries-rise : (t k : ℕ) → entries n guards t ≤ entries n guards (t + k)
+  pub entries-rise : (t k : ℕ) → entries n plan t ≤ entries n plan (t + k)
   entries-rise t zero = rw add-zero (omega arith)
   entries-rise t (suc k) = let e : t + suc k ≡ t + k + 1 = omega arith in rw e (omega (arith, entries-rise t k, entries-next (t + k)))
 
   -- and no more than there are bindings
-  pub entries-most : (t : ℕ) → t ≤ length (n .transitions) → entries n guards t ≤ before n t
+  pub entries-most : (t : ℕ) → t ≤ length (n .transitions) → entries n plan t ≤ before n t
   entries-most zero le = omega (arith, entries-begin)
   entries-most (suc t) le =
       rw (← add-one t)
-      (omega (arith, entries-most t (omega arith), entries-next t, at-most (getD guards t 0) (product (sizesOf n (transitionAt n t))), before-next n t (omega arith)))
+      (omega (arith, entries-most t (omega arith), entries-next t, at-most (everyRow plan t) (product (sizesOf n (transitionAt n t))), before-next n t (omega arith)))
 
 -- so 65,536 are enough
-pub entries-few : {s sizes vars own uses guards : List ℕ} {n : Net} {k : ℕ} → Tables s n sizes vars own uses guards k → entries n guards k ≤ 65536
-entries-few {guards = guards} {n = n} {k = k} tables =
-    let all : before n k ≡ length (bindings n) = ap (before n) (sym (tables .are)) ∙ before-all n in
-    omega (arith, entries-most n guards k (omega (arith, tables .are)), bindings-length n, tables .limits .space)
+pub entries-few : {s plan : List ℕ} {n : Net} → Prepared s n plan → entries n plan (length (n .transitions)) ≤ 65536
+entries-few {plan = plan} {n = n} p =
+    omega (arith, entries-most n plan (length (n .transitions)) (omega arith), before-all n, bindings-length n, its-limits p .space)
 
 -- ---- one transition after another
 -- so many transitions are numbered, with so many entries and rows
-pub record Numbered (n : Net) (guards starts numbers : List ℕ) (t base count : ℕ) : Type 0 where
+pub record Numbered (n : Net) (plan starts numbers : List ℕ) (t base count : ℕ) : Type 0 where
   pub rows : count ≡ passed n (before n t)
-  pub used : base ≡ entries n guards t
-  pub told : Starts n guards starts numbers t
-  pub below : (u : ℕ) → u < t → 1 ≤ getD guards u 0 → getD starts u 0 + product (sizesOf n (transitionAt n u)) ≤ base
+  pub used : base ≡ entries n plan t
+  pub told : Starts n plan starts numbers t
+  pub below : (u : ℕ) → u < t → everyRow plan u ≡ false → getD starts u 0 + product (sizesOf n (transitionAt n u)) ≤ base
 
-module _ (n : Net) (guards : List ℕ) where
-  pub number-begins : (starts numbers : List ℕ) → Numbered n guards starts numbers 0 0 0
+module _ (n : Net) (plan : List ℕ) where
+  pub number-begins : (starts numbers : List ℕ) → Numbered n plan starts numbers 0 0 0
   number-begins starts numbers = record {
     rows = sym (passed-none n);
-    used = entries-begin n guards;
+    used = entries-begin n plan;
     told = record { rows = λ u lt. absurd (omega arith); held = λ u lt. absurd (omega arith) };
     below = λ u lt. absurd (omega arith);
   }
 
-  module _ {starts numbers : List ℕ} {t base count : ℕ} (start : ℕ) (was : Numbered n guards starts numbers t base count) (room : t < length starts) where
+  module _ {starts numbers : List ℕ} {t base count : ℕ} (start : ℕ) (was : Numbered n plan starts numbers t base count) (room : t < length starts) where
     -- the last, or one before it
     by-last : (P : ℕ → ℕ → Type 0) → P t start → ((u : ℕ) → u < t → P u (getD starts u 0)) → (u : ℕ) → u < t + 1 → P u (getD (set starts t start) u 0)
     by-last P last those u lt = ⊎-elim
@@ -217,50 +199,50 @@ module _ (n : Net) (guards : List ℕ) where
 
     -- one start more
     starts-more : (after : List ℕ) → ((j : ℕ) → j < base → getD after j 0 ≡ getD numbers j 0)
-        → (getD guards t 0 < 1 → Follows n t start (product (sizesOf n (transitionAt n t))))
-        → (1 ≤ getD guards t 0 → Numbers n t after start (product (sizesOf n (transitionAt n t)))) → Starts n guards (set starts t start) after (t + 1)
+        → (everyRow plan t ≡ true → Follows n t start (product (sizesOf n (transitionAt n t))))
+        → (everyRow plan t ≡ false → Numbers n t after start (product (sizesOf n (transitionAt n t)))) → Starts n plan (set starts t start) after (t + 1)
     starts-more after same follow number = record {
-      rows = by-last (λ u x. getD guards u 0 < 1 → Follows n u x (product (sizesOf n (transitionAt n u)))) follow (was .told .rows);
-      held = by-last (λ u x. 1 ≤ getD guards u 0 → Numbers n u after x (product (sizesOf n (transitionAt n u)))) number
+      rows = by-last (λ u x. everyRow plan u ≡ true → Follows n u x (product (sizesOf n (transitionAt n u)))) follow (was .told .rows);
+      held = by-last (λ u x. everyRow plan u ≡ false → Numbers n u after x (product (sizesOf n (transitionAt n u)))) number
           (λ u less guarded. record {
             number = λ i inside. same (getD starts u 0 + i) (omega (arith, was .below u less guarded)) ∙ was .told .held u less guarded .number i inside;
           });
     }
 
-    below-more : (end : ℕ) → base ≤ end → (1 ≤ getD guards t 0 → start + product (sizesOf n (transitionAt n t)) ≤ end)
-        → (u : ℕ) → u < t + 1 → 1 ≤ getD guards u 0 → getD (set starts t start) u 0 + product (sizesOf n (transitionAt n u)) ≤ end
+    below-more : (end : ℕ) → base ≤ end → (everyRow plan t ≡ false → start + product (sizesOf n (transitionAt n t)) ≤ end)
+        → (u : ℕ) → u < t + 1 → everyRow plan u ≡ false → getD (set starts t start) u 0 + product (sizesOf n (transitionAt n u)) ≤ end
     below-more end le last =
-        by-last (λ u x. 1 ≤ getD guards u 0 → x + product (sizesOf n (transitionAt n u)) ≤ end) last (λ u less guarded. omega (arith, was .below u less guarded))
+        by-last (λ u x. everyRow plan u ≡ false → x + product (sizesOf n (transitionAt n u)) ≤ end) last (λ u less guarded. omega (arith, was .below u less guarded))
 
-  -- one without a guard more
-  pub number-follows : {s sizes vars own starts numbers : List ℕ} {t base count size : ℕ} → Numbered n guards starts numbers t base count
-      → t < length starts → Listed s n sizes vars own t (getD guards t 0) → getD guards t 0 < 1
-      → size ≡ product (sizesOf n (transitionAt n t)) → Numbered n guards (set starts t count) numbers (t + 1) base (count + size)
-  number-follows {numbers = numbers} {t = t} {base = base} {count = count} {size = size} was room listed without is = record {
-    rows = passed-then n (listed .stands) is (rw (was .rows, is) (row-each listed without (product (sizesOf n (transitionAt n t))) (omega arith)));
-    used = omega (arith, was .used, entries-next n guards t, entries-without (getD guards t 0) (product (sizesOf n (transitionAt n t))) without);
-    told = starts-more count was room numbers (λ j less. refl) (λ h. rw (was .rows) (follows listed without)) (λ h. absurd (omega arith));
-    below = below-more count was room base (omega arith) (λ h. absurd (omega arith));
+  -- one more of which every binding has a row
+  pub number-follows : {s starts numbers : List ℕ} {t base count size : ℕ} → Numbered n plan starts numbers t base count
+      → t < length starts → Prepared s n plan → t < length (n .transitions) → everyRow plan t ≡ true
+      → size ≡ product (sizesOf n (transitionAt n t)) → Numbered n plan (set starts t count) numbers (t + 1) base (count + size)
+  number-follows {numbers = numbers} {t = t} {base = base} {count = count} {size = size} was room p lt every is = record {
+    rows = passed-then n lt is (rw (was .rows, is) (row-each p lt every (product (sizesOf n (transitionAt n t))) (omega arith)));
+    used = omega (arith, was .used, entries-next n plan t, entries-without (everyRow plan t) (product (sizesOf n (transitionAt n t))) every);
+    told = starts-more count was room numbers (λ j less. refl) (λ h. rw (was .rows) (follows p lt every)) (λ h. clash refl every h);
+    below = below-more count was room base (omega arith) (λ h. clash refl every h);
   }
 
-  -- one with a guard more
-  pub number-goes : {starts numbers after : List ℕ} {t base count size total : ℕ} → Numbered n guards starts numbers t base count → t < length (n .transitions)
-      → t < length starts → 1 ≤ getD guards t 0 → size ≡ product (sizesOf n (transitionAt n t)) → (total ≡ passed n (before n t + size)) × Numbers n t after base size
-      → ((j : ℕ) → j < base → getD after j 0 ≡ getD numbers j 0) → Numbered n guards (set starts t base) after (t + 1) (base + size) total
+  -- one more with entries
+  pub number-goes : {starts numbers after : List ℕ} {t base count size total : ℕ} → Numbered n plan starts numbers t base count → t < length (n .transitions)
+      → t < length starts → everyRow plan t ≡ false → size ≡ product (sizesOf n (transitionAt n t)) → (total ≡ passed n (before n t + size)) × Numbers n t after base size
+      → ((j : ℕ) → j < base → getD after j 0 ≡ getD numbers j 0) → Numbered n plan (set starts t base) after (t + 1) (base + size) total
   number-goes {after = after} {t = t} {base = base} {size = size} was lt room guarded is told same = record {
     rows = passed-then n lt is (told .0);
-    used = omega (arith, was .used, entries-next n guards t, entries-with (getD guards t 0) (product (sizesOf n (transitionAt n t))) guarded);
-    told = starts-more base was room after same (λ h. absurd (omega arith)) (λ h. rw (← is) (told .1));
+    used = omega (arith, was .used, entries-next n plan t, entries-with (everyRow plan t) (product (sizesOf n (transitionAt n t))) guarded);
+    told = starts-more base was room after same (λ h. clash refl h guarded) (λ h. rw (← is) (told .1));
     below = below-more base was room (base + size) (omega arith) (λ h. omega arith);
   }
 
   -- there is room for its entries
-  pub number-room : {starts numbers : List ℕ} {t base count size k len : ℕ} → Numbered n guards starts numbers t base count → t < k → 1 ≤ getD guards t 0
-      → size ≡ product (sizesOf n (transitionAt n t)) → entries n guards k ≤ len → base + size ≤ len
+  pub number-room : {starts numbers : List ℕ} {t base count size k len : ℕ} → Numbered n plan starts numbers t base count → t < k → everyRow plan t ≡ false
+      → size ≡ product (sizesOf n (transitionAt n t)) → entries n plan k ≤ len → base + size ≤ len
   number-room {t = t} {size = size} {k = k} was lt guarded is enough =
       let e : t + 1 + (k - (t + 1)) ≡ k = omega arith in
-      omega (arith, was .used, rw e at (entries-rise n guards (t + 1) (k - (t + 1))), entries-next n guards t, entries-with (getD guards t 0) (product (sizesOf n (transitionAt n t))) guarded)
+      omega (arith, was .used, rw e at (entries-rise n plan (t + 1) (k - (t + 1))), entries-next n plan t, entries-with (everyRow plan t) (product (sizesOf n (transitionAt n t))) guarded)
 
   -- all of them
-  pub number-ends : {starts numbers : List ℕ} {t base count transitions : ℕ} → Numbered n guards starts numbers t base count → t ≡ transitions → Starts n guards starts numbers transitions
+  pub number-ends : {starts numbers : List ℕ} {t base count transitions : ℕ} → Numbered n plan starts numbers t base count → t ≡ transitions → Starts n plan starts numbers transitions
   number-ends was e = rw (← e) (was .told)

@@ -1,6 +1,6 @@
 -- Unfolding a net, the images of orders, and the way back.
 use Rattle.reading.specs.Basics.{ℕ, zero, suc, _+_, _*_, _/_, _%_, List, [], _∷_, _++_, map, flatMap, filterMap, Option, Option·map, length, getElem?, ltb, leb, eqb, if_then_else_, given, position, same, long, items, over}
-use Rattle.reading.specs.Reading.{Outcome, accepted, refused, on, Check, _unless_, permitted}
+use Rattle.reading.specs.Reading.{Outcome, accepted, refused, on, CallCheck, _when-not_, permitted}
 use Rattle.firing.specs.Firing.{Weights}
 use Rattle.flat_file.specs.Flat.{Flat, writeFlat}
 use Rattle.net.specs.Net.{Net, tokensOn}
@@ -52,20 +52,20 @@ pub record WriteCall : Type 0 where
   pub out : List ℕ
 
 -- some bytes over the lent list, and a number with them; a refusal leaves it as it was
-abbrev pub writing : (Net → List Check) → (Net → ℕ) → (Net → List ℕ) → List ℕ → List ℕ → WriteCall
+abbrev pub writing : (Net → List CallCheck) → (Net → ℕ) → (Net → List ℕ) → List ℕ → List ℕ → WriteCall
 writing checks number bytes s out =
     on (permitted checks (readNet s)) (λ refusal place. record { result = refused refusal place; out = out })
     λ n. record { result = accepted (number n); out = over (bytes n) out }
 
 -- unfold: net file, lent output; it returns the flat file's length
 unfoldable pub unfoldCall : List ℕ → List ℕ → WriteCall
-unfoldCall s out = writing (λ n. (14 unless leb (length (flatFile n)) (length out)) ∷ []) (λ n. length (flatFile n)) flatFile s out
+unfoldCall s out = writing (λ n. (14 when-not leb (length (flatFile n)) (length out)) ∷ []) (λ n. length (flatFile n)) flatFile s out
 
 -- images: net file, orders, lent output; it returns how many
 unfoldable pub imagesCall : List ℕ → List ℕ → List ℕ → WriteCall
 imagesCall s orders out =
     let count = length orders / 6 in
-    writing (λ n. (13 unless eqb (length orders % 6) 0) ∷ (14 unless leb (count * 5) (length out)) ∷ []) (λ n. count) (λ n. images n orders) s out
+    writing (λ n. (13 when-not eqb (length orders % 6) 0) ∷ (14 when-not leb (count * 5) (length out)) ∷ []) (λ n. count) (λ n. images n orders) s out
 
 -- the order of a row number: net file, row number
 unfoldable pub orderCall : List ℕ → ℕ → Outcome (Option (List ℕ))
@@ -83,8 +83,8 @@ line number place =
     (0x72 ∷ 0x65 ∷ 0x66 ∷ 0x75 ∷ 0x73 ∷ 0x65 ∷ 0x64 ∷ 0x20 ∷ []) ++ decimal 5 number ++ (0x20 ∷ 0x61 ∷ 0x74 ∷ 0x20 ∷ []) ++ decimal 5 place ++ (0x0A ∷ [])
 
 -- what it writes: the flat file, of 64 KiB at most (14), or the line of a refusal
-abbrev pub fitsProgram : Net → List Check
-fitsProgram n = (14 unless leb (length (flatFile n)) 65536) ∷ []
+abbrev pub fitsProgram : Net → List CallCheck
+fitsProgram n = (14 when-not leb (length (flatFile n)) 65536) ∷ []
 
 unfoldable pub program : List ℕ → List ℕ
 program s = on (permitted fitsProgram (readNet s)) line flatFile

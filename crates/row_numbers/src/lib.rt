@@ -10,5 +10,4 @@ pub use seek::Located;
 pub use seek::seek_row;
 pub use walk::count_entries;
 pub use walk::entries_of;
-pub use walk::front;
 pub use walk::number_all;

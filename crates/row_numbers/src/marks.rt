@@ -1,18 +1,20 @@
-// Marks: a bit for each binding of a transition with a guard, one after the other in words of 32.
-use crate::walk::passes;
+// Marks: a bit for each binding of a transition whose bindings do not all have rows, one after the other in words of 32.
+use bindings::every_binding_has_row;
+use bindings::has_effect;
 use bindings::next_binding;
 use bindings::space_of;
+use plan::transitions_of;
 ghost use mathlib.Core.Path.{_≡_};
 ghost use mathlib.Core.Bool.{true, false, _||_, _&&_};
-ghost use mathlib.Core.List.{List};
 ghost use Prim.Native.Nat.{ℕ, _+_, _≤_, _<_};
 ghost use lib.ListN.{length};
 ghost use lib.Dec.{eqb};
 ghost use Rattle.reading.specs.Basics.{product, if_then_else_};
-ghost use Rattle.net.specs.Net.{Net, sizesOf};
-ghost use Rattle.bindings.specs.Effect.{transitionAt};
+ghost use Rattle.net.specs.Net.{Net, sizesOf, transitionAt};
+ghost use Rattle.prepared.specs.internal.Prepared.{Prepared};
 ghost use Rattle.bindings.specs.internal.Bindings.{Binds, numbered};
-ghost use Rattle.row_numbers.specs.internal.Walked.{takesEffect, Listed, Tables};
+ghost use Rattle.bindings.specs.internal.Legal.{everyRow};
+ghost use Rattle.row_numbers.specs.internal.Walked.{takesEffect};
 ghost use Rattle.row_numbers.specs.internal.Marks.{markAt, hasRow, Blank, effects, Marking, Marked, Counted};
 
 // Sets a mark; past the end it sets none.
@@ -36,21 +38,23 @@ fn mark_at(marks: &[u32; 2048], k: usize) -> bool
     false
 }
 
-// Whether a binding has a row: without a guard it has, else its mark tells.
-pub fn has_row(guard: u16, marks: &[u32; 2048], k: usize) -> bool
-    ensures { λ r. ⌜ (k < 65536 → r ≡ hasRow guard (now (marks .entry)) k) ⌝ }
+// Whether a binding has a row: where every binding has one it has, else its mark tells.
+pub fn has_row(plan: &[u32; 3584], t: usize, marks: &[u32; 2048], k: usize) -> bool
+    requires { ⌜ t < 32 ⌝ }
+    ensures { λ r. ⌜ (k < 65536 → r ≡ hasRow (everyRow (now (plan .entry)) t) (now (marks .entry)) k) ⌝ }
 {
-    if guard < 1 {
+    if every_binding_has_row(plan, t) {
         return true;
     }
     mark_at(marks, k)
 }
 
-// Whether the transition has a guard, so many bindings are left, at least 32, and none of the next 32 has a row: their marks are one word, from number k on.
-pub fn has_none(guard: u16, marks: &[u32; 2048], k: usize, left: usize) -> bool
-    ensures { λ r. ⌜ (r ≡ true → (1 ≤ guard) × (32 ≤ left) × ((j : ℕ) → j < 32 → markAt (now (marks .entry)) (k + j) ≡ false)) ⌝ }
+// Whether the transition's bindings have marks, so many are left, at least 32, and none of the next 32 has a row: their marks are one word, from number k on.
+pub fn has_none(plan: &[u32; 3584], t: usize, marks: &[u32; 2048], k: usize, left: usize) -> bool
+    requires { ⌜ t < 32 ⌝ }
+    ensures { λ r. ⌜ (r ≡ true → (everyRow (now (plan .entry)) t ≡ false) × (32 ≤ left) × ((j : ℕ) → j < 32 → markAt (now (marks .entry)) (k + j) ≡ false)) ⌝ }
 {
-    if guard < 1 {
+    if every_binding_has_row(plan, t) {
         return false;
     }
     if left < 32 {
@@ -65,46 +69,42 @@ pub fn has_none(guard: u16, marks: &[u32; 2048], k: usize, left: usize) -> bool
     false
 }
 
-// Sets the mark of a binding of a transition with a guard, if it has an effect: how many have one, after so many.
+// Sets the mark of a binding, if it has an effect: how many have one, after so many.
 fn mark_one(
     s: &[u8],
-    sizes: &[u8],
-    vars: &[u8],
+    plan: &[u32; 3584],
     env: &[u8; 32],
-    guard: u16,
+    t: usize,
     k: usize,
     count: usize,
     marks: &mut [u32; 2048],
 ) -> usize
-    requires { ⌜ (1 ≤ guard) × (count ≤ 4228250625) × (length (now marks) ≡ 2048) ⌝ }
-    ensures is { λ r. ⌜ ((n : Net) (own : List ℕ) (t i : ℕ) → Listed (now (s .entry)) n (now (sizes .entry)) (now (vars .entry)) own t guard
+    requires { ⌜ (t < 32) × (count ≤ 4228250625) × (length (now marks) ≡ 2048) ⌝ }
+    ensures is { λ r. ⌜ ((n : Net) (i : ℕ) → Prepared (now (s .entry)) n (now (plan .entry)) → t < length (n .transitions)
         → Binds n (numbered n t i) (now (env .entry))
         → (r ≡ count + (if takesEffect n t i then 1 else 0))
         × ((j : ℕ) → j < 65536 → markAt (now (marks .exit)) j ≡ (markAt (now (marks .entry)) j || (eqb j k && takesEffect n t i)))) ⌝ }
     ensures high { λ r. ⌜ r ≤ count + 1 ⌝ }
     ensures kept { λ _. ⌜ length (now (marks .exit)) ≡ 2048 ⌝ }
 {
-    if passes(s, sizes, vars, env, guard) {
+    if has_effect(s, plan, env, t) {
         set_mark(marks, k);
         return count + 1;
     }
     count
 }
 
-// Sets the marks of the bindings of a transition with a guard, from base on: how many have an effect.
+// Sets the marks of the bindings of a transition, from base on: how many have an effect.
 fn mark_those(
     s: &[u8],
-    sizes: &[u8],
-    vars: &[u8],
-    own: &[u16; 128],
-    guard: u16,
+    plan: &[u32; 3584],
     t: usize,
     many: usize,
     base: usize,
     marks: &mut [u32; 2048],
 ) -> usize
-    requires { ⌜ (1 ≤ guard) × (t < 32) × (many ≤ 4228250625) × (base ≤ 135304020000) × (length (now marks) ≡ 2048) ⌝ }
-    ensures is { λ r. ⌜ ((n : Net) → Listed (now (s .entry)) n (now (sizes .entry)) (now (vars .entry)) (now (own .entry)) t guard
+    requires { ⌜ (t < 32) × (many ≤ 4228250625) × (base ≤ 135304020000) × (length (now marks) ≡ 2048) ⌝ }
+    ensures is { λ r. ⌜ ((n : Net) → Prepared (now (s .entry)) n (now (plan .entry)) → t < length (n .transitions)
         → many ≡ product (sizesOf n (transitionAt n t)) → base + many ≤ 65536 → Blank (now (marks .entry)) base
         → (r ≡ effects n t many) × Marking n t (now (marks .entry)) (now (marks .exit)) base many) ⌝ }
     ensures kept { λ _. ⌜ length (now (marks .exit)) ≡ 2048 ⌝ }
@@ -113,36 +113,28 @@ fn mark_those(
     let mut count: usize = 0;
     let mut i: usize = 0;
     while i < many {
-        count = mark_one(s, sizes, vars, &env, guard, base + i, count, marks);
-        next_binding(own, t, &mut env);
+        count = mark_one(s, plan, &env, t, base + i, count, marks);
+        next_binding(plan, t, &mut env);
         i += 1;
     }
     count
 }
 
-// Sets the marks of all bindings of transitions with a guard, and tells how many rows each transition has: without a guard each binding has one.
-pub fn mark_all(
-    s: &[u8],
-    sizes: &[u8],
-    vars: &[u8],
-    own: &[u16; 128],
-    guards: &[u16; 32],
-    transitions: usize,
-    marks: &mut [u32; 2048],
-    rows: &mut [usize; 32],
-)
-    requires { ⌜ (transitions ≤ 32) × (length (now marks) ≡ 2048) × (length (now rows) ≡ 32) ⌝ }
-    ensures { λ _. ⌜ ((n : Net) (uses : List ℕ) → Tables (now (s .entry)) n (now (sizes .entry)) (now (vars .entry)) (now (own .entry)) uses (now (guards .entry)) transitions
-        → Blank (now (marks .entry)) 0 → Marked n (now (guards .entry)) (now (marks .exit)) transitions × Counted n (now (rows .exit)) transitions) ⌝ }
+// Sets the marks of all bindings that need one, and tells how many rows each transition has: where every binding has a row, as many as bindings.
+pub fn mark_all(s: &[u8], plan: &[u32; 3584], marks: &mut [u32; 2048], counts: &mut [usize; 32])
+    requires { ⌜ (length (now marks) ≡ 2048) × (length (now counts) ≡ 32) ⌝ }
+    ensures { λ _. ⌜ ((n : Net) → Prepared (now (s .entry)) n (now (plan .entry)) → Blank (now (marks .entry)) 0
+        → Marked n (now (plan .entry)) (now (marks .exit)) (length (n .transitions)) × Counted n (now (counts .exit)) (length (n .transitions))) ⌝ }
 {
+    let transitions = transitions_of(plan);
     let mut base: usize = 0;
     let mut t: usize = 0;
     while t < transitions {
-        let many = space_of(own, t);
-        if guards[t] < 1 {
-            rows[t] = many;
+        let many = space_of(plan, t);
+        if every_binding_has_row(plan, t) {
+            counts[t] = many;
         } else {
-            rows[t] = mark_those(s, sizes, vars, own, guards[t], t, many, base, marks);
+            counts[t] = mark_those(s, plan, t, many, base, marks);
             base += many;
         }
         t += 1;

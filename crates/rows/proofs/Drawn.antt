@@ -9,24 +9,28 @@ use Rattle.reading.specs.Basics.{ℕ, _+_, _-_, _*_, _/_, _%_, Bool, true, fals
 use Rattle.reading.specs.Reading.{fine}
 use Rattle.firing.specs.Arcs.{Arc}
 use Rattle.net.specs.Net as net
-use Rattle.net.specs.Net.{Expression, Place, single, pair, Net, net, coloursOf, placeAt, arcOn, scope}
+use Rattle.net.specs.Net.{Expression, Place, single, pair, Net, net, coloursOf, placeAt, arcOn, scope, transitionAt}
 use Rattle.net.specs.Reader.{readExpression}
 use Rattle.net.specs.Values.{weight}
-use Rattle.evaluation.specs.internal.Evaluated.{bound, placeBy, isPair}
+use Rattle.evaluation.specs.internal.Evaluated.{scopeIn, bound, placeBy, isPair}
 use Rattle.net_transitions.specs.internal.TransitionTables.{Slot}
 use Rattle.net.proofs.Alike.{weight-alike}
-use Rattle.bindings.specs.Effect.{transitionAt, arcWeight}
-use Rattle.rows.specs.internal.Packed.{shapeOf, entryOf, holding, entriesOf, RowPacked}
+use Rattle.bindings.specs.Effect.{arcWeight}
+use Rattle.prepared.specs.internal.Packed.{shapeOf, entryOf, holding, entriesOf, RowPacked}
 use Rattle.runs.specs.internal.Terms.{Appended}
 use Rattle.sums.specs.internal.Loaded.{rankArcs, ArcLoaded}
 use Rattle.sums.specs.internal.Slots.{expressionSlots, slotsFor}
 use Rattle.multiset.proofs.Slots.{slots-told}
 use Rattle.runs.proofs.Appending.{append-none, append-join}
-use Rattle.rows.specs.internal.Drawing.{placeSlots, slotsBelow, kindSlots, startOf, placeArcs, kindArcs, Drawing}
+use Rattle.plan.specs.internal.Layout.{setsIn, variablesIn, guardsIn, arcsIn}
+use Rattle.prepared.specs.internal.Drawing.{startOf, Drawing}
+use Rattle.prepared.specs.internal.Prepared.{Prepared}
+use Rattle.rows.specs.internal.Effects.{placeSlots, slotsBelow, kindSlots, placeArcs, kindArcs}
 use Rattle.rows.proofs.Needing.{slots-next, slots-rise, kind-arcs}
 use Rattle.rows.specs.internal.Loading.{KindLoaded}
-use Rattle.rows.proofs.Split.{start-next, start-low, kind-more, place-none}
-use Rattle.rows.proofs.Packing.{HoldingAt, holding-at, holding-with, holding-few, holding-give, entries-many, entry-at}
+use Rattle.prepared.proofs.Starts.{start-next, start-low}
+use Rattle.rows.proofs.Split.{kind-more, place-none}
+use Rattle.prepared.proofs.Packing.{HoldingAt, holding-at, holding-with, holding-few, holding-give, entries-many, entry-at}
 
 -- a place by whether it is a pair
 pub place-by : (q : Place) → (first : ℕ) × (second : ℕ) × (placeBy (isPair q) first second ≡ q)
@@ -34,7 +38,7 @@ place-by (single a) = (a, 0, refl)
 place-by (pair a b) = (a, b, refl)
 
 -- what an entry tells, taken apart
-entry-told : (entry slot start count : ℕ) (paired : Bool) → entry ≡ entryOf slot (shapeOf start count paired) → start + count ≤ 4096
+entry-told : (entry slot start count : ℕ) (paired : Bool) → entry ≡ entryOf 134217728 slot (shapeOf start count paired) → start + count ≤ 4096
     → (entry / 134217728 ≡ slot) × (entry / 16384 % 8192 ≡ start) × (entry / 2 % 8192 ≡ count) × (eqb (entry % 2) 1 ≡ paired)
 entry-told entry slot start count paired e h = go paired e
   where
@@ -45,7 +49,7 @@ entry-told entry slot start count paired e h = go paired e
         let half : entry / 2 ≡ (slot * 8192 + start) * 8192 + count = omega arith in
         (omega arith, omega (arith, by), omega (arith, half))
 
-    go : (b : Bool) → entry ≡ entryOf slot (shapeOf start count b) → (entry / 134217728 ≡ slot) × (entry / 16384 % 8192 ≡ start) × (entry / 2 % 8192 ≡ count) × (eqb (entry % 2) 1 ≡ b)
+    go : (b : Bool) → entry ≡ entryOf 134217728 slot (shapeOf start count b) → (entry / 134217728 ≡ slot) × (entry / 16384 % 8192 ≡ start) × (entry / 2 % 8192 ≡ count) × (eqb (entry % 2) 1 ≡ b)
     go true q = let f = front 1 (omega arith) q in (f .0, f .1, f .2, eq-eqb (entry % 2) 1 (omega arith))
     go false q = let f = front 0 (omega arith) q in (f .0, f .1, f .2, ne-eqb (entry % 2) 1 (λ odd. omega arith))
 
@@ -73,8 +77,8 @@ module _ {s : List ℕ} {n : Net} {sizes vars guards arcs : List ℕ} (value : �
   row-few = omega (arith, holding-few (d .slots) base (length (n .places)), d .limits .places)
 
   -- the code's entry number i
-  row-at : (i : ℕ) → i < 32 → i ≤ length row → getD arcs (base + i) 0 ≡ getD (entriesOf (d .shape) (d .slots) base (length (n .places))) i 0
-  row-at i h far = subst (λ b. RowPacked (d .shape) (d .slots) (length (n .places)) b arcs) (sym hb) (d .packed .row t k ht hk) .entries i h far
+  row-at : (i : ℕ) → i < 32 → i ≤ length row → getD arcs (base + i) 0 ≡ getD (entriesOf 134217728 (d .shape) (d .slots) base (length (n .places))) i 0
+  row-at i h far = subst (λ b. RowPacked 134217728 (d .shape) (d .slots) (length (n .places)) b arcs) (sym hb) (d .packed .row t k ht hk) .entries i h far
 
   -- it is 0 behind the last, and only there
   pub entry-past : (i entry : ℕ) → i < 32 → i ≤ length row → entry ≡ getD arcs (base + i) 0 → entry < 1 → length row ≤ i
@@ -84,7 +88,7 @@ module _ {s : List ℕ} {n : Net} {sizes vars guards arcs : List ℕ} (value : �
       go true q =
           let there = ltb-true i (length row) q in
           let at = holding-at (d .slots) base (length (n .places)) i there in
-          absurd (omega (arith, row-at i h far, entry-at (d .slots) base (d .shape) (length (n .places)) i there at, at .held))
+          absurd (omega (arith, row-at i h far, entry-at (d .slots) base 134217728 (d .shape) (length (n .places)) i there at, at .held))
       go false q = ltb-false i (length row) q
 
   pub entry-there : (i entry : ℕ) → i < 32 → i ≤ length row → entry ≡ getD arcs (base + i) 0 → 1 ≤ entry → i < length row
@@ -94,8 +98,8 @@ module _ {s : List ℕ} {n : Net} {sizes vars guards arcs : List ℕ} (value : �
       go true q = ltb-true i (length row) q
       go false q =
           let past = ltb-false i (length row) q in
-          let all : length (entriesOf (d .shape) (d .slots) base (length (n .places))) ≤ i = omega (arith, entries-many (d .slots) base (d .shape) (length (n .places))) in
-          absurd (omega (arith, row-at i h far, List·getD-eq-default (entriesOf (d .shape) (d .slots) base (length (n .places))) 0 all))
+          let all : length (entriesOf 134217728 (d .shape) (d .slots) base (length (n .places))) ≤ i = omega (arith, entries-many (d .slots) base 134217728 (d .shape) (length (n .places))) in
+          absurd (omega (arith, row-at i h far, List·getD-eq-default (entriesOf 134217728 (d .shape) (d .slots) base (length (n .places))) 0 all))
 
   -- the row's places below a number give their arcs
   pub row-gives : (m : ℕ) → m ≤ length (n .places) → flatMap gives (holding (d .slots) base m) ≡ kindArcs n (transitionAt n t) value (0x16 + k) m
@@ -143,9 +147,9 @@ module _ {s : List ℕ} {n : Net} {sizes vars guards arcs : List ℕ} (value : �
       at : HoldingAt (d .slots) base (length (n .places)) i
       at = holding-at (d .slots) base (length (n .places)) i there
 
-      is : entry ≡ entryOf (getD (d .slots) (base + at .place) 0) (shapeOf (startOf n (at .place)) (coloursOf n (placeAt n (at .place))) (isPair (placeAt n (at .place))))
-      is = e ∙ row-at i h far ∙ entry-at (d .slots) base (d .shape) (length (n .places)) i there at
-          ∙ ap (entryOf (getD (d .slots) (base + at .place) 0)) (d .shaped (at .place) (at .inside))
+      is : entry ≡ entryOf 134217728 (getD (d .slots) (base + at .place) 0) (shapeOf (startOf n (at .place)) (coloursOf n (placeAt n (at .place))) (isPair (placeAt n (at .place))))
+      is = e ∙ row-at i h far ∙ entry-at (d .slots) base 134217728 (d .shape) (length (n .places)) i there at
+          ∙ ap (entryOf 134217728 (getD (d .slots) (base + at .place) 0)) (d .shaped (at .place) (at .inside))
 
       told : (entry / 134217728 ≡ getD (d .slots) (base + at .place) 0) × (entry / 16384 % 8192 ≡ startOf n (at .place))
           × (entry / 2 % 8192 ≡ coloursOf n (placeAt n (at .place))) × (eqb (entry % 2) 1 ≡ isPair (placeAt n (at .place)))
@@ -160,15 +164,19 @@ module _ {s : List ℕ} {n : Net} {sizes vars guards arcs : List ℕ} (value : �
       (λ rank. arcWeight n (transitionAt n t) value (0x16 + k) (record { place = p; rank = rank })) refl refl (λ rank. rw q refl)
 
 -- one entry more was loaded
-module _ {s : List ℕ} {n : Net} {sizes vars guards arcs : List ℕ} (env : List ℕ) (d : Drawing s n sizes vars guards arcs)
+module _ {s : List ℕ} {n : Net} {plan : List ℕ} (env : List ℕ) (prepared : Prepared s n plan)
     {t k base : ℕ} (ht : t < length (n .transitions)) (hk : k < 3) (hb : base ≡ t * 96 + k * 32) where
+  -- the tables that the plan holds, and what expressions are read over
+  abbrev d : Drawing s n (setsIn plan) (variablesIn plan) (guardsIn plan) (arcsIn plan)
+  d = prepared .drawing
+
   abbrev over : Net
-  over = scope sizes vars (n .places)
+  over = scopeIn plan (n .places)
 
   -- the expression of an arc on a place was
   place-loads : (entry p : ℕ) (e : Expression) {places amounts places' amounts' : List ℕ} {used r next : ℕ} → entry / 16384 % 8192 ≡ startOf n p
       → entry / 2 % 8192 ≡ coloursOf n (placeAt n p) → eqb (entry % 2) 1 ≡ isPair (placeAt n p)
-      → ArcLoaded s sizes vars env (eqb (entry % 2) 1) (entry / 16384 % 8192) (entry / 2 % 8192) (entry / 134217728) places amounts used places' amounts' r
+      → ArcLoaded s plan env entry places amounts used places' amounts' r
       → readExpression s over (placeAt n p) 16 (entry / 134217728) ≡ fine e next
       → used + expressionSlots (coloursOf n (placeAt n p)) e + length s / 2 ≤ length places → used + expressionSlots (coloursOf n (placeAt n p)) e + length s / 2 ≤ length amounts
       → Appended (rankArcs (startOf n p) (coloursOf n (placeAt n p)) (λ rank. weight n (bound env) rank e)) places amounts used places' amounts' r
@@ -184,10 +192,10 @@ module _ {s : List ℕ} {n : Net} {sizes vars guards arcs : List ℕ} (env : Lis
       few : slotsFor s (entry / 134217728) (entry / 2 % 8192) ≡ expressionSlots (coloursOf n (placeAt n p)) e
       few = slots-told s over (placeAt n p) (entry / 134217728) (entry / 2 % 8192) reads ∙ ap (λ c. expressionSlots c e) many
 
-  pub row-loads : (i entry : ℕ) → i < 32 → i ≤ length (holding (d .slots) base (length (n .places))) → entry ≡ getD arcs (base + i) 0 → 1 ≤ entry
+  pub row-loads : (i entry : ℕ) → i < 32 → i ≤ length (holding (d .slots) base (length (n .places))) → entry ≡ getD (arcsIn plan) (base + i) 0 → 1 ≤ entry
       → {places₀ amounts₀ places amounts places' amounts' : List ℕ} {used end end' : ℕ}
       → Appended (flatMap (placeArcs n (transitionAt n t) (bound env) (0x16 + k)) (take i (holding (d .slots) base (length (n .places))))) places₀ amounts₀ used places amounts end
-      → ArcLoaded s sizes vars env (eqb (entry % 2) 1) (entry / 16384 % 8192) (entry / 2 % 8192) (entry / 134217728) places amounts end places' amounts' end'
+      → ArcLoaded s plan env entry places amounts end places' amounts' end'
       → used + kindSlots n (transitionAt n t) (0x16 + k) + length s / 2 ≤ length places₀ → used + kindSlots n (transitionAt n t) (0x16 + k) + length s / 2 ≤ length amounts₀
       → Appended (flatMap (placeArcs n (transitionAt n t) (bound env) (0x16 + k)) (take (i + 1) (holding (d .slots) base (length (n .places))))) places₀ amounts₀ used places' amounts' end'
   row-loads i entry h far e has {places₀} {amounts₀} {places} {amounts} {places'} {amounts'} {used} {end} {end'} so-far loaded x y =
@@ -223,40 +231,40 @@ pub record KindTo (n : Net) (t k : ℕ) (env slots : List ℕ) (base : ℕ) (pla
   pub far : i ≤ length (holding slots base (length (n .places)))
   pub so-far : Appended (flatMap (placeArcs n (transitionAt n t) (bound env) (0x16 + k)) (take i (holding slots base (length (n .places))))) places₀ amounts₀ used places amounts end
 
-pub record KindLoading (s sizes vars env arcs : List ℕ) (base : ℕ) (places₀ amounts₀ : List ℕ) (used : ℕ) (places amounts : List ℕ) (end i : ℕ) : Type 0 where
-  pub each : (n : Net) (guards : List ℕ) (t k : ℕ) (d : Drawing s n sizes vars guards arcs) → t < length (n .transitions) → k < 3 → base ≡ t * 96 + k * 32
+pub record KindLoading (s plan env : List ℕ) (base : ℕ) (places₀ amounts₀ : List ℕ) (used : ℕ) (places amounts : List ℕ) (end i : ℕ) : Type 0 where
+  pub each : (n : Net) (t k : ℕ) (p : Prepared s n plan) → t < length (n .transitions) → k < 3 → base ≡ t * 96 + k * 32
       → used + kindSlots n (transitionAt n t) (0x16 + k) + length s / 2 ≤ length places₀ → used + kindSlots n (transitionAt n t) (0x16 + k) + length s / 2 ≤ length amounts₀
-      → KindTo n t k env (d .slots) base places₀ amounts₀ used places amounts end i
+      → KindTo n t k env (p .drawing .slots) base places₀ amounts₀ used places amounts end i
 
-module _ {s sizes vars env arcs : List ℕ} {base : ℕ} {places₀ amounts₀ : List ℕ} {used : ℕ} where
+module _ {s plan env : List ℕ} {base : ℕ} {places₀ amounts₀ : List ℕ} {used : ℕ} where
   -- no entry, one more entry, all entries
-  pub kind-begins : KindLoading s sizes vars env arcs base places₀ amounts₀ used places₀ amounts₀ used 0
+  pub kind-begins : KindLoading s plan env base places₀ amounts₀ used places₀ amounts₀ used 0
   unfolding flatMap
-  kind-begins = record { each = λ n guards t k d ht hk hb x y. record { far = omega arith; so-far = append-none places₀ amounts₀ used } }
+  kind-begins = record { each = λ n t k p ht hk hb x y. record { far = omega arith; so-far = append-none places₀ amounts₀ used } }
 
-  module _ {places amounts : List ℕ} {end i : ℕ} (l : KindLoading s sizes vars env arcs base places₀ amounts₀ used places amounts end i) where
-    pub kind-goes : {places' amounts' : List ℕ} {entry end' : ℕ} → i < 32 → entry ≡ getD arcs (base + i) 0 → 1 ≤ entry
-        → ArcLoaded s sizes vars env (eqb (entry % 2) 1) (entry / 16384 % 8192) (entry / 2 % 8192) (entry / 134217728) places amounts end places' amounts' end'
-        → KindLoading s sizes vars env arcs base places₀ amounts₀ used places' amounts' end' (i + 1)
+  module _ {places amounts : List ℕ} {end i : ℕ} (l : KindLoading s plan env base places₀ amounts₀ used places amounts end i) where
+    pub kind-goes : {places' amounts' : List ℕ} {entry end' : ℕ} → i < 32 → entry ≡ getD (arcsIn plan) (base + i) 0 → 1 ≤ entry
+        → ArcLoaded s plan env entry places amounts end places' amounts' end'
+        → KindLoading s plan env base places₀ amounts₀ used places' amounts' end' (i + 1)
     kind-goes {entry = entry} h e has loaded = record {
-      each = λ n guards t k d ht hk hb x y.
-          let before = l .each n guards t k d ht hk hb x y in
-          let there = entry-there (bound env) d ht hk hb i entry h (before .far) e has in
-          record { far = omega arith; so-far = row-loads env d ht hk hb i entry h (before .far) e has (before .so-far) loaded x y };
+      each = λ n t k p ht hk hb x y.
+          let before = l .each n t k p ht hk hb x y in
+          let there = entry-there (bound env) (p .drawing) ht hk hb i entry h (before .far) e has in
+          record { far = omega arith; so-far = row-loads env p ht hk hb i entry h (before .far) e has (before .so-far) loaded x y };
     }
 
     -- none is left
-    all : {n : Net} {guards : List ℕ} {t k : ℕ} (d : Drawing s n sizes vars guards arcs) → t < length (n .transitions) → k < 3 → base ≡ t * 96 + k * 32
-        → KindTo n t k env (d .slots) base places₀ amounts₀ used places amounts end i → length (holding (d .slots) base (length (n .places))) ≤ i
+    all : {n : Net} {t k : ℕ} (p : Prepared s n plan) → t < length (n .transitions) → k < 3 → base ≡ t * 96 + k * 32
+        → KindTo n t k env (p .drawing .slots) base places₀ amounts₀ used places amounts end i → length (holding (p .drawing .slots) base (length (n .places))) ≤ i
         → Appended (kindArcs n (transitionAt n t) (bound env) (0x16 + k) (length (n .places))) places₀ amounts₀ used places amounts end
-    all {n} {t = t} {k = k} d ht hk hb to past =
+    all {n} {t = t} {k = k} p ht hk hb to past =
         subst (λ l. Appended l places₀ amounts₀ used places amounts end)
-        (ap (flatMap (placeArcs n (transitionAt n t) (bound env) (0x16 + k))) (take-all i (holding (d .slots) base (length (n .places))) past) ∙ row-gives (bound env) d ht hk hb (length (n .places)) (omega arith)) (to .so-far)
+        (ap (flatMap (placeArcs n (transitionAt n t) (bound env) (0x16 + k))) (take-all i (holding (p .drawing .slots) base (length (n .places))) past) ∙ row-gives (bound env) (p .drawing) ht hk hb (length (n .places)) (omega arith)) (to .so-far)
 
-    pub kind-stops : {entry : ℕ} → i < 32 → entry ≡ getD arcs (base + i) 0 → entry < 1 → KindLoaded s sizes vars env arcs base places₀ amounts₀ used places amounts end
-    kind-stops {entry} h e free n guards t k d ht hk hb x y =
-        let to = l .each n guards t k d ht hk hb x y in
-        all d ht hk hb to (entry-past (bound env) d ht hk hb i entry h (to .far) e free)
+    pub kind-stops : {entry : ℕ} → i < 32 → entry ≡ getD (arcsIn plan) (base + i) 0 → entry < 1 → KindLoaded s plan env base places₀ amounts₀ used places amounts end
+    kind-stops {entry} h e free n t k p ht hk hb x y =
+        let to = l .each n t k p ht hk hb x y in
+        all p ht hk hb to (entry-past (bound env) (p .drawing) ht hk hb i entry h (to .far) e free)
 
-    pub kind-ends : 32 ≤ i → KindLoaded s sizes vars env arcs base places₀ amounts₀ used places amounts end
-    kind-ends g n guards t k d ht hk hb x y = all d ht hk hb (l .each n guards t k d ht hk hb x y) (omega (arith, row-few (bound env) d ht hk hb))
+    pub kind-ends : 32 ≤ i → KindLoaded s plan env base places₀ amounts₀ used places amounts end
+    kind-ends g n t k p ht hk hb x y = all p ht hk hb (l .each n t k p ht hk hb x y) (omega (arith, row-few (bound env) (p .drawing) ht hk hb))

@@ -8,16 +8,18 @@ use lib.ListN.{length-map}
 use lib.Seq.{take-all}
 use Rattle.reading.specs.Basics.{ℕ, zero, suc, _+_, _*_, _/_, _%_, Bool, true, false, List, [], _∷_, _++_, map, flatMap, Option, none, some, Option·map, length, getD, take, sum, ltb, numbersFrom}
 use Rattle.net.specs.Net as net
-use Rattle.net.specs.Net.{Net, net, placeAt, arcOn, noTransition, scope}
+use Rattle.net.specs.Net.{Net, net, placeAt, arcOn, noTransition, scope, transitionAt}
 use Rattle.net.specs.Reader.{readExpression}
 use Rattle.net_transitions.specs.internal.TransitionTables.{Slot}
 use Rattle.sums.specs.internal.Slots.{expressionSlots, slotsFor}
 use Rattle.multiset.proofs.Slots.{slots-told}
-use Rattle.bindings.specs.Effect.{transitionAt}
-use Rattle.rows.specs.internal.Packed.{ifHeld, holding}
-use Rattle.rows.specs.internal.Drawing.{placeSlots, slotsBelow, kindSlots, rowSlots, Drawing}
+use Rattle.prepared.specs.internal.Packed.{ifHeld, holding}
+use Rattle.plan.specs.internal.Layout.{transitionsIn, arcsIn}
+use Rattle.prepared.specs.internal.Drawing.{Drawing}
+use Rattle.prepared.specs.internal.Prepared.{Prepared}
+use Rattle.rows.specs.internal.Effects.{placeSlots, slotsBelow, kindSlots, rowSlots}
 use Rattle.rows.specs.internal.Slots.{KindSlotted, RowSlotted, NetSlotted}
-use Rattle.rows.proofs.Packing.{by-slot, held-none, held-some, holding-more}
+use Rattle.prepared.proofs.Packing.{by-slot, held-none, held-some, holding-more}
 use Rattle.rows.proofs.Needing.{greatest-least, map-at}
 use Rattle.rows.proofs.Drawn.{slot, row-few, entry-past, entry-there, Entered, entered}
 
@@ -87,64 +89,64 @@ module _ {s : List ℕ} {n : Net} {sizes vars guards arcs : List ℕ} (d : Drawi
       omega (arith, so-far, ap (λ x. sum (map slots x)) (take-all i row past), held-slots (length (n .places)) (omega arith))
 
 -- ---- one kind, entry after entry
-pub record SlotsTo (s arcs : List ℕ) (base total i : ℕ) : Type 0 where
-  pub each : (n : Net) (sizes vars guards : List ℕ) (t k : ℕ) (d : Drawing s n sizes vars guards arcs) → t < length (n .transitions) → k < 3 → base ≡ t * 96 + k * 32
-      → (i ≤ length (holding (d .slots) base (length (n .places))))
-      × (sum (map (placeSlots n (transitionAt n t) (0x16 + k)) (take i (holding (d .slots) base (length (n .places))))) ≤ total)
+pub record SlotsTo (s plan : List ℕ) (base total i : ℕ) : Type 0 where
+  pub each : (n : Net) (t k : ℕ) (p : Prepared s n plan) → t < length (n .transitions) → k < 3 → base ≡ t * 96 + k * 32
+      → (i ≤ length (holding (p .drawing .slots) base (length (n .places))))
+      × (sum (map (placeSlots n (transitionAt n t) (0x16 + k)) (take i (holding (p .drawing .slots) base (length (n .places))))) ≤ total)
 
-module _ {s arcs : List ℕ} {base : ℕ} where
+module _ {s plan : List ℕ} {base : ℕ} where
   -- no entry, one more entry, all entries
-  pub slots-begin : SlotsTo s arcs base 0 0
-  slots-begin = record { each = λ n sizes vars guards t k d ht hk hb. (omega arith, omega arith) }
+  pub slots-begin : SlotsTo s plan base 0 0
+  slots-begin = record { each = λ n t k p ht hk hb. (omega arith, omega arith) }
 
-  module _ {total i : ℕ} (l : SlotsTo s arcs base total i) where
-    pub slots-go : (entry more : ℕ) → i < 32 → entry ≡ getD arcs (base + i) 0 → 1 ≤ entry → more ≡ slotsFor s (entry / 134217728) (entry / 2 % 8192) → SlotsTo s arcs base (total + more) (i + 1)
+  module _ {total i : ℕ} (l : SlotsTo s plan base total i) where
+    pub slots-go : (entry more : ℕ) → i < 32 → entry ≡ getD (arcsIn plan) (base + i) 0 → 1 ≤ entry → more ≡ slotsFor s (entry / 134217728) (entry / 2 % 8192) → SlotsTo s plan base (total + more) (i + 1)
     slots-go entry more h e has told = record {
-      each = λ n sizes vars guards t k d ht hk hb.
-          let so-far = l .each n sizes vars guards t k d ht hk hb in
-          let there = entry-there (λ v. 0) d ht hk hb i entry h (so-far .0) e has in
-          (omega arith, entry-slots d ht hk hb i entry total more h (so-far .0) e has (so-far .1) told);
+      each = λ n t k p ht hk hb.
+          let so-far = l .each n t k p ht hk hb in
+          let there = entry-there (λ v. 0) (p .drawing) ht hk hb i entry h (so-far .0) e has in
+          (omega arith, entry-slots (p .drawing) ht hk hb i entry total more h (so-far .0) e has (so-far .1) told);
     }
 
-    pub slots-stop : (entry : ℕ) → i < 32 → entry ≡ getD arcs (base + i) 0 → entry < 1 → KindSlotted s arcs base total
-    slots-stop entry h e free n sizes vars guards t k d ht hk hb =
-        let so-far = l .each n sizes vars guards t k d ht hk hb in
-        all-slots d ht hk hb i total (entry-past (λ v. 0) d ht hk hb i entry h (so-far .0) e free) (so-far .1)
+    pub slots-stop : (entry : ℕ) → i < 32 → entry ≡ getD (arcsIn plan) (base + i) 0 → entry < 1 → KindSlotted s plan base total
+    slots-stop entry h e free n t k p ht hk hb =
+        let so-far = l .each n t k p ht hk hb in
+        all-slots (p .drawing) ht hk hb i total (entry-past (λ v. 0) (p .drawing) ht hk hb i entry h (so-far .0) e free) (so-far .1)
 
-    pub slots-end : 32 ≤ i → KindSlotted s arcs base total
-    slots-end g n sizes vars guards t k d ht hk hb =
-        let so-far = l .each n sizes vars guards t k d ht hk hb in
-        all-slots d ht hk hb i total (omega (arith, row-few (λ v. 0) d ht hk hb)) (so-far .1)
+    pub slots-end : 32 ≤ i → KindSlotted s plan base total
+    slots-end g n t k p ht hk hb =
+        let so-far = l .each n t k p ht hk hb in
+        all-slots (p .drawing) ht hk hb i total (omega (arith, row-few (λ v. 0) (p .drawing) ht hk hb)) (so-far .1)
 
 -- the rows of a transition
-pub row-slotted : {s arcs : List ℕ} {t takes puts hinders : ℕ} → KindSlotted s arcs (t * 96) takes → KindSlotted s arcs (t * 96 + 32) puts → KindSlotted s arcs (t * 96 + 64) hinders
-    → RowSlotted s arcs t (takes + puts + hinders)
-row-slotted {s} {arcs} {t} first second third n sizes vars guards d ht =
+pub row-slotted : {s plan : List ℕ} {t takes puts hinders : ℕ} → KindSlotted s plan (t * 96) takes → KindSlotted s plan (t * 96 + 32) puts → KindSlotted s plan (t * 96 + 64) hinders
+    → RowSlotted s plan t (takes + puts + hinders)
+row-slotted {s} {plan} {t} first second third n p ht =
     omega (
       arith,
-      first n sizes vars guards t 0 d ht (omega arith) (omega arith),
-      second n sizes vars guards t 1 d ht (omega arith) (omega arith),
-      third n sizes vars guards t 2 d ht (omega arith) (omega arith),
+      first n t 0 p ht (omega arith) (omega arith),
+      second n t 1 p ht (omega arith) (omega arith),
+      third n t 2 p ht (omega arith) (omega arith),
     )
 
 -- so many are enough for the first so many transitions
 abbrev pub Enough : List ℕ → List ℕ → ℕ → ℕ → Type 0
-Enough s arcs most t = (u : ℕ) → u < t → RowSlotted s arcs u most
+Enough s plan most t = (u : ℕ) → u < t → RowSlotted s plan u most
 
-pub enough-more : {s arcs : List ℕ} {most slots r t : ℕ} → Enough s arcs most t → RowSlotted s arcs t slots → most ≤ r → slots ≤ r → Enough s arcs r (t + 1)
-enough-more {s} {arcs} {most} {slots} {r} {t} before here a b u h n sizes vars guards d ht = go (ltb u t) refl
+pub enough-more : {s plan : List ℕ} {most slots r t : ℕ} → Enough s plan most t → RowSlotted s plan t slots → most ≤ r → slots ≤ r → Enough s plan r (t + 1)
+enough-more {s} {plan} {most} {slots} {r} {t} before here a b u h n p ht = go (ltb u t) refl
   where
     go : (q : Bool) → ltb u t ≡ q → rowSlots n (transitionAt n u) ≤ r
-    go true e = let i = before u (ltb-true u t e) n sizes vars guards d ht in omega arith
+    go true e = let i = before u (ltb-true u t e) n p ht in omega arith
     go false e =
         let f = ltb-false u t e in
         let j : u ≡ t = omega arith in
-        let i = subst (λ x. RowSlotted s arcs x slots) (sym j) here n sizes vars guards d ht in
+        let i = subst (λ x. RowSlotted s plan x slots) (sym j) here n p ht in
         omega arith
 
-pub all-enough : {s arcs : List ℕ} {most transitions : ℕ} → Enough s arcs most transitions → NetSlotted s arcs transitions most
-all-enough {s} {arcs} {most} {transitions} enough n sizes vars guards d are =
+pub all-enough : {s plan : List ℕ} {most : ℕ} → Enough s plan most (transitionsIn plan) → NetSlotted s plan most
+all-enough {s} {plan} {most} enough n p =
     greatest-least (map (rowSlots n) (n .transitions)) most (λ i lt.
     let inside : i < length (n .transitions) = omega (arith, length-map (n .transitions) (rowSlots n)) in
-    let f = enough i (omega arith) n sizes vars guards d inside in
+    let f = enough i (omega (arith, p .transitions-are)) n p inside in
     omega (arith, f, map-at (rowSlots n) (n .transitions) i noTransition inside))

@@ -1,22 +1,23 @@
 -- The arcs over all flat places are, place by place, the arcs over each place's ranks. Assumes nothing.
 use mathlib.Core.Path.{_≡_, refl, sym, ap, ap₂, subst, _∙_}
-use mathlib.Core.List.{append-assoc, append-nil}
 use Prim.Native.Nat.{_≤_, _<_}
 use native.Mathlib.Omega.{arith}
 use native.Mathlib.Numerals.{add-one}
 use native.Mathlib.Nat.{mul-le-mul}
 use borrow.Author.Tests.{ltb-true}
 use lib.ListN.{length-append, length-map}
-use Rattle.reading.specs.Basics.{ℕ, zero, suc, _+_, Bool, true, false, List, [], _∷_, _++_, map, flatMap, none, length, getD, getElem?, take, ltb, if_then_else_, given, keep, numbersFrom, below, sum, product, every}
-use Rattle.reading.proofs.Lists.{map-same, map-from, length-from, flat-append}
+use Rattle.reading.specs.Basics.{ℕ, zero, suc, _+_, Bool, true, false, List, [], _∷_, _++_, map, flatMap, none, length, getElem?, ltb, if_then_else_, given, keep, numbersFrom, below, product, every}
+use Rattle.reading.proofs.Lists.{map-same, map-from, length-from, flat-more}
 use Rattle.reading.proofs.Gives.{both-first, both-second}
 use Rattle.firing.specs.Arcs.{Arc, arcsOf}
-use Rattle.net.specs.Net.{Transition, Net, single, sizeOf, setsOf, coloursOf, placeAt, flatPlaceCount, arcOn}
+use Rattle.net.specs.Net.{Transition, Net, sizeOf, setsOf, coloursOf, placeAt, flatPlaceCount, arcOn}
 use Rattle.net_file.specs.Limits.{Limits}
 use Rattle.sums.specs.internal.Loaded.{ranksFrom, rankArcs}
 use Rattle.multiset.proofs.Ranks.{ranks-none, ranks-few}
 use Rattle.bindings.specs.Effect.{FlatPlace, flatPlaces, arcWeight}
-use Rattle.rows.specs.internal.Drawing.{startOf, placeArcs, kindArcs}
+use Rattle.prepared.specs.internal.Drawing.{startOf}
+use Rattle.prepared.proofs.Starts.{start-next}
+use Rattle.rows.specs.internal.Effects.{placeArcs, kindArcs}
 use Rattle.rows.proofs.FlatPlaces.{flat-places}
 
 -- ---- flat places in turn
@@ -83,39 +84,7 @@ sized n limits (a ∷ sets) e =
 pub colours-some : (n : Net) → Limits n → (p : ℕ) → p < length (n .places) → 1 ≤ coloursOf n (placeAt n p)
 colours-some n limits p h = sized n limits (setsOf (placeAt n p)) (limits .place-sets p h)
 
--- a place's flat places begin where the place's before it end
-start-in : (n : Net) (l : List _) (p : ℕ) → p < length l → sum (map (coloursOf n) (take (suc p) l)) ≡ sum (map (coloursOf n) (take p l)) + coloursOf n (getD l p (single 0))
-start-in n [] p h = absurd (omega arith)
-start-in n (a ∷ l) zero h = omega arith
-start-in n (a ∷ l) (suc p) h = let e = start-in n l p (omega arith) in omega arith
-
--- the same, of a net's places
-pub start-next : (n : Net) (p : ℕ) → p < length (n .places) → startOf n (p + 1) ≡ startOf n p + coloursOf n (placeAt n p)
-start-next n p h = rw (add-one p) (start-in n (n .places) p h)
-
--- none passes their number
-pub start-low : (n : Net) (p : ℕ) → startOf n p ≤ flatPlaceCount n
-start-low n p = go (n .places) p
-  where
-    go : (l : List _) (p : ℕ) → sum (map (coloursOf n) (take p l)) ≤ sum (map (coloursOf n) l)
-    go [] zero = omega arith
-    go [] (suc p) = omega arith
-    go (a ∷ l) zero = omega arith
-    go (a ∷ l) (suc p) = let h = go l p in omega arith
-
 -- ---- all places of a kind
--- pieces of a list made piece by piece
-pub flat-flat : {A B C : Type 0} (f : B → List C) (g : A → List B) (l : List A) → flatMap f (flatMap g l) ≡ flatMap (λ a. flatMap f (g a)) l
-unfolding flatMap
-flat-flat f g [] = refl
-flat-flat f g (a ∷ l) = flat-append f (g a) (flatMap g l) ∙ ap (λ k. flatMap f (g a) ++ k) (flat-flat f g l)
-
--- one more number at the end
-pub flat-more : {A : Type 0} (f : ℕ → List A) (a p : ℕ) → flatMap f (numbersFrom a (suc p)) ≡ flatMap f (numbersFrom a p) ++ f (a + p)
-unfolding flatMap numbersFrom
-flat-more f a zero = let e : a + 0 ≡ a = omega arith in rw (e, append-nil)
-flat-more f a (suc p) = let e : a + suc p ≡ a + 1 + p = omega arith in rw (flat-more f (a + 1) p, e, append-assoc)
-
 module _ (n : Net) (t : Transition) (env : ℕ → ℕ) (kind : ℕ) where
   -- the arcs over all flat places are the arcs over each place's ranks, place by place
   pub split : arcsOf (flatPlaceCount n) (λ p. given (getElem? (flatPlaces n) p) 0 (arcWeight n t env kind)) ≡ kindArcs n t env kind (length (n .places))

@@ -1,6 +1,4 @@
 -- What the code's own tables, lists and enums stand for. Contracts between functions and proofs cite these; no call for users does.
-pub mod Packed
-pub mod Drawing
+pub mod Effects
 pub mod Loading
 pub mod Slots
-pub mod Prepared

@@ -1,4 +1,8 @@
 // How many slots the rows of a net need in the lent lists.
+use plan::arc_of;
+use plan::expression_of;
+use plan::ranks_of;
+use plan::transitions_of;
 use reading::byte_at;
 ghost use mathlib.Core.Path.{_≡_};
 ghost use Prim.Native.Nat.{ℕ, _≤_, _<_, _+_, _/_};
@@ -18,34 +22,34 @@ fn slots_for(s: &[u8], at: usize, count: usize) -> usize
 }
 
 // For the arcs of a kind, entry after entry of its row in the packed table, up to the first 0.
-fn kind_slots(s: &[u8], arcs: &[u64; 3072], base: usize) -> usize
+fn kind_slots(s: &[u8], plan: &[u32; 3584], base: usize) -> usize
     requires { ⌜ base ≤ 3040 ⌝ }
-    ensures is { λ r. ⌜ KindSlotted (now (s .entry)) (now (arcs .entry)) base r ⌝ }
+    ensures is { λ r. ⌜ KindSlotted (now (s .entry)) (now (plan .entry)) base r ⌝ }
     ensures small { λ r. ⌜ r ≤ 262144 ⌝ }
 {
     let mut total: usize = 0;
     let mut i: usize = 0;
     while i < 32 {
-        let entry = arcs[base + i] as usize;
+        let entry = arc_of(plan, base + i);
         if entry < 1 {
             return total;
         }
-        total += slots_for(s, entry / 134217728, entry / 2 % 8192);
+        total += slots_for(s, expression_of(entry), ranks_of(entry));
         i += 1;
     }
     total
 }
 
 // For the rows of a transition.
-fn row_slots(s: &[u8], arcs: &[u64; 3072], t: usize) -> usize
+fn row_slots(s: &[u8], plan: &[u32; 3584], t: usize) -> usize
     requires { ⌜ t < 32 ⌝ }
-    ensures is { λ r. ⌜ RowSlotted (now (s .entry)) (now (arcs .entry)) t r ⌝ }
+    ensures is { λ r. ⌜ RowSlotted (now (s .entry)) (now (plan .entry)) t r ⌝ }
     ensures small { λ r. ⌜ r ≤ 786432 ⌝ }
 {
     let base = t * 96;
-    let takes = kind_slots(s, arcs, base);
-    let puts = kind_slots(s, arcs, base + 32);
-    let hinders = kind_slots(s, arcs, base + 64);
+    let takes = kind_slots(s, plan, base);
+    let puts = kind_slots(s, plan, base + 32);
+    let hinders = kind_slots(s, plan, base + 64);
     takes + puts + hinders
 }
 
@@ -58,16 +62,16 @@ fn greater(a: usize, b: usize) -> usize
     if a < b { b } else { a }
 }
 
-// For the rows of any of so many transitions.
-pub fn most_slots(s: &[u8], arcs: &[u64; 3072], transitions: usize) -> usize
-    requires { ⌜ transitions ≤ 32 ⌝ }
-    ensures is { λ r. ⌜ NetSlotted (now (s .entry)) (now (arcs .entry)) transitions r ⌝ }
+// For the rows of any transition.
+pub fn most_slots(s: &[u8], plan: &[u32; 3584]) -> usize
+    ensures is { λ r. ⌜ NetSlotted (now (s .entry)) (now (plan .entry)) r ⌝ }
     ensures small { λ r. ⌜ r ≤ 786432 ⌝ }
 {
+    let transitions = transitions_of(plan);
     let mut most: usize = 0;
     let mut t: usize = 0;
     while t < transitions {
-        most = greater(most, row_slots(s, arcs, t));
+        most = greater(most, row_slots(s, plan, t));
         t += 1;
     }
     most

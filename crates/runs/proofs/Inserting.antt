@@ -10,7 +10,8 @@ use Rattle.firing.specs.internal.RowLists.{arcsIn}
 use Rattle.runs.specs.internal.Terms.{limit, term, Terms, none, more, joined, joinBy, Appended, MovedUp}
 use Rattle.runs.proofs.Appending.{kept-at, kept-shorter, arcs-join, arcs-kept}
 use Rattle.runs.proofs.Joining.{terms-before, terms-front, joined-pass, Under, add-under, add-same}
-use Rattle.runs.proofs.Merging.{by-less, arcs-none, arcs-more, arcs-one, arcs-next, arcs-length, arcs-moved, run-small, run-below}
+use Rattle.runs.proofs.Merging.{by-less, arcs-none, arcs-more, arcs-one, arcs-next, arcs-moved, run-small, run-below}
+use Rattle.firing.proofs.Rows.{length-arcs}
 
 -- ---- where a rank belongs: those from a number up to an end are above it
 abbrev pub Above : List ℕ → ℕ → ℕ → ℕ → Type 0
@@ -62,8 +63,8 @@ module _ (ranks counts : List ℕ) (small : (i : ℕ) → getD counts i 0 ≤ 65
       (size : length ranks' ≡ length ranks) (sizes : length counts' ≡ length counts) where
     seated : Appended (run start i ++ (term x w ∷ run k end)) ranks counts start ranks' counts' r
     seated =
-        let a = arcs-length ranks counts start i in
-        let b = arcs-length ranks counts k end in
+        let a = length-arcs ranks counts start i in
+        let b = length-arcs ranks counts k end in
         record {
           front = kept-shorter start i ranks' ranks h front;
           fronts = kept-shorter start i counts' counts h fronts;

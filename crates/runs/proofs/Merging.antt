@@ -7,13 +7,14 @@ use borrow.Author.Tests.{ltb-true, ltb-false, le-leb, lt-leb}
 use lib.ListN.{set, length-set, length-append, length-map}
 use lib.Seq.{take-set-le, getD-set-same, getD-set-other}
 use Rattle.reading.specs.Basics.{ℕ, zero, suc, _+_, _-_, _*_, Bool, true, false, List, [], _∷_, _++_, map, length, getD, take, ltb, leb, if_then_else_, numbersFrom}
-use Rattle.reading.proofs.Lists.{of-from, length-from, map-same, map-map}
+use Rattle.reading.proofs.Lists.{of-from, map-same, map-map}
 use Rattle.firing.specs.Arcs.{Arc}
 use Rattle.firing.specs.internal.RowLists.{arcsIn}
 use Rattle.runs.specs.internal.Terms.{limit, term, Terms, none, more, joined, joinBy, timesAll, Appended, MergedFirst, Apart}
 use Rattle.runs.specs.declared.Merged.{Merged}
 use Rattle.runs.proofs.Appending.{map-join, kept-at, kept-shorter, arcs-join, arcs-kept, append-none, append-join}
 use Rattle.runs.proofs.Joining.{terms-split, terms-below, times-few, Small, joined-apart, joined-last, joined-first, joined-second, joined-both}
+use Rattle.firing.proofs.Rows.{length-arcs}
 
 -- two numbers, of which the first is less or not
 pub by-less : (a b : ℕ) {C : Type 0} → (a < b → C) → (b ≤ a → C) → C
@@ -39,11 +40,6 @@ module _ (ranks counts : List ℕ) where
 
   pub arcs-next : (a b : ℕ) → a ≤ b → arcsIn ranks counts a (b + 1) ≡ arcsIn ranks counts a b ++ (term (getD ranks b 0) (getD counts b 0) ∷ [])
   arcs-next a b h = arcs-join ranks counts a b (b + 1) h (omega arith) ∙ ap (λ l. arcsIn ranks counts a b ++ l) (arcs-one b)
-
-  -- how many
-  pub arcs-length : (a b : ℕ) → length (arcsIn ranks counts a b) ≡ b - a
-  unfolding arcsIn
-  arcs-length a b = length-map (numbersFrom a (b - a)) (λ i. term (getD ranks i 0) (getD counts i 0)) ∙ length-from a (b - a)
 
 -- ---- every count times a factor, up to a number
 pub record Scaling (factor : ℕ) (counts₀ : List ℕ) (start : ℕ) (counts : List ℕ) (i : ℕ) : Type 0 where
@@ -130,7 +126,7 @@ moving-ends {ranks₀} {counts₀} {ranks} {counts} {from} {to} {i} {k} {end} r 
       front = r .front;
       fronts = c .front;
       are = arcs-moved ranks₀ counts₀ ranks counts to k from end (omega arith) (λ i h. (r .down i (omega arith), c .down i (omega arith)));
-      end = omega (arith, arcs-length ranks₀ counts₀ from end);
+      end = omega (arith, length-arcs ranks₀ counts₀ from end);
       size = r .size;
       sizes = c .size;
     }
@@ -148,7 +144,7 @@ module _ (f : ℕ → ℕ → ℕ) (p : ℕ) (ranks₀ counts₀ : List ℕ) (fr
 
   rest-length : (j : ℕ) → length (joined f p 0 [] (arcsIn ranks₀ counts₀ from j)) ≡ j - from
   unfolding joined
-  rest-length j = length-map (arcsIn ranks₀ counts₀ from j) (λ b. term (b .place) (f p (b .weight))) ∙ arcs-length ranks₀ counts₀ from j
+  rest-length j = length-map (arcsIn ranks₀ counts₀ from j) (λ b. term (b .place) (f p (b .weight))) ∙ length-arcs ranks₀ counts₀ from j
 
   rest-next : (j : ℕ) → from ≤ j
       → joined f p 0 [] (arcsIn ranks₀ counts₀ from j) ++ (term (getD ranks₀ j 0) (f p (getD counts₀ j 0)) ∷ []) ≡ joined f p 0 [] (arcsIn ranks₀ counts₀ from (j + 1))
@@ -292,7 +288,7 @@ module _ (f : ℕ → ℕ → ℕ) (p q : ℕ) (ranks₀ counts₀ : List ℕ) (
       let t = rest g e (omega arith) (omega arith) in
       let u = subst (λ v. Appended v ranks₀ counts₀ end ranks₂ counts₂ stop)
       (ap (λ v. first .list ++ joined f p q [] v) (arcs-kept ranks₀ counts₀ ranks₁ counts₁ (m .second) end (l .front) (l .fronts)) ∙ first .left) (append-join l t) in
-      let n = length-map (arcsIn ranks₁ counts₁ (m .second) end) (λ b. term (b .place) (f p (b .weight))) ∙ arcs-length ranks₁ counts₁ (m .second) end in
+      let n = length-map (arcsIn ranks₁ counts₁ (m .second) end) (λ b. term (b .place) (f p (b .weight))) ∙ length-arcs ranks₁ counts₁ (m .second) end in
       let te = t .end in let ts = t .size in let tc = t .sizes in
       let d = down (omega arith) (omega arith) (omega arith) in
       record {
@@ -341,7 +337,7 @@ module _ (ranks counts : List ℕ) (small : (i : ℕ) → getD counts i 0 ≤ 65
       apart-by low (subst (Terms below (getD ranks middle 0)) (sym (arcs-more ranks counts middle end e)) (more {a = term (getD ranks middle 0) (getD counts middle 0)} (omega arith) y t))
 
   pub apart-joined : Appended (joined (joinBy less) p q (arcsIn ranks counts start middle) (arcsIn ranks counts middle end)) ranks counts start ranks counts end
-  apart-joined = rw all (record { front = refl; fronts = refl; are = refl; end = omega (arith, arcs-length ranks counts start end); size = refl; sizes = refl })
+  apart-joined = rw all (record { front = refl; fronts = refl; are = refl; end = omega (arith, length-arcs ranks counts start end); size = refl; sizes = refl })
     where
       all : joined (joinBy less) p q (arcsIn ranks counts start middle) (arcsIn ranks counts middle end) ≡ arcsIn ranks counts start end
       all =

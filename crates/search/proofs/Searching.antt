@@ -9,15 +9,18 @@ use lib.ListN.{length-map}
 use Rattle.firing.specs.Firing.{found, nothing, first}
 use Rattle.firing.specs.internal.Loops.{stoppedAt}
 use Rattle.firing.proofs.Running.{Searching, search-begin, search-none, Tried, Stretch, stretch, stopped-in, stopped-out}
-use Rattle.net.specs.Net.{Net, sizesOf}
-use Rattle.bindings.specs.Effect.{transitionAt, bindings}
+use Rattle.net.specs.Net.{Net, sizesOf, transitionAt}
+use Rattle.bindings.specs.Effect.{bindings}
 use Rattle.bindings.specs.Orders.{orderOf, fireOrder}
 use Rattle.bindings.specs.internal.Numbers.{before}
-use Rattle.rows.specs.internal.Prepared.{Prepared, fireBinding}
+use Rattle.plan.specs.internal.Layout.{transitionsIn}
+use Rattle.prepared.proofs.Known.{its-limits}
+use Rattle.prepared.specs.internal.Prepared.{Prepared}
+use Rattle.bindings.specs.internal.Bindings.{fireBinding}
 use Rattle.bindings.specs.internal.Bindings.{numbered}
 use Rattle.bindings.proofs.Named.{order-names}
 use Rattle.bindings.proofs.Digits.{bindings-at, before-next, before-all}
-use Rattle.rows.proofs.Prepared.{limited, names}
+use Rattle.rows.proofs.Fires.{names}
 
 -- none of the bindings of the transitions before t fires; so many were tried
 pub record Seeking (n : Net) (m : List ℕ) (tried t : ℕ) : Type 0 where
@@ -27,8 +30,8 @@ pub record Seeking (n : Net) (m : List ℕ) (tried t : ℕ) : Type 0 where
 pub seek-begin : (n : Net) (m : List ℕ) → Seeking n m 0 0
 seek-begin n m = record { none = search-begin _ _; at = refl }
 
-module _ {s : List ℕ} {n : Net} {sizes vars own uses guards arcs : List ℕ} {transitions : ℕ} (ready : Prepared s n sizes vars own uses guards arcs transitions) (m : List ℕ) where
-  module _ (t tried many : ℕ) (lt : t < transitions) (here : Seeking n m tried t) (counted : many ≡ product (sizesOf n (transitionAt n t))) where
+module _ {s plan : List ℕ} {n : Net} (ready : Prepared s n plan) (m : List ℕ) where
+  module _ (t tried many : ℕ) (lt : t < transitionsIn plan) (here : Seeking n m tried t) (counted : many ≡ product (sizesOf n (transitionAt n t))) where
     inside : t < length (n .transitions)
     inside = omega (arith, ready .transitions-are)
 
@@ -45,7 +48,7 @@ module _ {s : List ℕ} {n : Net} {sizes vars own uses guards arcs : List ℕ} {
         let there : getElem? (bindings n) (tried + j) ≡ some (numbered n t j) = ap (λ k. getElem? (bindings n) (k + j)) (here .at) ∙ at in
         record {
           at = at-map orderOf (bindings n) (tried + j) there;
-          tells = ap (λ f. eqb (f .answer) 0) (sym (names n (orderOf (numbered n t j)) m (order-names n (limited ready .few-variables) (at-in (bindings n) (before n t + j) at))));
+          tells = ap (λ f. eqb (f .answer) 0) (sym (names n (orderOf (numbered n t j)) m (order-names n (its-limits ready .few-variables) (at-in (bindings n) (before n t + j) at))));
         }
 
     whole : Stretch test (map orderOf (bindings n)) tried (λ j. orderOf (numbered n t j)) probe (0 + many) (first probe (below many))
@@ -66,7 +69,7 @@ module _ {s : List ℕ} {n : Net} {sizes vars own uses guards arcs : List ℕ} {
         }
 
   -- no transition is left
-  pub seek-none : (t tried : ℕ) → Seeking n m tried t → t ≡ transitions → first (λ order. eqb (fireOrder n order m .answer) 0) (map orderOf (bindings n)) ≡ nothing tried
+  pub seek-none : (t tried : ℕ) → Seeking n m tried t → t ≡ transitionsIn plan → first (λ order. eqb (fireOrder n order m .answer) 0) (map orderOf (bindings n)) ≡ nothing tried
   seek-none t tried here e =
       let all : length (map orderOf (bindings n)) ≡ tried = length-map (bindings n) orderOf ∙ sym (before-all n) ∙ ap (before n) (ready .transitions-are ∙ sym e) ∙ sym (here .at) in
       search-none _ _ (here .none) (omega arith) ∙ ap nothing all

@@ -3,6 +3,7 @@ use bindings::next_binding;
 use bindings::space_of;
 use firing::answer_rest;
 use firing::some_lacks;
+use plan::transitions_of;
 use rows::Takes;
 use rows::load_rest;
 use rows::load_takes;
@@ -14,39 +15,37 @@ ghost use lib.Dec.{eqb};
 ghost use Rattle.reading.specs.Basics.{product, below};
 ghost use Rattle.firing.specs.Firing.{first};
 ghost use Rattle.firing.specs.internal.Loops.{stoppedAt};
-ghost use Rattle.net.specs.Net.{Net, flatPlaceCount, sizesOf};
-ghost use Rattle.bindings.specs.Effect.{transitionAt, bindings};
+ghost use Rattle.net.specs.Net.{Net, flatPlaceCount, sizesOf, transitionAt};
+ghost use Rattle.bindings.specs.Effect.{bindings};
 ghost use Rattle.bindings.specs.Orders.{fireOrder, orderOf};
-ghost use Rattle.rows.specs.internal.Drawing.{room, Drawing};
+ghost use Rattle.rows.specs.internal.Effects.{room};
 ghost use Rattle.bindings.specs.internal.Bindings.{Binds, binding, numbered};
-ghost use Rattle.rows.specs.internal.Prepared.{Prepared, fireBinding};
-ghost use Rattle.search.specs.internal.Searched.{searchTold, SearchWithin};
+ghost use Rattle.prepared.specs.internal.Prepared.{Prepared};
+ghost use Rattle.bindings.specs.internal.Bindings.{fireBinding};
+ghost use Rattle.search.specs.internal.Searched.{searchTold, SearchWithin, SearchRoom};
 
 // Whether a binding of a transition, whose colours env has, would fire.
 fn fires_bound(
     s: &[u8],
-    sizes: &[u8],
-    vars: &[u8],
+    plan: &[u32; 3584],
     env: &[u8; 32],
-    guards: &[u16; 32],
-    arcs: &[u64; 3072],
     t: usize,
     m: &[u16],
     places: &mut [u16],
     amounts: &mut [u16],
 ) -> bool
     requires { ⌜ t < 32 ⌝ }
-    ensures { λ r. ⌜ ((n : Net) (colours : List ℕ) → Drawing (now (s .entry)) n (now (sizes .entry)) (now (vars .entry)) (now (guards .entry)) (now (arcs .entry))
+    ensures { λ r. ⌜ ((n : Net) (colours : List ℕ) → Prepared (now (s .entry)) n (now (plan .entry))
         → t < length (n .transitions) → Binds n (binding t colours) (now (env .entry)) → room (now (s .entry)) n ≤ length (now (places .entry)) → room (now (s .entry)) n ≤ length (now (amounts .entry))
         → length (now (m .entry)) ≡ flatPlaceCount n → r ≡ eqb (fireBinding n (binding t colours) (now (m .entry)) .answer) 0) ⌝ }
 {
-    match load_takes(s, sizes, vars, env, guards, arcs, t, places, amounts) {
+    match load_takes(s, plan, env, t, places, amounts) {
         Takes::Nothing => false,
         Takes::Upto { end } => {
             if some_lacks(places, amounts, end, m) {
                 return false;
             }
-            let ends = load_rest(s, sizes, vars, env, arcs, t, end, places, amounts);
+            let ends = load_rest(s, plan, env, t, end, places, amounts);
             answer_rest(places, amounts, ends, m) == 0
         }
     }
@@ -55,11 +54,7 @@ fn fires_bound(
 // The number of a transition's first binding that would fire, among so many, all that it has; how many where none would.
 fn search_bindings(
     s: &[u8],
-    sizes: &[u8],
-    vars: &[u8],
-    own: &[u16; 128],
-    guards: &[u16; 32],
-    arcs: &[u64; 3072],
+    plan: &[u32; 3584],
     t: usize,
     many: usize,
     m: &[u16],
@@ -67,17 +62,17 @@ fn search_bindings(
     amounts: &mut [u16],
 ) -> usize
     requires { ⌜ t < 32 ⌝ }
-    ensures { λ r. ⌜ ((n : Net) (uses : List ℕ) (transitions : ℕ) → Prepared (now (s .entry)) n (now (sizes .entry)) (now (vars .entry)) (now (own .entry)) uses (now (guards .entry)) (now (arcs .entry)) transitions
-        → t < transitions → many ≡ product (sizesOf n (transitionAt n t)) → room (now (s .entry)) n ≤ length (now (places .entry)) → room (now (s .entry)) n ≤ length (now (amounts .entry)) → length (now (m .entry)) ≡ flatPlaceCount n
+    ensures { λ r. ⌜ ((n : Net) → Prepared (now (s .entry)) n (now (plan .entry))
+        → t < length (n .transitions) → many ≡ product (sizesOf n (transitionAt n t)) → room (now (s .entry)) n ≤ length (now (places .entry)) → room (now (s .entry)) n ≤ length (now (amounts .entry)) → length (now (m .entry)) ≡ flatPlaceCount n
         → first (λ i. eqb (fireBinding n (numbered n t i) (now (m .entry)) .answer) 0) (below many) ≡ stoppedAt many r) ⌝ }
 {
     let mut env = [0u8; 32];
     let mut i: usize = 0;
     while i < many {
-        if fires_bound(s, sizes, vars, &env, guards, arcs, t, m, places, amounts) {
+        if fires_bound(s, plan, &env, t, m, places, amounts) {
             return i;
         }
-        next_binding(own, t, &mut env);
+        next_binding(plan, t, &mut env);
         i += 1;
     }
     i
@@ -98,38 +93,22 @@ pub enum Searched {
 // The first binding that would fire.
 pub fn search_all(
     s: &[u8],
-    sizes: &[u8],
-    vars: &[u8],
-    own: &[u16; 128],
-    guards: &[u16; 32],
-    arcs: &[u64; 3072],
-    transitions: usize,
+    plan: &[u32; 3584],
     m: &[u16],
     places: &mut [u16],
     amounts: &mut [u16],
 ) -> Searched
-    requires { ⌜ transitions ≤ 32 ⌝ }
-    ensures { λ r. ⌜ ((n : Net) (uses : List ℕ) → Prepared (now (s .entry)) n (now (sizes .entry)) (now (vars .entry)) (now (own .entry)) uses (now (guards .entry)) (now (arcs .entry)) transitions
+    ensures is { λ r. ⌜ ((n : Net) → Prepared (now (s .entry)) n (now (plan .entry))
         → room (now (s .entry)) n ≤ length (now (places .entry)) → room (now (s .entry)) n ≤ length (now (amounts .entry)) → length (now (m .entry)) ≡ flatPlaceCount n
         → (first (λ order. eqb (fireOrder n order (now (m .entry)) .answer) 0) (map orderOf (bindings n)) ≡ searchTold n r) × SearchWithin n r) ⌝ }
+    ensures room { λ r. ⌜ SearchRoom r ⌝ }
 {
+    let transitions = transitions_of(plan);
     let mut tried: usize = 0;
     let mut t: usize = 0;
     while t < transitions {
-        let many = space_of(own, t);
-        let i = search_bindings(
-            s,
-            sizes,
-            vars,
-            own,
-            guards,
-            arcs,
-            t,
-            many,
-            m,
-            places,
-            amounts,
-        );
+        let many = space_of(plan, t);
+        let i = search_bindings(s, plan, t, many, m, places, amounts);
         if i < many {
             return Searched::At {
                 t,

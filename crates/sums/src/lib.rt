@@ -5,4 +5,5 @@ mod terms;
 pub use sum::Summed;
 pub use sum::sum_terms;
 pub use terms::Multiset;
+pub use terms::Spot;
 pub use terms::list_terms;

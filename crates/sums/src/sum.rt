@@ -3,6 +3,8 @@
 // Nothing is asked of the bytes: where operands stand there, what comes out is theirs.
 use crate::terms::store_below;
 use evaluation::eval_rank;
+use plan::is_pair;
+use plan::ranks_of;
 use reading::byte_at;
 use reading::word_at;
 use runs::insert;
@@ -13,8 +15,9 @@ ghost use mathlib.Core.List.{List, [], _∷_};
 ghost use Prim.Native.Nat.{ℕ, _≤_, _<_, _^_};
 ghost use lib.ListN.{length};
 ghost use Rattle.firing.specs.internal.RowLists.{arcsIn};
-ghost use Rattle.net.specs.Net.{Place, scope};
-ghost use Rattle.evaluation.specs.internal.Evaluated.{placeBy};
+ghost use Rattle.plan.specs.internal.Layout.{ranksIn, pairIn};
+ghost use Rattle.net.specs.Net.{Place};
+ghost use Rattle.evaluation.specs.internal.Evaluated.{scopeIn, placeBy};
 ghost use Rattle.runs.specs.internal.Terms.{term, Terms, joined, joinBy, Appended};
 ghost use Rattle.sums.specs.internal.Sums.{SumTold};
 
@@ -69,25 +72,24 @@ fn add_below(
 // The terms of up to 16 counts. It ends before an operand that is neither a count nor a sum.
 fn sum_counts(
     s: &&[u8],
-    sizes: &&[u8],
-    vars: &&[u8],
+    plan: &[u32; 3584],
     env: &[u8; 32],
-    paired: bool,
-    count: usize,
-    at: usize,
-    ahead: usize,
+    entry: u64,
+    from: Summed,
     ranks: &mut [u16],
     counts: &mut [u16],
-    used: usize,
 ) -> Summed
-    requires { ⌜ (count ≤ 65535) × (length (now (now s)) < 2 ^ 63) ⌝ }
-    ensures is { λ r. ⌜ ((known : List Place) (first second : ℕ) → SumTold (now (now (s .entry))) (scope (now (now (sizes .entry))) (now (now (vars .entry))) known) (placeBy paired first second) (now (env .entry)) count
-        at ahead (now (ranks .entry)) (now (counts .entry)) used (now (ranks .exit)) (now (counts .exit)) (r .end) (r .next) (r .ahead)) ⌝ }
-    ensures low { λ r. ⌜ used ≤ r .end ⌝ }
+    requires { ⌜ length (now (now s)) < 2 ^ 63 ⌝ }
+    ensures is { λ r. ⌜ ((known : List Place) (first second : ℕ) → SumTold (now (now (s .entry))) (scopeIn (now (plan .entry)) known) (placeBy (pairIn entry) first second) (now (env .entry)) (ranksIn entry)
+        (from .next) (from .ahead) (now (ranks .entry)) (now (counts .entry)) (from .end) (now (ranks .exit)) (now (counts .exit)) (r .end) (r .next) (r .ahead)) ⌝ }
+    ensures low { λ r. ⌜ from .end ≤ r .end ⌝ }
 {
     let file = *s;
-    let mut next = at;
-    let mut left = ahead;
+    let count = ranks_of(entry);
+    let paired = is_pair(entry);
+    let used = from.end;
+    let mut next = from.next;
+    let mut left = from.ahead;
     let mut end = used;
     let mut i: usize = 0;
     while i < 64 {
@@ -104,7 +106,7 @@ fn sum_counts(
             left += 1;
             next += 1;
         } else {
-            let k = eval_rank(file, *sizes, *vars, env, paired, 15, next + 3);
+            let k = eval_rank(file, plan, env, paired, 15, next + 3);
             let number = word_at(file, next + 1) as u16;
             end = add_below(ranks, counts, used, end, count, k.rank, number);
             next = k.next;
@@ -130,52 +132,23 @@ fn goes_on(s: &[u8], next: usize, ahead: usize) -> bool {
 // The terms of up to 16 * 2 ^ level operands: two runs of half as many, joined.
 fn sum_runs(
     s: &&[u8],
-    sizes: &&[u8],
-    vars: &&[u8],
+    plan: &[u32; 3584],
     env: &[u8; 32],
-    paired: bool,
-    count: usize,
+    entry: u64,
     level: u8,
-    at: usize,
-    ahead: usize,
+    from: Summed,
     ranks: &mut [u16],
     counts: &mut [u16],
-    used: usize,
 ) -> Summed
-    requires { ⌜ (count ≤ 65535) × (length (now (now s)) < 2 ^ 63) ⌝ }
-    ensures is { λ r. ⌜ ((known : List Place) (first second : ℕ) → SumTold (now (now (s .entry))) (scope (now (now (sizes .entry))) (now (now (vars .entry))) known) (placeBy paired first second) (now (env .entry)) count
-        at ahead (now (ranks .entry)) (now (counts .entry)) used (now (ranks .exit)) (now (counts .exit)) (r .end) (r .next) (r .ahead)) ⌝ }
-    ensures low { λ r. ⌜ used ≤ r .end ⌝ }
+    requires { ⌜ length (now (now s)) < 2 ^ 63 ⌝ }
+    ensures is { λ r. ⌜ ((known : List Place) (first second : ℕ) → SumTold (now (now (s .entry))) (scopeIn (now (plan .entry)) known) (placeBy (pairIn entry) first second) (now (env .entry)) (ranksIn entry)
+        (from .next) (from .ahead) (now (ranks .entry)) (now (counts .entry)) (from .end) (now (ranks .exit)) (now (counts .exit)) (r .end) (r .next) (r .ahead)) ⌝ }
+    ensures low { λ r. ⌜ from .end ≤ r .end ⌝ }
 {
     if level < 1 {
-        return sum_counts(
-            s,
-            sizes,
-            vars,
-            env,
-            paired,
-            count,
-            at,
-            ahead,
-            ranks,
-            counts,
-            used,
-        );
+        return sum_counts(s, plan, env, entry, from, ranks, counts);
     }
-    let a = sum_runs(
-        s,
-        sizes,
-        vars,
-        env,
-        paired,
-        count,
-        level - 1,
-        at,
-        ahead,
-        ranks,
-        counts,
-        used,
-    );
+    let a = sum_runs(s, plan, env, entry, level - 1, from, ranks, counts);
     if !goes_on(*s, a.next, a.ahead) {
         return Summed {
             end: a.end,
@@ -183,22 +156,9 @@ fn sum_runs(
             ahead: a.ahead,
         };
     }
-    let b = sum_runs(
-        s,
-        sizes,
-        vars,
-        env,
-        paired,
-        count,
-        level - 1,
-        a.next,
-        a.ahead,
-        ranks,
-        counts,
-        a.end,
-    );
+    let b = sum_runs(s, plan, env, entry, level - 1, a, ranks, counts);
     Summed {
-        end: merge(false, ranks, counts, used, a.end, b.end, 0, 0),
+        end: merge(false, ranks, counts, from.end, a.end, b.end, 0, 0),
         next: b.next,
         ahead: b.ahead,
     }
@@ -207,34 +167,25 @@ fn sum_runs(
 // The terms of the sum of counts at a place: after each run one as long, and both joined.
 pub fn sum_terms(
     s: &&[u8],
-    sizes: &&[u8],
-    vars: &&[u8],
+    plan: &[u32; 3584],
     env: &[u8; 32],
-    paired: bool,
-    count: usize,
+    entry: u64,
     at: usize,
     ranks: &mut [u16],
     counts: &mut [u16],
     used: usize,
 ) -> Summed
-    requires { ⌜ (count ≤ 65535) × (length (now (now s)) < 2 ^ 63) ⌝ }
-    ensures is { λ r. ⌜ ((known : List Place) (first second : ℕ) → SumTold (now (now (s .entry))) (scope (now (now (sizes .entry))) (now (now (vars .entry))) known) (placeBy paired first second) (now (env .entry)) count
+    requires { ⌜ length (now (now s)) < 2 ^ 63 ⌝ }
+    ensures is { λ r. ⌜ ((known : List Place) (first second : ℕ) → SumTold (now (now (s .entry))) (scopeIn (now (plan .entry)) known) (placeBy (pairIn entry) first second) (now (env .entry)) (ranksIn entry)
         at 1 (now (ranks .entry)) (now (counts .entry)) used (now (ranks .exit)) (now (counts .exit)) (r .end) (r .next) (r .ahead)) ⌝ }
     ensures low { λ r. ⌜ used ≤ r .end ⌝ }
 {
-    let first = sum_counts(
-        s,
-        sizes,
-        vars,
-        env,
-        paired,
-        count,
-        at,
-        1,
-        ranks,
-        counts,
-        used,
-    );
+    let start = Summed {
+        end: used,
+        next: at,
+        ahead: 1,
+    };
+    let first = sum_counts(s, plan, env, entry, start, ranks, counts);
     let mut end = first.end;
     let mut next = first.next;
     let mut ahead = first.ahead;
@@ -243,20 +194,8 @@ pub fn sum_terms(
         if !goes_on(*s, next, ahead) {
             return Summed { end, next, ahead };
         }
-        let more = sum_runs(
-            s,
-            sizes,
-            vars,
-            env,
-            paired,
-            count,
-            level,
-            next,
-            ahead,
-            ranks,
-            counts,
-            end,
-        );
+        let from = Summed { end, next, ahead };
+        let more = sum_runs(s, plan, env, entry, level, from, ranks, counts);
         end = merge(false, ranks, counts, used, end, more.end, 0, 0);
         next = more.next;
         ahead = more.ahead;

@@ -1,6 +1,8 @@
-// The terms of an arc expression under a binding, by recursion over its bytes. The file and the tables are handed on by address.
+// The terms of an arc expression under a binding, by recursion over its bytes. The file is handed on by address.
 // Nothing is asked of the bytes: where they hold a tree, what comes out is the tree's.
 use evaluation::eval_rank;
+use plan::is_pair;
+use plan::ranks_of;
 use reading::word_at;
 use runs::join;
 use runs::merge;
@@ -12,11 +14,10 @@ ghost use mathlib.Core.List.{List, [], _∷_};
 ghost use Prim.Native.Nat.{ℕ, _≤_, _<_, _+_, _^_};
 ghost use lib.ListN.{length};
 ghost use Rattle.reading.specs.Basics.{byteAt};
-ghost use Rattle.reading.specs.Reading.{under};
-ghost use Rattle.net.specs.Net.{Place, times, scope};
-ghost use Rattle.net.specs.Reader.{readExpression, twoOf, capped};
-ghost use Rattle.evaluation.specs.internal.Evaluated.{placeBy};
-ghost use Rattle.arc_expressions.specs.internal.ReaderEnums.{joins};
+ghost use Rattle.plan.specs.internal.Layout.{ranksIn, pairIn};
+ghost use Rattle.net.specs.Net.{Place};
+ghost use Rattle.net.specs.Reader.{readExpression};
+ghost use Rattle.evaluation.specs.internal.Evaluated.{scopeIn, placeBy};
 ghost use Rattle.runs.specs.internal.Terms.{term, Appended};
 ghost use Rattle.sums.specs.internal.Loaded.{ListedTold};
 
@@ -25,6 +26,12 @@ pub struct Multiset {
     pub end: usize,
     pub rest: u16,
     pub next: usize,
+}
+
+// Where an expression stands: the levels left for it, and its place.
+pub struct Spot {
+    pub left: u8,
+    pub at: usize,
 }
 
 // Stores the one term of a count if its rank is below a number.
@@ -70,53 +77,33 @@ fn anew(m: Multiset) -> Multiset
     }
 }
 
-// Two expressions one after the other: their sum, or the first less the second.
+// Two expressions one after the other, behind 0x42 or 0x43: their sum, or the first less the second.
 fn list_joined(
     s: &&[u8],
-    sizes: &&[u8],
-    vars: &&[u8],
+    plan: &[u32; 3584],
     env: &[u8; 32],
-    paired: bool,
-    count: usize,
-    less: bool,
-    left: u8,
-    next: usize,
+    entry: u64,
+    spot: Spot,
     ranks: &mut [u16],
     counts: &mut [u16],
     used: usize,
 ) -> Multiset
-    requires { ⌜ (count ≤ 65535) × (length (now (now s)) < 2 ^ 63) ⌝ }
-    ensures is { λ r. ⌜ ((known : List Place) (first second at : ℕ) → ListedTold (scope (now (now (sizes .entry))) (now (now (vars .entry))) known) (now (env .entry)) count
+    requires { ⌜ length (now (now s)) < 2 ^ 63 ⌝ }
+    requires inner { ⌜ (1 ≤ spot .left) × (spot .at < length (now (now s))) ⌝ }
+    requires either { ⌜ (0x42 ≤ byteAt (now (now s)) (spot .at)) × (byteAt (now (now s)) (spot .at) ≤ 0x43) ⌝ }
+    ensures is { λ r. ⌜ ((known : List Place) (first second : ℕ) → ListedTold (scopeIn (now (plan .entry)) known) (now (env .entry)) (ranksIn entry)
         (now (ranks .entry)) (now (counts .entry)) used (now (ranks .exit)) (now (counts .exit)) r
-        (capped at (twoOf (readExpression (now (now (s .entry))) (scope (now (now (sizes .entry))) (now (now (vars .entry))) known) (placeBy paired first second) left) (joins less) next))) ⌝ }
+        (readExpression (now (now (s .entry))) (scopeIn (now (plan .entry)) known) (placeBy (pairIn entry) first second) (spot .left) (spot .at))) ⌝ }
     ensures low { λ r. ⌜ used ≤ r .end ⌝ }
 {
-    let e = list_terms(
-        s,
-        sizes,
-        vars,
-        env,
-        paired,
-        count,
-        left,
-        next,
-        ranks,
-        counts,
-        used,
-    );
-    let f = list_terms(
-        s,
-        sizes,
-        vars,
-        env,
-        paired,
-        count,
-        left,
-        e.next,
-        ranks,
-        counts,
-        e.end,
-    );
+    let file = *s;
+    let at = spot.at;
+    let less = file[at] == 0x43;
+    let left = spot.left - 1;
+    let first = Spot { left, at: at + 1 };
+    let e = list_terms(s, plan, env, entry, first, ranks, counts, used);
+    let second = Spot { left, at: e.next };
+    let f = list_terms(s, plan, env, entry, second, ranks, counts, e.end);
     Multiset {
         end: merge(less, ranks, counts, used, e.end, f.end, e.rest, f.rest),
         rest: join(less, e.rest, f.rest),
@@ -124,40 +111,32 @@ fn list_joined(
     }
 }
 
-// A factor times an expression.
+// A factor times an expression, behind 0x44.
 fn list_times(
     s: &&[u8],
-    sizes: &&[u8],
-    vars: &&[u8],
+    plan: &[u32; 3584],
     env: &[u8; 32],
-    paired: bool,
-    count: usize,
-    factor: u16,
-    left: u8,
-    next: usize,
+    entry: u64,
+    spot: Spot,
     ranks: &mut [u16],
     counts: &mut [u16],
     used: usize,
 ) -> Multiset
-    requires { ⌜ (count ≤ 65535) × (length (now (now s)) < 2 ^ 63) ⌝ }
-    ensures is { λ r. ⌜ ((known : List Place) (first second at : ℕ) → ListedTold (scope (now (now (sizes .entry))) (now (now (vars .entry))) known) (now (env .entry)) count
+    requires { ⌜ length (now (now s)) < 2 ^ 63 ⌝ }
+    requires inner { ⌜ (1 ≤ spot .left) × (spot .at < length (now (now s))) ⌝ }
+    requires factor { ⌜ byteAt (now (now s)) (spot .at) ≡ 0x44 ⌝ }
+    ensures is { λ r. ⌜ ((known : List Place) (first second : ℕ) → ListedTold (scopeIn (now (plan .entry)) known) (now (env .entry)) (ranksIn entry)
         (now (ranks .entry)) (now (counts .entry)) used (now (ranks .exit)) (now (counts .exit)) r
-        (capped at (under (times factor) (readExpression (now (now (s .entry))) (scope (now (now (sizes .entry))) (now (now (vars .entry))) known) (placeBy paired first second) left next)))) ⌝ }
+        (readExpression (now (now (s .entry))) (scopeIn (now (plan .entry)) known) (placeBy (pairIn entry) first second) (spot .left) (spot .at))) ⌝ }
     ensures low { λ r. ⌜ used ≤ r .end ⌝ }
 {
-    let e = list_terms(
-        s,
-        sizes,
-        vars,
-        env,
-        paired,
-        count,
-        left,
-        next,
-        ranks,
-        counts,
-        used,
-    );
+    let at = spot.at;
+    let factor = word_at(*s, at + 1) as u16;
+    let inside = Spot {
+        left: spot.left - 1,
+        at: at + 3,
+    };
+    let e = list_terms(s, plan, env, entry, inside, ranks, counts, used);
     scale(counts, used, e.end, factor);
     Multiset {
         end: e.end,
@@ -169,42 +148,27 @@ fn list_times(
 // The terms of an expression that has others inside, 0x42 to 0x44.
 fn list_inside(
     s: &&[u8],
-    sizes: &&[u8],
-    vars: &&[u8],
+    plan: &[u32; 3584],
     env: &[u8; 32],
-    paired: bool,
-    count: usize,
-    left: u8,
-    at: usize,
+    entry: u64,
+    spot: Spot,
     ranks: &mut [u16],
     counts: &mut [u16],
     used: usize,
 ) -> Multiset
-    requires { ⌜ (count ≤ 65535) × (length (now (now s)) < 2 ^ 63) ⌝ }
-    requires inner { ⌜ (1 ≤ left) × (at < length (now (now s))) ⌝ }
-    requires other { ⌜ (byteAt (now (now s)) at ≡ 0x40 → ⊥) × (byteAt (now (now s)) at ≡ 0x41 → ⊥) ⌝ }
-    ensures is { λ r. ⌜ ((known : List Place) (first second : ℕ) → ListedTold (scope (now (now (sizes .entry))) (now (now (vars .entry))) known) (now (env .entry)) count
+    requires { ⌜ length (now (now s)) < 2 ^ 63 ⌝ }
+    requires inner { ⌜ (1 ≤ spot .left) × (spot .at < length (now (now s))) ⌝ }
+    requires other { ⌜ (byteAt (now (now s)) (spot .at) ≡ 0x40 → ⊥) × (byteAt (now (now s)) (spot .at) ≡ 0x41 → ⊥) ⌝ }
+    ensures is { λ r. ⌜ ((known : List Place) (first second : ℕ) → ListedTold (scopeIn (now (plan .entry)) known) (now (env .entry)) (ranksIn entry)
         (now (ranks .entry)) (now (counts .entry)) used (now (ranks .exit)) (now (counts .exit)) r
-        (readExpression (now (now (s .entry))) (scope (now (now (sizes .entry))) (now (now (vars .entry))) known) (placeBy paired first second) left at)) ⌝ }
+        (readExpression (now (now (s .entry))) (scopeIn (now (plan .entry)) known) (placeBy (pairIn entry) first second) (spot .left) (spot .at))) ⌝ }
     ensures low { λ r. ⌜ used ≤ r .end ⌝ }
 {
     let file = *s;
+    let at = spot.at;
     let b = file[at];
     if b == 0x44 {
-        return anew(list_times(
-            s,
-            sizes,
-            vars,
-            env,
-            paired,
-            count,
-            word_at(file, at + 1) as u16,
-            left - 1,
-            at + 3,
-            ranks,
-            counts,
-            used,
-        ));
+        return anew(list_times(s, plan, env, entry, spot, ranks, counts, used));
     }
     if b < 0x42 {
         return nothing(used, at);
@@ -212,43 +176,28 @@ fn list_inside(
     if 0x43 < b {
         return nothing(used, at);
     }
-    anew(list_joined(
-        s,
-        sizes,
-        vars,
-        env,
-        paired,
-        count,
-        b == 0x43,
-        left - 1,
-        at + 1,
-        ranks,
-        counts,
-        used,
-    ))
+    anew(list_joined(s, plan, env, entry, spot, ranks, counts, used))
 }
 
-// The terms of the arc expression at a place, with so many levels left, for the ranks below count; they follow those that are used.
+// The terms of the arc expression at a spot, for the ranks that an arc's entry tells; they follow those that are used.
 pub fn list_terms(
     s: &&[u8],
-    sizes: &&[u8],
-    vars: &&[u8],
+    plan: &[u32; 3584],
     env: &[u8; 32],
-    paired: bool,
-    count: usize,
-    left: u8,
-    at: usize,
+    entry: u64,
+    spot: Spot,
     ranks: &mut [u16],
     counts: &mut [u16],
     used: usize,
 ) -> Multiset
-    requires { ⌜ (count ≤ 65535) × (length (now (now s)) < 2 ^ 63) ⌝ }
-    ensures is { λ r. ⌜ ((known : List Place) (first second : ℕ) → ListedTold (scope (now (now (sizes .entry))) (now (now (vars .entry))) known) (now (env .entry)) count
+    requires { ⌜ length (now (now s)) < 2 ^ 63 ⌝ }
+    ensures is { λ r. ⌜ ((known : List Place) (first second : ℕ) → ListedTold (scopeIn (now (plan .entry)) known) (now (env .entry)) (ranksIn entry)
         (now (ranks .entry)) (now (counts .entry)) used (now (ranks .exit)) (now (counts .exit)) r
-        (readExpression (now (now (s .entry))) (scope (now (now (sizes .entry))) (now (now (vars .entry))) known) (placeBy paired first second) left at)) ⌝ }
+        (readExpression (now (now (s .entry))) (scopeIn (now (plan .entry)) known) (placeBy (pairIn entry) first second) (spot .left) (spot .at))) ⌝ }
     ensures low { λ r. ⌜ used ≤ r .end ⌝ }
 {
     let file = *s;
+    let at = spot.at;
     if file.len() <= at {
         return nothing(used, at);
     }
@@ -260,29 +209,17 @@ pub fn list_terms(
             next: at + 3,
         };
     }
-    if left < 1 {
+    if spot.left < 1 {
         return nothing(used, at);
     }
     if b == 0x40 {
-        let k = eval_rank(file, *sizes, *vars, env, paired, left - 1, at + 3);
+        let k = eval_rank(file, plan, env, is_pair(entry), spot.left - 1, at + 3);
         let number = word_at(file, at + 1) as u16;
         return Multiset {
-            end: store_below(ranks, counts, used, count, k.rank, number),
+            end: store_below(ranks, counts, used, ranks_of(entry), k.rank, number),
             rest: 0,
             next: k.next,
         };
     }
-    anew(list_inside(
-        s,
-        sizes,
-        vars,
-        env,
-        paired,
-        count,
-        left,
-        at,
-        ranks,
-        counts,
-        used,
-    ))
+    anew(list_inside(s, plan, env, entry, spot, ranks, counts, used))
 }

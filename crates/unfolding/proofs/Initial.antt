@@ -11,8 +11,9 @@ use Rattle.reading.proofs.Lists.{map-map, map-same, of-from, flat-append}
 use Rattle.net.specs.Net.{Net, coloursOf, placeAt, flatPlaceCount, tokensOn}
 use Rattle.net_transitions.proofs.Spaces.{below-next}
 use Rattle.bindings.specs.Effect.{FlatPlace, flatPlaces}
-use Rattle.rows.specs.internal.Drawing.{startOf}
-use Rattle.rows.proofs.Split.{start-next, start-low}
+use Rattle.prepared.specs.internal.Drawing.{startOf}
+use Rattle.prepared.specs.internal.Prepared.{Marked}
+use Rattle.prepared.proofs.Starts.{start-next, start-low}
 use Rattle.row_numbers.specs.Unfolding.{unfolded, initialAt}
 
 -- so many elements more
@@ -29,10 +30,7 @@ take-on l a (suc c) h =
     ∙ append-assoc (take a l) (map f (below c)) (f c ∷ [])
     ∙ ap (λ m. take a l ++ m) (sym (map-append f (below c) (c ∷ [])) ∙ ap (map f) (sym b))
 
-module _ (n : Net) (starts initial : List ℕ)
-    (begin : (p : ℕ) → p ≤ length (n .places) → getD starts p 0 ≡ startOf n p)
-    (counts : (p rank : ℕ) → p < length (n .places) → rank < coloursOf n (placeAt n p) → getD initial (getD starts p 0 + rank) 0 ≡ given (tokensOn (n .tokens) p rank) 0 (λ t. t .count))
-    (room : flatPlaceCount n ≤ length initial) where
+module _ (n : Net) (initial : List ℕ) (marked : Marked n initial) (room : flatPlaceCount n ≤ length initial) where
   abbrev ranksOf : ℕ → List FlatPlace
   ranksOf p = map (λ rank. record { place = p; rank = rank }) (below (coloursOf n (placeAt n p)))
 
@@ -42,7 +40,7 @@ module _ (n : Net) (starts initial : List ℕ)
       let c : ℕ = coloursOf n (placeAt n p) in
       map-map (λ rank. record { place = p; rank = rank }) (initialAt n) (below c)
       ∙ map-same (λ rank. given (tokensOn (n .tokens) p rank) 0 (λ t. t .count)) (λ r. getD initial (startOf n p + r) 0) (below c)
-      (λ r m. sym (counts p r h (omega (arith, of-from 0 c m))) ∙ ap (λ s. getD initial (s + r) 0) (begin p (omega arith)))
+      (λ r m. sym (marked .count p r h (omega (arith, of-from 0 c m)) (omega (arith, of-from 0 c m, start-next n p h, start-low n (p + 1)))))
 
   -- of the places below a number
   places-counted : (p : ℕ) → p ≤ length (n .places) → map (initialAt n) (flatMap ranksOf (below p)) ≡ take (startOf n p) initial
@@ -61,8 +59,8 @@ module _ (n : Net) (starts initial : List ℕ)
       ∙ ap (λ k. take k initial) (sym s)
 
   -- of all
-  pub initial-counted : {total : ℕ} → flatPlaceCount n ≡ total → take total initial ≡ unfolded n .initial
+  pub initial-counted : take (flatPlaceCount n) initial ≡ unfolded n .initial
   unfolding unfolded flatPlaces
-  initial-counted {total} e =
-      ap (λ k. take k initial) (sym e ∙ ap (λ l. sum (map (coloursOf n) l)) (sym (take-length (n .places))))
+  initial-counted =
+      ap (λ k. take k initial) (ap (λ l. sum (map (coloursOf n) l)) (sym (take-length (n .places))))
       ∙ sym (places-counted (length (n .places)) (omega arith))

@@ -5,8 +5,8 @@ use native.Mathlib.Omega.{arith}
 use native.Mathlib.Nat.{pow-suc}
 use borrow.Author.Tests.{ltb-true, ltb-false, le-leb}
 use lib.ListN.{length-append, List·getD-append}
-use Rattle.reading.specs.Basics.{ℕ, zero, suc, _+_, _*_, _-_, _/_, _%_, Bool, true, false, Option, none, some, List, [], _∷_, _++_, length, ltb, leb, if_then_else_, given, every, byteAt}
-use Rattle.reading.specs.Reading.{Outcome, accepted, refused, failing, permitted}
+use Rattle.reading.specs.Basics.{ℕ, zero, suc, _+_, _*_, _-_, _/_, _%_, Bool, true, false, List, [], _∷_, _++_, length, ltb, leb, if_then_else_, every, byteAt}
+use Rattle.reading.specs.Reading.{Outcome, accepted, refused, _when-not_, refusing, permitted}
 use Rattle.reading.proofs.Commands.{both-hold}
 use Rattle.reading.proofs.Lists.{all-with, every-in, in-every}
 use Rattle.net.specs.Net.{Net}
@@ -72,23 +72,15 @@ spells : (k n : ℕ) → n < 10 ^ suc k → Spells (decimal (suc k) n) n
 spells k n h = record { all-digits = all-digits (suc k) n; value = value (suc k) n h; no-zero = no-zero k n h }
 
 pub line-tells : LineTells
-unfolding failing
+unfolding refusing
 line-tells s number place e = (spells _ number (let f = small .0 in omega arith), spells _ place (let f = small .1 in omega arith))
   where
-    by-space : (n : Net) (o : Option ℕ) → failing (fitsProgram n) ≡ o → (given o (accepted n) λ k. refused k 0) ≡ refused number place → (number ≤ 15) × (place ≤ 16384)
-    by-space n none f q = let z : _≡_ {A = ℕ} 0 1 = cc in absurd (omega arith)
-    by-space n (some k) f q = by-number (leb (length (flatFile n)) 65536) f
-      where
-        by-number : (t : Bool) → (if t then none else some 14) ≡ some k → (number ≤ 15) × (place ≤ 16384)
-        by-number true g = let z : _≡_ {A = ℕ} 0 1 = cc in absurd (omega arith)
-        by-number false g =
-            let i : number ≡ k = cc in
-            let j : place ≡ 0 = cc in
-            let l : 14 ≡ k = cc in
-            (omega arith, omega arith)
+    by-space : (n : Net) (t : Bool) → refusing ((14 when-not t) ∷ []) (accepted n) ≡ refused number place → (number ≤ 15) × (place ≤ 16384)
+    by-space n true q = let z : _≡_ {A = ℕ} 0 1 = cc in absurd (omega arith)
+    by-space n false q = let i : 14 ≡ number = cc in let j : 0 ≡ place = cc in (omega arith, omega arith)
 
     by-net : (o : Outcome Net) → readNet s ≡ o → permitted fitsProgram o ≡ refused number place → (number ≤ 15) × (place ≤ 16384)
-    by-net (accepted n) f q = by-space n (failing (fitsProgram n)) refl q
+    by-net (accepted n) f q = by-space n (leb (length (flatFile n)) 65536) q
     by-net (refused k p) f q =
         let fits = refusals-fit s k p f in
         let i : number ≡ k = cc in

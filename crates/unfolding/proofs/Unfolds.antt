@@ -5,30 +5,27 @@ use native.Mathlib.Omega.{arith}
 use borrow.Author.Tests.{le-leb, lt-leb, leb-true, leb-false}
 use lib.ListN.{length-append}
 use lib.Seq.{length-take-le}
-use Rattle.reading.specs.Basics.{ℕ, _+_, _*_, _/_, Bool, true, false, not, List, [], _∷_, _++_, flatMap, length, getD, take, drop, leb, below, over}
-use Rattle.reading.specs.Reading.{Outcome, accepted, refused, failing}
-use Rattle.flat_file.specs.Flat.{rowBytes, writeFlat}
+use Rattle.reading.specs.Basics.{ℕ, _+_, _*_, _/_, Bool, true, false, not, List, [], _∷_, _++_, flatMap, length, take, drop, leb, over}
+use Rattle.reading.specs.Reading.{Outcome, accepted, refused, refusing}
+use Rattle.flat_file.specs.Flat.{writeFlat}
 use Rattle.flat_file.proofs.Written.{placeBytes, length-places}
-use Rattle.net.specs.Net.{Net, inTransition}
-use Rattle.net.specs.internal.ReaderEnums.{bits}
+use Rattle.net.specs.Net.{Net, flatPlaceCount}
 use Rattle.net_file.specs.NetFile.{readNet}
-use Rattle.net_file.specs.internal.NetTables.{NetHeld}
-use Rattle.net_file.specs.Limits.{Limits}
-use Rattle.net_file.specs.Formed.{Formed}
-use Rattle.bindings.specs.Effect.{transitionAt}
-use Rattle.rows.specs.internal.Packed.{shapeIn, Packed}
-use Rattle.bindings.specs.internal.TransitionVariables.{Owned}
+use Rattle.plan.specs.internal.Layout.{flatPlacesIn}
+use Rattle.prepared.specs.internal.Prepared.{Prepared}
+use Rattle.prepared.specs.internal.Filled.{Readied, PreparedTold}
+use Rattle.prepared.specs.declared.fill.Preparing.{Preparing}
+use Rattle.prepared.specs.declared.fill.Preparing.the-variants.{Ready, Refused}
+use Rattle.prepared.proofs.Known.{its-limits}
 use Rattle.rows.specs.internal.Slots.{NetSlotted}
-use Rattle.rows.proofs.Accepted.{ready}
-use Rattle.bindings.proofs.Clash.{not-true, not-false}
-use Rattle.rows.proofs.Prepared.{small-room}
-use Rattle.row_numbers.specs.Unfolding.{unfolded, flatFile, WriteCall, unfoldCall, line, program}
-use Rattle.row_numbers.specs.internal.Walked.{Tables}
-use Rattle.row_bytes.specs.internal.RowBytes.{transitionBytes, Ruled, Small, Tabled}
+use Rattle.reading.proofs.Clash.{not-true, not-false}
+use Rattle.rows.proofs.Fires.{small-room}
+use Rattle.row_numbers.specs.Unfolding.{flatFile, WriteCall, unfoldCall, line, program}
+use Rattle.row_bytes.specs.internal.RowBytes.{allBytes, Ruled, Small, Tabled}
 use Rattle.row_numbers.specs.internal.Marks.{Marked, Counted}
 use Rattle.flat_file.specs.internal.Output.{Appended}
 use Rattle.flat_file.proofs.Appending.{append-then, append-all, append-count}
-use Rattle.row_bytes.proofs.RowBytes.{rows-bytes, tables-ready}
+use Rattle.row_bytes.proofs.RowBytes.{rows-bytes}
 use Rattle.unfolding.proofs.Initial.{initial-counted}
 
 -- ---- the call
@@ -41,82 +38,90 @@ module _ (s out : List ℕ) where
   module _ {n : Net} (read : readNet s ≡ accepted n) where
     -- there is no space
     pub unfold-short : length out < length (flatFile n) → record { result = refused 14 0; out = out } ≡ unfoldCall s out
-    unfolding unfoldCall failing
+    unfolding unfoldCall refusing
     unfold-short h = rw (read, lt-leb (length (flatFile n)) (length out) h)
 
     -- the file is written
     pub unfold-whole : length (flatFile n) ≤ length out → record { result = accepted (length (flatFile n)); out = over (flatFile n) out } ≡ unfoldCall s out
-    unfolding unfoldCall failing
+    unfolding unfoldCall refusing
     unfold-whole h = rw (read, le-leb (length (flatFile n)) (length out) h)
 
 -- ---- the file by its pieces
-module _ {s sizes vars own guards arcs initial : List ℕ} {total transitions : ℕ} (t : Tabled s sizes vars own guards arcs initial total transitions) where
-  abbrev rowsOf : List ℕ
-  rowsOf = flatMap (transitionBytes (t .net)) (below transitions)
+module _ {s plan initial : List ℕ} (t : Tabled s plan initial) where
+  abbrev places : ℕ
+  places = flatPlaceCount (t .net)
 
-  rows-are : rowsOf ≡ flatMap rowBytes (unfolded (t .net) .rows)
-  rows-are = ap (λ k. flatMap (transitionBytes (t .net)) (below k)) (sym (t .ready .transitions-are)) ∙ sym (rows-bytes (t .net))
-
-  pub file-is : (0x02 ∷ 1 ∷ []) ++ flatMap placeBytes (take total initial) ++ rowsOf ++ (0x5F ∷ []) ≡ flatFile (t .net)
+  file-is : (0x02 ∷ 1 ∷ []) ++ flatMap placeBytes (take places initial) ++ allBytes (t .net) ++ (0x5F ∷ []) ≡ flatFile (t .net)
   unfolding writeFlat
-  file-is = rw (t .counts, rows-are)
+  file-is = rw (t .counts, sym (rows-bytes (t .net)))
 
   -- lists of 1,024 slots have the room for its rows, where these need few
-  pub is-small : {slots : ℕ} → NetSlotted s arcs transitions slots → leb (slots + length s / 2) 1024 ≡ true → Small s
+  pub is-small : {slots : ℕ} → NetSlotted s plan slots → leb (slots + length s / 2) 1024 ≡ true → Small s
   is-small enough few n read =
       let both : accepted n ≡ accepted (t .net) = sym read ∙ t .ready .read in
       let same : n ≡ t .net = cc in
-      rw same (small-room s (t .net) (enough (t .net) sizes vars guards (t .ready .drawing) (t .ready .transitions-are)) few)
+      rw same (small-room s (t .net) (enough (t .net) (t .ready)) few)
+
+  -- as many flat places as the table says
+  pub places-are : {total : ℕ} → total ≡ flatPlacesIn plan → total ≡ places
+  places-are e = e ∙ sym (t .ready .flat-places-are)
 
   -- its length, from that of the rows
-  pub file-length : total ≤ length initial → 3 + 3 * total + length rowsOf ≡ length (flatFile (t .net))
+  file-length : length initial ≡ 4096 → 3 + 3 * places + length (allBytes (t .net)) ≡ length (flatFile (t .net))
   file-length h =
-      let places : List ℕ = flatMap placeBytes (take total initial) in
-      omega (arith, ap length file-is, length-append (places ++ rowsOf) (0x5F ∷ []), length-append places rowsOf, length-places (take total initial), length-take-le total initial h)
+      let counts : List ℕ = flatMap placeBytes (take places initial) in
+      omega (
+        arith,
+        ap length file-is,
+        length-append (counts ++ allBytes (t .net)) (0x5F ∷ []),
+        length-append counts (allBytes (t .net)),
+        length-places (take places initial),
+        length-take-le places initial (omega (arith, its-limits (t .ready) .flat-places)),
+      )
 
   -- the pieces written one behind the other are the file
-  pub file-written : {o o1 o2 o3 o4 : List ℕ} {n1 n2 n3 n4 : ℕ} → Appended o o1 0 n1 (0x02 ∷ 1 ∷ []) → Appended o1 o2 n1 n2 (flatMap placeBytes (take total initial))
-      → Appended o2 o3 n2 n3 rowsOf → Appended o3 o4 n3 n4 (0x5F ∷ []) → Appended o o4 0 n4 (flatFile (t .net))
-  file-written {o} {o4 = o4} {n4 = n4} head places rows end = subst (Appended o o4 0 n4) file-is (append-then (append-then (append-then head places) rows) end)
+  pub file-written : {total : ℕ} → total ≡ flatPlacesIn plan → {o o1 o2 o3 o4 : List ℕ} {n1 n2 n3 n4 : ℕ}
+      → Appended o o1 0 n1 (0x02 ∷ 1 ∷ []) → Appended o1 o2 n1 n2 (flatMap placeBytes (take total initial))
+      → Appended o2 o3 n2 n3 (allBytes (t .net)) → Appended o3 o4 n3 n4 (0x5F ∷ []) → Appended o o4 0 n4 (flatFile (t .net))
+  file-written e {o} {o4 = o4} {n4 = n4} head counts rows end =
+      subst (Appended o o4 0 n4) file-is (append-then (append-then (append-then head (rw (places-are e) at counts)) rows) end)
 
   -- whether there is space, as the code tells it
-  module _ (out : List ℕ) {told : Bool} (h : total ≤ length initial) (e : told ≡ leb (3 + 3 * total + length rowsOf) (length out)) where
-    pub has-space : not told ≡ false → 3 + 3 * total + length rowsOf ≤ length out
-    has-space f = leb-true (3 + 3 * total + length rowsOf) (length out) (sym e ∙ not-false told f)
+  module _ (out : List ℕ) {told : Bool} (h : length initial ≡ 4096) (e : told ≡ leb (3 + 3 * places + length (allBytes (t .net))) (length out)) where
+    pub has-space : not told ≡ false → 3 + 3 * places + length (allBytes (t .net)) ≤ length out
+    has-space f = leb-true (3 + 3 * places + length (allBytes (t .net))) (length out) (sym e ∙ not-false told f)
 
     -- the call's result
     pub call-short : not told ≡ true → record { result = refused 14 0; out = out } ≡ unfoldCall s out
-    call-short f = unfold-short s out (t .ready .read) (let lt = leb-false (3 + 3 * total + length rowsOf) (length out) (sym e ∙ not-true told f) in omega (arith, file-length h))
+    call-short f =
+        unfold-short s out (t .ready .read) (let lt = leb-false (3 + 3 * places + length (allBytes (t .net))) (length out) (sym e ∙ not-true told f) in omega (arith, file-length h))
 
     pub call-whole : not told ≡ false → {exit : List ℕ} {size : ℕ} → Appended out exit 0 size (flatFile (t .net)) → record { result = accepted size; out = exit } ≡ unfoldCall s out
     call-whole f w = rw (append-count w, append-all w) (unfold-whole s out (t .ready .read) (omega (arith, file-length h, has-space f)))
 
-  -- with the marks
-  abbrev ruled-of : {marks : List ℕ} → Marked (t .net) guards marks transitions → Ruled s sizes vars own guards arcs marks transitions
-  ruled-of marked = record { net = t .net; uses = t .uses; ready = t .ready; marked = marked }
-
-  -- and the number of each transition's rows
+  -- with the marks, and the number of each transition's rows
   abbrev pub ruled-marked : {marks rows : List ℕ} {A : Type 0}
-      → ((n : Net) (uses : List ℕ) → Tables s n sizes vars own uses guards transitions → A → Marked n guards marks transitions × Counted n rows transitions)
-      → A → ((k : Ruled s sizes vars own guards arcs marks transitions) × Counted (k .net) rows transitions)
-  ruled-marked told a = let both = told (t .net) (t .uses) (tables-ready (t .ready)) a in (ruled-of (both .0), both .1)
+      → ((n : Net) → Prepared s n plan → A → Marked n plan marks (length (n .transitions)) × Counted n rows (length (n .transitions)))
+      → A → ((k : Ruled s plan marks) × Counted (k .net) rows (length (k .net .transitions)))
+  ruled-marked told a = let both = told (t .net) (t .ready) a in (record { net = t .net; ready = t .ready; marked = both .0 }, both .1)
 
--- ---- the tables that the reader leaves
-module _ (s sizes vars firsts seconds starts uses guards arcs initial : List ℕ) {sets variables places total transitions space : ℕ}
-    (held : NetHeld s sizes vars firsts seconds starts uses guards arcs initial sets variables places total transitions space) where
-  -- with the fronts of two of them, the packed table, and each transition's own variables
-  pub tabled : {fore front packed own : List ℕ} → fore ≡ take sets sizes → front ≡ take variables vars → Packed (shapeIn seconds starts) arcs packed places transitions
-      → ((k : Net) → k .sets ≡ fore → k .variables ≡ front → Limits k → Formed k → length (k .transitions) ≡ transitions
-      → ((t : ℕ) → t < length (k .transitions) → getD uses t 0 ≡ bits (λ v. inTransition v (transitionAt k t)) 32) → Owned k own)
-      → total ≤ length initial → Tabled s fore front own guards packed initial total transitions
-  tabled e f packs owns room = rw (e, f) record {
-    net = held .value;
-    uses = uses;
-    ready = ready s sizes vars firsts seconds starts uses guards arcs initial held packs (λ k a b. owns k (a ∙ sym e) (b ∙ sym f));
-    sized = held .holds .started .all;
-    counts = initial-counted (held .value) starts initial (λ p h. held .holds .started .begin p (omega (arith, held .holds .started .are)))
-        (held .holds .counts) (omega (arith, held .holds .started .all)) (held .holds .started .all);
-  }
+-- ---- the file as it was prepared
+-- a list of 4,096 counts has the flat net's at its front
+pub tabled : {s plan initial : List ℕ} → Readied s plan initial → length initial ≡ 4096 → Tabled s plan initial
+tabled {initial = initial} held h = record {
+  net = held .value;
+  ready = held .prepared;
+  counts = initial-counted (held .value) initial (held .marked) (omega (arith, its-limits (held .prepared) .flat-places));
+}
+
+module _ (s plan initial : List ℕ) {r : Preparing} where
+  -- it was accepted
+  pub readied : r ≡ Ready → PreparedTold s plan initial r → Readied s plan initial
+  readied e told = subst (PreparedTold s plan initial) e told
+
+  -- or refused
+  pub call-refused : (out : List ℕ) {number place : ℕ} → r ≡ Refused number place → PreparedTold s plan initial r → record { result = refused number place; out = out } ≡ unfoldCall s out
+  call-refused out e told = unfold-refused s out (subst (PreparedTold s plan initial) e told)
 
 -- ---- the program
 -- what the call gives over 65,536 bytes, and the program with it
@@ -128,7 +133,7 @@ data Shown (s out : List ℕ) : Type 0 where
   short : (number place : ℕ) → unfoldCall s out ≡ called (refused number place) out → program s ≡ line number place → Shown s out
 
 shown : (s out : List ℕ) → length out ≡ 65536 → Shown s out
-unfolding program failing
+unfolding program refusing
 shown s out sized = by-net (readNet s) refl
   where
     by-space : (n : Net) → readNet s ≡ accepted n → (t : Bool) → leb (length (flatFile n)) 65536 ≡ t → Shown s out

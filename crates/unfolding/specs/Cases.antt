@@ -1,7 +1,7 @@
 -- The cases marked *, as one list, and one result: they all follow from the meanings.
 use mathlib.Core.Path.{_≡_, refl}
 use Rattle.reading.specs.Basics.{ℕ, List, [], _∷_, _++_, map, flatMap, filterMap, Option·elim, length, replicate, numbersFrom, below, any, every, keep, find, position, same}
-use Rattle.reading.specs.Reading.{accepted, refused, on, failing, obey, standing, needed, repeat, file}
+use Rattle.reading.specs.Reading.{accepted, refused, on, failing, refusing, obey, standing, needed, repeat, file}
 use Rattle.firing.specs.Firing.{fire, run, ending, First, found, nothing, first}
 use Rattle.firing.specs.Calls.{fireCall, firstCall}
 use Rattle.flat_file.specs.Flat.{writeFlat}
@@ -43,7 +43,7 @@ AllHold (c ∷ l) = Holds c × AllHold l
 
 -- all that must compute
 unfoldable pub meanings : Unit {0}
-unfolding flatMap filterMap Option·elim numbersFrom any every keep find position same failing obey standing needed repeat file fire run ending fireCall first firstCall writeFlat setOf ceiling inColour inGuard inExpression variablesOf widthOf readColour readGuard readExpression setPart variablePart placePart readGuardIf arcPart transitionPart tokensPart readNet choices bindings standsFor colour holds weight flatPlaces legal effect fits named fireOrder fireOrders firstOrder rows unfolded rowNumber images imagesCall decimal program
+unfolding flatMap filterMap Option·elim numbersFrom any every keep find position same failing refusing obey standing needed repeat file fire run ending fireCall first firstCall writeFlat setOf ceiling inColour inGuard inExpression variablesOf widthOf readColour readGuard readExpression setPart variablePart placePart readGuardIf arcPart transitionPart tokensPart readNet choices bindings standsFor colour holds weight flatPlaces legal effect fits named fireOrder fireOrders firstOrder rows unfolded rowNumber images imagesCall decimal program
 meanings = tt
 
 -- the two-gauge net's flat file

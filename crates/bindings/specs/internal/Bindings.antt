@@ -1,8 +1,9 @@
--- A binding by its number, and colours that are a binding's.
+-- A binding by its number, colours that are a binding's, and a binding fired.
 use mathlib.Core.Path.{_≡_}
-use Rattle.reading.specs.Basics.{ℕ, true, List, getD}
-use Rattle.net.specs.Net.{Net, sizesOf, variablesOf, inTransition}
-use Rattle.bindings.specs.Effect.{Binding, transitionAt, standsFor}
+use Rattle.reading.specs.Basics.{ℕ, true, List, [], getD, given}
+use Rattle.firing.specs.Firing.{Fired, fired, fire}
+use Rattle.net.specs.Net.{Net, sizesOf, variablesOf, inTransition, transitionAt}
+use Rattle.bindings.specs.Effect.{Binding, standsFor, effect}
 use Rattle.bindings.specs.internal.Numbers.{digits}
 
 -- a transition with colours for its variables
@@ -17,3 +18,7 @@ numbered n t i = binding t (digits (sizesOf n (transitionAt n t)) i)
 abbrev pub Binds : Net → Binding → List ℕ → Type 0
 Binds n b env =
     (v : ℕ) → inTransition v (transitionAt n (b .transition)) ≡ true → getD env v 0 ≡ standsFor (variablesOf n (transitionAt n (b .transition))) (b .colours) v
+
+-- a binding fired on the drawing: 2 where it has no effect
+abbrev pub fireBinding : Net → Binding → List ℕ → Fired
+fireBinding n b m = given (effect n b) (fired 2 m) λ w. fire [] w m

@@ -1,7 +1,7 @@
 use borrow.Author.Needs.{needs}
 use native.Mathlib.Omega.{arith}
 use Rattle.reading.specs.Basics.{if_then_else_}
-use Rattle.rows.proofs.Prepared.{roomy}
+use Rattle.rows.proofs.Fires.{roomy}
 use Prim.Native.Nat.{ℕ, _<_}
 use borrow.Fn.Kinds.{In}
 use borrow.Fn.PlainCycle.{Measures, is, falls, and}
@@ -12,16 +12,16 @@ use Rattle.coloured.proofs.fire_with.Reads as fire-with-reads
 use Rattle.coloured.proofs.+fire_large.{statement}
 use Rattle.coloured.proofs.+fire_large.Tie.{close}
 
-abbrev μ-fire-large : Measures 9 fire-large-kinds.ps ℕ
-μ-fire-large κs a = if a .1 .1 .1 .1 .1 .1 .1 .1 .1 .1 .1 .0 then 1 else 0
+abbrev μ-fire-large : Measures 5 fire-large-kinds.ps ℕ
+μ-fire-large κs a = if a .1 .1 .1 .1 .1 .0 then 1 else 0
 
-abbrev fire-large-at : ℕ → In 9 fire-large-kinds.ps
+abbrev fire-large-at : ℕ → In 5 fire-large-kinds.ps
 fire-large-at t =
-    and 9 fire-large-kinds.ps (is 9 fire-large-kinds.ps μ-fire-large t) fire-large.Pre
+    and 5 fire-large-kinds.ps (is 5 fire-large-kinds.ps μ-fire-large t) fire-large.Pre
 
-abbrev fire-large-below : ℕ → In 9 fire-large-kinds.ps
+abbrev fire-large-below : ℕ → In 5 fire-large-kinds.ps
 fire-large-below t =
-    and 9 fire-large-kinds.ps (falls 9 fire-large-kinds.ps _<_ μ-fire-large t) fire-large.Pre
+    and 5 fire-large-kinds.ps (falls 5 fire-large-kinds.ps _<_ μ-fire-large t) fire-large.Pre
 
 pub +fire-large-spec : {M : Type 1} → statement M
 +fire-large-spec = close μ-fire-large λ t. fire-large-lts.spec (
@@ -32,7 +32,7 @@ pub +fire-large-spec : {M : Type 1} → statement M
 )
     (fire-large-at t)
     fire-large.Post
-    (λ c κs. (rw (← c .before .before .before .before .before .before .before .before .before .before .pre .0, c .before .before .if2 .taken) (omega arith), search needs))
+    (λ c κs. (rw (← c .before .before .before .before .before .before .before .before .pre .0, c .before .before .if2 .taken) (omega arith)))
     (λ c. search needs)
     (λ c. search needs)
     (λ c. search needs)
@@ -41,4 +41,4 @@ pub +fire-large-spec : {M : Type 1} → statement M
     (λ c κs. search needs)
     (λ c. search needs)
     (λ c. search needs)
-    (λ c. λ n uses ready sized. c .before .before .before .before .before .before .fire-with .ensures n uses ready sized (omega (arith, roomy ready)) (omega (arith, roomy ready)))
+    (λ c. λ n ready. c .before .before .before .before .before .before .fire-with .ensures n ready (omega (arith, roomy ready)) (omega (arith, roomy ready)))

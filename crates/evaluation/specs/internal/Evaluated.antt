@@ -2,11 +2,16 @@
 use mathlib.Core.Path.{_≡_}
 use Rattle.reading.specs.Basics.{ℕ, _+_, _-_, Bool, true, false, List, getD, eqb, if_then_else_}
 use Rattle.reading.specs.Reading.{Answer, fine, fault}
-use Rattle.net.specs.Net.{Colour, Guard, Expression, Place, single, pair, Net, setOf}
+use Rattle.net.specs.Net.{Colour, Guard, Expression, Place, single, pair, Net, scope, setOf}
+use Rattle.plan.specs.internal.Layout.{setsIn, variablesIn}
 use Rattle.net.specs.Values.{colour, holds, weight}
 use Rattle.evaluation.specs.declared.evaluate.Value.{Value}
 use Rattle.evaluation.specs.declared.evaluate.Tested.{Tested}
 use Rattle.evaluation.specs.declared.evaluate.Ranked.{Ranked}
+
+-- what expressions are read over, by the table of a prepared net, with some places
+abbrev pub scopeIn : List ℕ → List Place → Net
+scopeIn plan places = scope (setsIn plan) (variablesIn plan) places
 
 -- ---- values under a binding; env holds each variable's colour
 -- the colour after c and the one before it, going round a set

@@ -1,6 +1,8 @@
 use borrow.Author.Needs.{needs}
-use mathlib.Core.Path.{sym, ap, _∙_}
+use mathlib.Core.Path.{ap}
 use Rattle.firing.proofs.Rule.{fires-3}
+use native.Mathlib.Nat.{zero-add}
+use Rattle.firing.proofs.Passes.{first-shows, first-fails}
 use Rattle.firing.proofs.answer.Statement.{statement}
 use Rattle.firing.proofs.answer.Tie as tie
 
@@ -9,6 +11,6 @@ answer-spec =
     tie.close
     (tie.spec
     (λ c κs. search needs)
-    (λ c proper. ap (λ f. f .answer) (fires-3 _ _ proper (sym (c .before .any-lacks .ensures) ∙ c .if1 .taken)))
+    (λ c proper. ap (λ f. f .answer) (fires-3 _ _ proper _ (first-shows _ _ _ _ _ (rw zero-add (c .before .before .lacking-at .ensures)) (c .if1 .taken))))
     (λ c κs. search needs)
-    (λ c proper. c .rest-answer .ensures proper (sym (c .before .before .any-lacks .ensures) ∙ c .before .if1 .left)))
+    (λ c proper. c .rest-answer .ensures proper (first-fails _ _ _ _ _ (rw zero-add (c .before .before .before .lacking-at .ensures)) (c .before .if1 .left))))

@@ -11,5 +11,5 @@ move-row-spec =
     (λ c κs. search needs)
     (λ c κs. search needs)
     (λ c. search needs)
-    (λ c hinders proper e. rw (c .before .before .put-all .ensures, c .before .before .before .before .before .before .take-all .ensures) (fires _ _ proper (λ p. omega (arith, c .before .before .before .before .before .before .before .before .before .slice-known .given p)) e (c .before .before .before .before .before .before .before .before .if1 .taken)))
-    (λ c hinders proper e. rests _ _ e (c .if1 .left)))
+    (λ c caps hinders small proper e. rw (c .before .before .put-all .ensures, c .before .before .before .before .before .before .take-all .ensures) (fires _ _ proper (λ p. omega (arith, c .before .before .before .before .before .before .before .before .before .slice-known .given p)) caps small e (c .before .before .before .before .before .before .before .before .if1 .taken)))
+    (λ c caps hinders small proper e. rests caps _ _ e (c .if1 .left)))

@@ -1,4 +1,6 @@
 use borrow.Author.Needs.{needs}
+use native.Mathlib.Nat.{zero-add}
+use Rattle.firing.proofs.Passes.{first-tells}
 use Rattle.firing.proofs.some_lacks.Statement.{statement}
 use Rattle.firing.proofs.some_lacks.Tie as tie
 
@@ -8,5 +10,5 @@ some-lacks-spec =
     (tie.spec
     (λ c κs. search needs)
     (λ c κs. rw (c .if1 .taken) at (c .before .within .ensures))
-    (λ c fits. c .any-lacks .ensures)
+    (λ c fits. first-tells _ _ _ _ _ (rw zero-add (c .lacking-at .ensures)))
     (λ c fits. absurd ((rw (c .if1 .left) at (c .before .within .ensures)) fits)))

@@ -1,8 +1,9 @@
 -- Firing arc by arc: the three tests, and the change.
-use Rattle.reading.specs.Basics.{ℕ, _+_, _-_, _%_, Bool, true, false, _&&_, List, [], _∷_, length, getD, ltb, leb}
+use Rattle.reading.specs.Basics.{ℕ, _+_, _-_, _%_, Bool, true, false, _&&_, List, [], _∷_, length, getD, ltb, leb, if_then_else_}
 use mathlib.Core.Path.{_≡_}
 use Prim.Native.Nat.{_≤_, _<_}
 use lib.ListN.{set}
+use Rattle.firing.specs.Firing.{capacity}
 use Rattle.firing.specs.Arcs.{Arc, weightIn}
 use Rattle.firing.specs.internal.RowLists.{arcsIn}
 
@@ -33,9 +34,18 @@ lacking m a = ltb (getD m (a .place) 0) (a .weight)
 abbrev pub hindering : List ℕ → Arc → Bool
 hindering m a = ltb 0 (a .weight) && leb (a .weight) (getD m (a .place) 0)
 
--- 5: with the takes away and a put added, a count passes 65,535
-abbrev pub spilling : List ℕ → List Arc → Arc → Bool
-spilling m takes a = ltb 65535 (getD m (a .place) 0 - weightIn takes (a .place) + a .weight)
+-- 5: with the takes away and a put added, a count passes its capacity
+abbrev pub spilling : List ℕ → List ℕ → List Arc → Arc → Bool
+spilling caps m takes a = ltb (capacity caps (a .place)) (getD m (a .place) 0 - weightIn takes (a .place) + a .weight)
+
+-- each capacity fits a u16
+abbrev pub Small : List ℕ → Type 0
+Small caps = (p : ℕ) → capacity caps p < 65536
+
+-- the number of the first arc of which a test holds; how many there are where it holds of none
+unfoldable pub firstIn : (Arc → Bool) → List Arc → ℕ
+firstIn test [] = 0
+firstIn test (a ∷ l) = if test a then 0 else firstIn test l + 1
 
 -- t is the first from a number on whose place is not below p, or the end: it passes no weight at p or a later place
 pub record Sought (places : List ℕ) (from end p t : ℕ) : Type 0 where

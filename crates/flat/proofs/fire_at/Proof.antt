@@ -1,3 +1,5 @@
+use native.Mathlib.Omega.{arith}
+use Rattle.reading.specs.Basics.{[]}
 use borrow.Author.Needs.{needs}
 use mathlib.Core.Path.{_≡_}
 use Rattle.flat.proofs.Standing.{by-row}
@@ -17,4 +19,4 @@ fire-at-spec =
     (λ c. search needs)
     (λ c. search needs)
     (λ c. search needs)
-    (λ c. λ row next e. by-row (λ w. fired (c .before .before .before .before .before .before .answer .result) (c .before .before .move-row .last .1 .1 .1 .1 .1 .0) ≡ fire (weights w) (now (c .before .before .before .before .before .before .before .before .before .before .before .before .before .before .before .before .before .before .before .before .before .args .m))) (c .before .before .before .before .before .before .before .before .before .before .before .before .before .before .load-arcs .ensures .1 _ row next (c .before .before .before .before .before .before .before .before .before .before .before .before .before .before .before .before .before .before .before .before .before .pre .0) e) (λ proper. c .before .before .move-row .ensures _ proper (c .before .before .before .before .before .before .answer .ensures proper))))
+    (λ c. λ row next e. by-row (λ w. fired (c .before .before .before .before .before .before .answer .result) (c .before .before .move-row .last .1 .1 .1 .1 .1 .0) ≡ fire [] (weights w) (now (c .before .before .before .before .before .before .before .before .before .before .before .before .before .before .before .before .before .before .before .before .before .args .m))) (c .before .before .before .before .before .before .before .before .before .before .before .before .before .before .load-arcs .ensures .1 _ row next (c .before .before .before .before .before .before .before .before .before .before .before .before .before .before .before .before .before .before .before .before .before .pre .0) e) (λ proper. c .before .before .move-row .ensures [] _ (λ p. omega arith) proper (c .before .before .before .before .before .before .answer .ensures proper))))

@@ -27,6 +27,7 @@ search-rows-spec =
     (λ c. (λ f held. search-begin _ _, search needs, search needs, search needs))
     (λ c. search needs)
     (λ c. search needs)
+    (λ c. omega (arith, c .shared-slice-known4 .given (c .before .before .loop .i)))
     (λ c κs. let pre = c .before .before .before .before .before .before .before .before .before .before .pre in (pre .1 .0, (pre .1 .1 .0 (c .before .before .before .before .loop .i) (c .before .before .before .loop-test .taken), (search needs, search needs))))
     (λ c. search needs)
     (λ c. search needs)

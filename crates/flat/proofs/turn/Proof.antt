@@ -19,6 +19,7 @@ turn-spec =
     (λ c. λ f held. no-row f _ _ (omega (arith, held .rows-are, c .if2 .taken, c .before .long-at .ensures .0)) ∙ sym (image-fires f (now (c .before .before .before .before .before .before .before .before .before .before .args .images)) _ (c .before .before .before .before .before .before .before .before .before .before .args .i) (sym (c .before .before .before .byte-at .ensures .0) ∙ c .before .before .if1 .left)))
     (λ c. search needs)
     (λ c. search needs)
+    (λ c. omega (arith, c .shared-slice-known4 .given (c .before .before .long-at .result)))
     (λ c κs. let pre = c .before .before .before .before .before .before .before .before .before .before .before .before .before .before .pre in (pre .1 .1 .0, (pre .1 .1 .1 .0 (c .before .before .before .before .before .long-at .result) (c .before .before .before .before .if2 .left), (search needs, search needs))))
     (λ c. search needs)
     (λ c. search needs)

@@ -2,7 +2,7 @@
 use mathlib.Core.Path.{_≡_}
 use mathlib.Core.Logic.{_⊎_}
 use Prim.Native.Nat.{_<_, _≤_, _/_, min}
-use Rattle.reading.specs.Basics.{ℕ, zero, suc, _+_, _*_, Bool, true, false, _&&_, List, [], _∷_, Option, none, some, length, getD, leb, eqb, if_then_else_, with, byteAt}
+use Rattle.reading.specs.Basics.{ℕ, zero, suc, _+_, _*_, Bool, true, false, _&&_, List, [], _∷_, Option, none, some, length, getD, leb, eqb, if_then_else_, with, any, byteAt}
 use Rattle.reading.specs.Reading.{Answer, fine, fault, _andThen_, accepted, refused, _unless_, checked, command, needed, whole}
 use Rattle.firing.specs.Arcs.{Arc, Row, row}
 use Rattle.flat_file.specs.Flat.{Flat, rise, placePart, arcPart, rowPart, readFlat}
@@ -71,9 +71,9 @@ mostArcs len = min 12288 (len / 5)
 abbrev pub arcsAt : List ℕ → ℕ → ℕ → Answer Row
 arcsAt s places at = whole s (arcPart s places) (row [] [] []) at
 
--- they end at a place not before the first of them, and within the file where that does; or have a fault
+-- they end at a place not before the first of them, at most 12,288 arcs behind it, and within the file where that does; or have a fault
 abbrev pub ArcsPassed : List ℕ → ℕ → ℕ → RowRead → Type 0
-ArcsPassed s n at (row-read.Whole next) = ((r : Row) × (fine r next ≡ arcsAt s n at)) × (at ≤ next) × (at ≤ length s → next ≤ length s)
+ArcsPassed s n at (row-read.Whole next) = ((r : Row) × (fine r next ≡ arcsAt s n at)) × (at ≤ next) × (next ≤ at + 61440) × (at ≤ length s → next ≤ length s)
 ArcsPassed s n at (row-read.Fault number place) = fault number place ≡ arcsAt s n at
 
 -- over at most 4,096 flat places they have no fault
@@ -110,6 +110,7 @@ pub record PlacesHeld (s : List ℕ) (start count next : ℕ) : Type 0 where
   pub initial : List ℕ
   pub sized : length initial ≡ count
   pub few : count ≤ 4096
+  pub near : next ≤ start + 12288
   pub within : next ≤ length s
   pub is : fine initial next ≡ whole s (placePart s) [] start
 
@@ -142,7 +143,7 @@ rowEnd places rows (row-read.Fault number place) = part.Fault number place
 -- ---- the whole file
 -- its opening command, and its end with nothing after it
 abbrev pub opening : List ℕ → (ℕ → Answer Flat) → Answer Flat
-opening s content = needed s (command 0x02 1 ((5 unless eqb (byteAt s 1) 1) ∷ []) content ∷ []) 0
+opening s content = needed s (command 0x02 1 ((5 unless any (eqb (byteAt s 1)) (1 ∷ [])) ∷ []) content ∷ []) 0
 
 abbrev pub closing : List ℕ → Flat → ℕ → Answer Flat
 closing s f at = needed s (command 0x5F 0 [] (fine f) ∷ []) at andThen λ f end. checked end ((15 unless eqb end (length s)) ∷ []) f end
@@ -152,8 +153,9 @@ abbrev pub partTold : {A : Type 0} → (ℕ → Answer A) → Part → Answer A
 partTold go (part.Whole places rows next) = go next
 partTold go (part.Fault number place) = fault number place
 
+-- the opening command takes two bytes
 abbrev pub PartWithin : ℕ → Part → Type 0
-PartWithin len (part.Whole places rows next) = next ≤ len
+PartWithin len (part.Whole places rows next) = (next ≤ len) × (next ≤ 2)
 PartWithin len (part.Fault number place) = Unit {0}
 
 -- so many flat places and rows were read

@@ -12,16 +12,16 @@ use Rattle.images.proofs.images_with.Reads as images-with-reads
 use Rattle.images.proofs.+images_long.{statement}
 use Rattle.images.proofs.+images_long.Tie.{close}
 
-abbrev μ-images-long : Measures 8 images-long-kinds.ps ℕ
-μ-images-long κs a = if a .1 .1 .1 .1 .1 .1 .1 .1 .1 .0 then 1 else 0
+abbrev μ-images-long : Measures 4 images-long-kinds.ps ℕ
+μ-images-long κs a = if a .1 .1 .1 .1 .0 then 1 else 0
 
-abbrev images-long-at : ℕ → In 8 images-long-kinds.ps
+abbrev images-long-at : ℕ → In 4 images-long-kinds.ps
 images-long-at t =
-    and 8 images-long-kinds.ps (is 8 images-long-kinds.ps μ-images-long t) images-long.Pre
+    and 4 images-long-kinds.ps (is 4 images-long-kinds.ps μ-images-long t) images-long.Pre
 
-abbrev images-long-below : ℕ → In 8 images-long-kinds.ps
+abbrev images-long-below : ℕ → In 4 images-long-kinds.ps
 images-long-below t =
-    and 8 images-long-kinds.ps (falls 8 images-long-kinds.ps _<_ μ-images-long t) images-long.Pre
+    and 4 images-long-kinds.ps (falls 4 images-long-kinds.ps _<_ μ-images-long t) images-long.Pre
 
 pub +images-long-spec : {M : Type 1} → statement M
 +images-long-spec = close μ-images-long λ t. images-long-lts.spec (
@@ -32,10 +32,10 @@ pub +images-long-spec : {M : Type 1} → statement M
 )
     (images-long-at t)
     images-long.Post
-    (λ c κs. (rw (← c .before .before .before .before .before .before .before .before .before .before .pre .0, c .before .if2 .taken) (omega arith), search needs))
+    (λ c κs. (rw (← c .before .before .before .before .before .before .pre .0, c .before .if2 .taken) (omega arith), search needs))
     (λ c. search needs)
     (λ c. search needs)
     (λ c. search needs)
     (λ c κs. search needs)
     (λ c. search needs)
-    (λ c. λ n tables. c .before .before .before .images-with .ensures n tables (entries-few tables))
+    (λ c. λ n p. c .before .before .before .images-with .ensures n p (entries-few p))

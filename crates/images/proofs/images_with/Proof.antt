@@ -12,4 +12,4 @@ images-with-spec =
     (λ c κs. search needs)
     (λ c. search needs)
     (λ c. search needs)
-    (λ c. λ n tables enough. c .before .before .write-images .ensures (c .before .before .before .before .before .before .before .before .before .before .before .before .before .before .before .before .before .before .before .before .args .s .now) (c .before .before .before .before .before .before .before .before .before .before .before .before .before .before .before .before .before .before .before .before .args .own .now) n tables (c .before .before .before .before .before .before .before .before .before .number-all .ensures n (c .before .before .before .before .before .before .before .before .before .before .before .before .before .before .before .before .before .before .before .before .args .uses .now) tables enough)))
+    (λ c. λ n p enough. c .before .before .write-images .ensures (c .before .before .before .before .before .before .before .before .before .before .before .before .before .before .before .before .args .s .now) n p (c .before .before .before .before .before .before .before .before .before .number-all .ensures n p enough)))

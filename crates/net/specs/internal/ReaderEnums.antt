@@ -36,6 +36,10 @@ guardTold answer = told (λ g. 0) inGuard answer
 abbrev pub placeOf : ℕ → ℕ → Place
 placeOf first second = if eqb second 255 then single first else pair first second
 
+-- the same of both sets in one word: the first, and 256 times the second
+abbrev pub placeIn : ℕ → Place
+placeIn kind = placeOf (kind % 256) (kind / 256)
+
 -- the width of a byte's operands, 255 where it is no command
 abbrev pub widthTold : ℕ → ℕ
 widthTold b = given (widthOf b) 255 λ width. width

@@ -1,11 +1,11 @@
 -- What the tables of a net hold of its places and tokens, that a reading leaves for later calls.
 use mathlib.Core.Path.{_≡_}
 use Prim.Native.Nat.{_<_, _≤_}
-use Rattle.reading.specs.Basics.{ℕ, _+_, _*_, List, [], _∷_, Option, none, some, given, with, map, sum, length, getD, take}
+use Rattle.reading.specs.Basics.{ℕ, _+_, _*_, List, [], Option, none, some, given, with, map, sum, length, getD, take}
 use Rattle.reading.specs.Reading.{Answer, fine, fault, whole}
 use Rattle.net.specs.Net.{Place, Tokens, Net, coloursOf, placeAt, tokensOn, scope}
 use Rattle.net_parts.specs.Parts.{tokensPart}
-use Rattle.net.specs.internal.ReaderEnums.{placeOf}
+use Rattle.net.specs.internal.ReaderEnums.{placeIn}
 use Rattle.net_parts.specs.declared.PlaceStep.{PlaceStep}
 use Rattle.net_parts.specs.declared.PlaceStep.the-variants as place-step
 use Rattle.net_parts.specs.declared.Part.{Part}
@@ -14,11 +14,9 @@ use Rattle.net_parts.specs.declared.token.TokenStep.{TokenStep}
 use Rattle.net_parts.specs.declared.token.TokenStep.the-variants as token-step
 
 -- ---- places
--- the places of two lists of sets, first and second
-unfoldable pub placesOf : List ℕ → List ℕ → List Place
-placesOf [] seconds = []
-placesOf (a ∷ firsts) [] = []
-placesOf (a ∷ firsts) (b ∷ seconds) = placeOf a b ∷ placesOf firsts seconds
+-- the places of a list of their sets, a word each
+unfoldable pub placesOf : List ℕ → List Place
+placesOf kinds = map placeIn kinds
 
 -- the flat places before a place: where its own begin
 abbrev pub startOf : Net → List Place → ℕ → ℕ
@@ -33,10 +31,10 @@ PlaceRoom sets len count total at (place-step.Two first second more next) =
     (count < 32) × (more ≤ 4096) × (more ≡ total + getD sets first 0 * getD sets second 0) × (at < next) × (next ≤ len) × (second < length sets)
 PlaceRoom sets len count total at (place-step.Stop number place) = at < len
 
--- the places are the fronts of the two lent lists
-abbrev pub placesRead : List ℕ → List ℕ → Part → Answer (List Place)
-placesRead firsts seconds (part.Whole count total next) = fine (placesOf (take count firsts) (take count seconds)) next
-placesRead firsts seconds (part.Fault number place) = fault number place
+-- the places are the front of the lent list
+abbrev pub placesRead : List ℕ → Part → Answer (List Place)
+placesRead kinds (part.Whole count total next) = fine (placesOf (take count kinds)) next
+placesRead kinds (part.Fault number place) = fault number place
 
 -- so many places, with so many colours together; where the flat places of each begin, and after the last their number
 pub record Started (n : Net) (places : List Place) (starts : List ℕ) (count total : ℕ) : Type 0 where
@@ -46,10 +44,10 @@ pub record Started (n : Net) (places : List Place) (starts : List ℕ) (count to
   pub all : sum (map (coloursOf n) places) ≡ total
   pub begin : (p : ℕ) → p ≤ count → getD starts p 0 ≡ startOf n places p
 
-abbrev pub PlacesHeld : List ℕ → List ℕ → List ℕ → List ℕ → Part → Type 0
-PlacesHeld sets firsts seconds starts (part.Whole count total next) =
-    Started (scope sets [] []) (placesOf (take count firsts) (take count seconds)) starts count total
-PlacesHeld sets firsts seconds starts (part.Fault number place) = Unit {0}
+abbrev pub PlacesHeld : List ℕ → List ℕ → List ℕ → Part → Type 0
+PlacesHeld sets kinds starts (part.Whole count total next) =
+    Started (scope sets [] []) (placesOf (take count kinds)) starts count total
+PlacesHeld sets kinds starts (part.Fault number place) = Unit {0}
 
 -- ---- tokens
 -- each place's flat places begin no later than the next one's, and none past the total
@@ -70,10 +68,10 @@ countOf o = given o 0 λ t. t .count
 abbrev pub flag : Option Tokens → ℕ
 flag o = given o 0 λ t. 1
 
--- a table over the flat places holds what a test of the tokens gives at each rank of each place
+-- a table over the flat places holds, as far as it reaches, what a test of the tokens gives at each rank of each place
 abbrev pub Holds : Net → List Tokens → (Option Tokens → ℕ) → List ℕ → List ℕ → Type 0
 Holds n tokens value starts table =
-    (p rank : ℕ) → p < length (n .places) → rank < coloursOf n (placeAt n p) → getD table (flatAt starts p rank) 0 ≡ value (tokensOn tokens p rank)
+    (p rank : ℕ) → p < length (n .places) → rank < coloursOf n (placeAt n p) → flatAt starts p rank < length table → getD table (flatAt starts p rank) 0 ≡ value (tokensOn tokens p rank)
 
 -- a step of the tokens part
 abbrev pub tokenStep : List Tokens → TokenStep → Option (Answer (List Tokens))

@@ -35,8 +35,8 @@ RowHolds s n arcs slot =
     → Slot (readExpression s n (placeAt n p) 16) (Option·map (λ a. a .expression) (arcOn arcs (0x16 + k) p)) (slot (k * 32 + p))
 
 -- the net that a transition is read over: sets, variables, and places by their sets
-abbrev pub over : List ℕ → List ℕ → List ℕ → List ℕ → Net
-over sizes vars firsts seconds = scope sizes vars (placesOf firsts seconds)
+abbrev pub over : List ℕ → List ℕ → List ℕ → Net
+over sizes vars kinds = scope sizes vars (placesOf kinds)
 
 -- an arc that was read: its slot, which was free, and the variables in its expression
 pub record ArcRead (s : List ℕ) (n : Net) (arcs : List Arc) (at : ℕ) (row : List ℕ) (slot uses next : ℕ) : Type 0 where
@@ -142,21 +142,21 @@ TransitionFew count transition-step.Done = Unit {0}
 TransitionFew count (transition-step.More guard uses space next) = count < 32
 TransitionFew count (transition-step.Stop number place) = Unit {0}
 
--- what the tables hold of each transition: its variables, its guard's place, and its row of 96 slots
-abbrev pub TransitionsHold : List ℕ → Net → List Transition → List ℕ → List ℕ → List ℕ → Type 0
-TransitionsHold s n transitions uses guards arcs =
+-- what the tables hold of each transition: its variables, 32 entries on its guard's place, and its row of 96 slots
+abbrev pub TransitionsHold : List ℕ → Net → List Transition → List ℕ → List ℕ → Type 0
+TransitionsHold s n transitions heads arcs =
     (t : ℕ) → t < length transitions
-    → TransitionHolds s n (getD transitions t noTransition) (getD guards t 0) (getD uses t 0) (λ i. getD arcs (t * 96 + i) 0)
+    → TransitionHolds s n (getD transitions t noTransition) (getD heads (32 + t) 0) (getD heads t 0) (λ i. getD arcs (t * 96 + i) 0)
 
-pub record TransitionsRead (s : List ℕ) (n : Net) (start : ℕ) (uses guards arcs : List ℕ) (count space next : ℕ) : Type 0 where
+pub record TransitionsRead (s : List ℕ) (n : Net) (start : ℕ) (heads arcs : List ℕ) (count space next : ℕ) : Type 0 where
   pub transitions : List Transition
   pub read : fine transitions next ≡ whole s (transitionPart s n) [] start
   pub are : length transitions ≡ count
   pub few : count ≤ 32
   pub wide : bindingSpace n transitions ≡ space
   pub bounded : space ≤ 65536
-  pub holds : TransitionsHold s n transitions uses guards arcs
+  pub holds : TransitionsHold s n transitions heads arcs
 
-abbrev pub TransitionsTold : List ℕ → Net → ℕ → List ℕ → List ℕ → List ℕ → Part → Type 0
-TransitionsTold s n start uses guards arcs (part.Whole count space next) = TransitionsRead s n start uses guards arcs count space next
-TransitionsTold s n start uses guards arcs (part.Fault number place) = fault number place ≡ whole s (transitionPart s n) [] start
+abbrev pub TransitionsTold : List ℕ → Net → ℕ → List ℕ → List ℕ → Part → Type 0
+TransitionsTold s n start heads arcs (part.Whole count space next) = TransitionsRead s n start heads arcs count space next
+TransitionsTold s n start heads arcs (part.Fault number place) = fault number place ≡ whole s (transitionPart s n) [] start

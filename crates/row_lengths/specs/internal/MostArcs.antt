@@ -1,8 +1,11 @@
 -- How many arcs an expression gives at most, whatever the binding.
 use mathlib.Core.Path.{_≡_}
-use Rattle.reading.specs.Basics.{ℕ, _+_, Bool, leb, if_then_else_}
+use Rattle.reading.specs.Basics.{ℕ, _+_, Bool, List, leb, if_then_else_}
 use Rattle.reading.specs.Reading.{Answer, fine, fault}
-use Rattle.net.specs.Net.{Expression, one, two, all, plus, minus, times}
+use Rattle.net.specs.Reader.{readExpression}
+use Rattle.plan.specs.internal.Layout.{expressionIn, ranksIn, pairIn}
+use Rattle.evaluation.specs.internal.Evaluated.{scopeIn, placeBy}
+use Rattle.net.specs.Net.{Place, Expression, one, two, all, plus, minus, times}
 use Rattle.row_lengths.specs.declared.arcs.Most.{Most}
 
 -- the lesser of two numbers
@@ -27,3 +30,9 @@ mostJoined count less a b = if less then a else lesser count (a + b)
 abbrev pub MostTold : ℕ → Most → Answer Expression → Type 0
 MostTold count r (fine e next) = (r .arcs ≡ most count e) × (r .next ≡ next)
 MostTold count r (fault number place) = Unit {0}
+
+-- of the expression of an arc's entry
+abbrev pub MostArc : List ℕ → List ℕ → ℕ → ℕ → Type 0
+MostArc s plan entry r =
+    (known : List Place) (first second next : ℕ) (e : Expression) → readExpression s (scopeIn plan known) (placeBy (pairIn entry) first second) 16 (expressionIn entry) ≡ fine e next
+    → r ≡ most (ranksIn entry) e

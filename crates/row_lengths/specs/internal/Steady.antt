@@ -2,15 +2,15 @@
 use mathlib.Core.Path.{_≡_}
 use Prim.Native.Nat.{_≤_, _<_}
 use Rattle.reading.specs.Basics.{ℕ, _+_, _-_, _*_, List, length, Option, none, some, ltb, if_then_else_, product}
-use Rattle.reading.specs.Reading.{fine, accepted}
+use Rattle.reading.specs.Reading.{fine}
 use Rattle.firing.specs.Firing.{Weights}
 use Rattle.firing.specs.Arcs.{Row}
-use Rattle.net.specs.Net.{Expression, one, two, all, plus, minus, times, Place, Net, sizesOf}
+use Rattle.net.specs.Net.{Expression, one, two, all, plus, minus, times, Place, Net, sizesOf, transitionAt}
 use Rattle.net.specs.Reader.{readExpression}
-use Rattle.net_file.specs.NetFile.{readNet}
-use Rattle.net_file.specs.Formed.{Fitting, Formed}
-use Rattle.bindings.specs.Effect.{transitionAt, effect, flatRow}
-use Rattle.rows.specs.internal.Drawing.{kindArcs, Drawing}
+use Rattle.net_file.specs.Formed.{Fitting}
+use Rattle.bindings.specs.Effect.{effect, flatRow}
+use Rattle.prepared.specs.internal.Prepared.{Prepared}
+use Rattle.rows.specs.internal.Effects.{kindArcs}
 use Rattle.bindings.specs.internal.Bindings.{numbered}
 use Rattle.row_lengths.specs.declared.steady.Steady.{Steady}
 use Rattle.row_lengths.specs.declared.steady.Steady.the-variants as steady
@@ -50,10 +50,10 @@ SteadyWithin most steady.Varies = Unit {0}
 
 -- of a transition's arcs of a kind; its row of entries begins at base
 abbrev pub SteadyKind : List ℕ → List ℕ → ℕ → Steady → Type 0
-SteadyKind s arcs base (steady.Arcs total) =
-    (n : Net) (sizes vars guards : List ℕ) (t k : ℕ) → Drawing s n sizes vars guards arcs → Formed n → t < length (n .transitions) → k < 3 → base ≡ t * 96 + k * 32
+SteadyKind s plan base (steady.Arcs total) =
+    (n : Net) (t k : ℕ) → Prepared s n plan → t < length (n .transitions) → k < 3 → base ≡ t * 96 + k * 32
     → (value : ℕ → ℕ) → Fitting n value → length (kindArcs n (transitionAt n t) value (0x16 + k) (length (n .places))) ≡ total
-SteadyKind s arcs base steady.Varies = Unit {0}
+SteadyKind s plan base steady.Varies = Unit {0}
 
 -- of a row
 abbrev pub arcsOfRow : Row → ℕ
@@ -61,7 +61,7 @@ arcsOfRow row = length (row .takes) + length (row .puts) + length (row .hinders)
 
 -- of the rows of a transition
 abbrev pub SteadyRow : List ℕ → List ℕ → ℕ → Steady → Type 0
-SteadyRow s arcs t (steady.Arcs total) =
-    (n : Net) (sizes vars guards : List ℕ) → readNet s ≡ accepted n → Drawing s n sizes vars guards arcs → t < length (n .transitions)
+SteadyRow s plan t (steady.Arcs total) =
+    (n : Net) → Prepared s n plan → t < length (n .transitions)
     → (i : ℕ) (w : Weights) → i < product (sizesOf n (transitionAt n t)) → effect n (numbered n t i) ≡ some w → arcsOfRow (flatRow n w) ≡ total
-SteadyRow s arcs t steady.Varies = Unit {0}
+SteadyRow s plan t steady.Varies = Unit {0}

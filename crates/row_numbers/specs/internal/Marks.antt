@@ -1,19 +1,19 @@
--- The marks: for each binding of a transition with a guard, whether it has an effect.
+-- The marks: for each binding of a transition whose bindings do not all have rows, whether it has an effect.
 use mathlib.Core.Path.{_≡_}
 use Prim.Native.Nat.{_≤_, _<_}
-use Rattle.reading.specs.Basics.{ℕ, _+_, _/_, _%_, Bool, true, false, ltb, if_then_else_, List, length, getD, keep, below, product}
-use Rattle.net.specs.Net.{Net, sizesOf}
+use Rattle.reading.specs.Basics.{ℕ, _+_, _/_, _%_, Bool, true, false, if_then_else_, List, length, getD, keep, below, product}
+use Rattle.net.specs.Net.{Net, sizesOf, transitionAt}
 use Rattle.net.specs.internal.ReaderEnums.{member}
-use Rattle.bindings.specs.Effect.{transitionAt}
+use Rattle.bindings.specs.internal.Legal.{everyRow}
 use Rattle.row_numbers.specs.internal.Walked.{takesEffect, entries}
 
 -- a mark: one bit of one word of 32
 abbrev pub markAt : List ℕ → ℕ → Bool
 markAt marks k = member (getD marks (k / 32) 0) (k % 32)
 
--- a binding has a row: without a guard it has, else its mark tells
-abbrev pub hasRow : ℕ → List ℕ → ℕ → Bool
-hasRow guard marks k = if ltb guard 1 then true else markAt marks k
+-- a binding has a row: where every binding has one it has, else its mark tells
+abbrev pub hasRow : Bool → List ℕ → ℕ → Bool
+hasRow every marks k = if every then true else markAt marks k
 
 -- no mark is set from a number on
 abbrev pub Blank : List ℕ → ℕ → Type 0
@@ -29,9 +29,9 @@ pub record Marking (n : Net) (t : ℕ) (was marks : List ℕ) (base size : ℕ) 
   pub same : (j : ℕ) → j < base → markAt marks j ≡ markAt was j
   pub blank : Blank marks (base + size)
 
--- of the first so many transitions they tell those with a guard, each from its first entry on
-pub record Marked (n : Net) (guards marks : List ℕ) (count : ℕ) : Type 0 where
-  pub told : (t i : ℕ) → t < count → 1 ≤ getD guards t 0 → i < product (sizesOf n (transitionAt n t)) → markAt marks (entries n guards t + i) ≡ takesEffect n t i
+-- of the first so many transitions they tell those whose bindings do not all have rows, each from its first entry on
+pub record Marked (n : Net) (plan marks : List ℕ) (count : ℕ) : Type 0 where
+  pub told : (t i : ℕ) → t < count → everyRow plan t ≡ false → i < product (sizesOf n (transitionAt n t)) → markAt marks (entries n plan t + i) ≡ takesEffect n t i
 
 -- another table holds how many rows each of them has
 pub record Counted (n : Net) (rows : List ℕ) (count : ℕ) : Type 0 where

@@ -1,17 +1,13 @@
 -- What the walk over all bindings tells: the rows among the first so many, and their numbers.
 use mathlib.Core.Path.{_≡_}
 use Prim.Native.Nat.{_≤_, _<_}
-use Rattle.reading.specs.Basics.{ℕ, zero, suc, _+_, Bool, true, false, ltb, if_then_else_, List, filterMap, Option·map, none, some, length, take, getD, given, product}
-use Rattle.net.specs.Net.{Net, sizesOf, inTransition, scope}
-use Rattle.net_file.specs.Limits.{Limits}
-use Rattle.net_file.specs.Formed.{Formed}
-use Rattle.net_transitions.specs.internal.TransitionTables.{GuardHolds}
-use Rattle.net.specs.internal.ReaderEnums.{bits}
-use Rattle.bindings.specs.Effect.{transitionAt, bindings, effect}
+use Rattle.reading.specs.Basics.{ℕ, zero, suc, _+_, Bool, true, false, if_then_else_, List, filterMap, Option·map, none, some, length, take, getD, given, product}
+use Rattle.net.specs.Net.{Net, sizesOf, transitionAt}
+use Rattle.bindings.specs.Effect.{bindings, effect}
 use Rattle.bindings.specs.Orders.{orderOf}
 use Rattle.bindings.specs.internal.Numbers.{digits, before}
-use Rattle.bindings.specs.internal.TransitionVariables.{Owned}
 use Rattle.bindings.specs.internal.Bindings.{numbered}
+use Rattle.bindings.specs.internal.Legal.{everyRow}
 use Rattle.row_numbers.specs.Unfolding.{Rowed, rowNumber, orderOfRow}
 use Rattle.row_numbers.specs.declared.seek.Sought.{Sought}
 use Rattle.row_numbers.specs.declared.seek.Sought.the-variants as sought
@@ -34,14 +30,14 @@ takesEffect n t i = given (effect n (numbered n t i)) false λ w. true
 abbrev pub orderAt : Net → ℕ → ℕ → List ℕ
 orderAt n t i = orderOf (record { transition = t; colours = digits (sizesOf n (transitionAt n t)) i })
 
--- the table has an entry for each binding of a transition with a guard, none for one without
-abbrev pub entriesAt : ℕ → ℕ → ℕ
-entriesAt guard size = if ltb guard 1 then 0 else size
+-- the table has an entry for each binding of a transition, none where every binding has a row
+abbrev pub entriesAt : Bool → ℕ → ℕ
+entriesAt every size = if every then 0 else size
 
 -- how many entries the first so many transitions have
 unfoldable pub entries : Net → List ℕ → ℕ → ℕ
-entries n guards zero = 0
-entries n guards (suc t) = entries n guards t + entriesAt (getD guards t 0) (product (sizesOf n (transitionAt n t)))
+entries n plan zero = 0
+entries n plan (suc t) = entries n plan t + entriesAt (everyRow plan t) (product (sizesOf n (transitionAt n t)))
 
 -- from a start on, the table holds the row number of each of a transition's first so many bindings
 pub record Numbers (n : Net) (t : ℕ) (numbers : List ℕ) (start size : ℕ) : Type 0 where
@@ -52,28 +48,10 @@ pub record Follows (n : Net) (t start size : ℕ) : Type 0 where
   pub number : (i : ℕ) → i < size → start + i ≡ rowNumber n (orderAt n t i)
   pub few : (i : ℕ) → i < size → start + i < 65536
 
--- another table holds the starts of the first so many transitions: without a guard of its rows, with one of its entries
-pub record Starts (n : Net) (guards starts numbers : List ℕ) (t : ℕ) : Type 0 where
-  pub rows : (u : ℕ) → u < t → getD guards u 0 < 1 → Follows n u (getD starts u 0) (product (sizesOf n (transitionAt n u)))
-  pub held : (u : ℕ) → u < t → 1 ≤ getD guards u 0 → Numbers n u numbers (getD starts u 0) (product (sizesOf n (transitionAt n u)))
-
--- ---- what the walk reads
--- of one transition: its own variables, and where its guard stands
-pub record Listed (s : List ℕ) (n : Net) (sizes vars own : List ℕ) (t guard : ℕ) : Type 0 where
-  pub limits : Limits n
-  pub formed : Formed n
-  pub sets : n .sets ≡ sizes
-  pub variables : n .variables ≡ vars
-  pub owned : Owned n own
-  pub stands : t < length (n .transitions)
-  pub standing : GuardHolds s (scope sizes vars (n .places)) (transitionAt n t .guard) guard
-
--- of a net: so many transitions, each with its variables, also as bits, and its guard
-pub record Tables (s : List ℕ) (n : Net) (sizes vars own uses guards : List ℕ) (count : ℕ) : Type 0 where
-  pub limits : Limits n
-  pub are : length (n .transitions) ≡ count
-  pub used : (t : ℕ) → t < count → getD uses t 0 ≡ bits (λ v. inTransition v (transitionAt n t)) 32
-  pub each : (t : ℕ) → t < count → Listed s n sizes vars own t (getD guards t 0)
+-- another table holds the starts of the first so many transitions: where every binding has a row of its rows, else of its entries
+pub record Starts (n : Net) (plan starts numbers : List ℕ) (t : ℕ) : Type 0 where
+  pub rows : (u : ℕ) → u < t → everyRow plan u ≡ true → Follows n u (getD starts u 0) (product (sizesOf n (transitionAt n u)))
+  pub held : (u : ℕ) → u < t → everyRow plan u ≡ false → Numbers n u numbers (getD starts u 0) (product (sizesOf n (transitionAt n u)))
 
 -- ---- what the search for a row tells
 -- among the bindings of a transition, of which there are so many: the row is one of them, or it comes after them
@@ -87,9 +65,9 @@ SoughtRoom size row count (sought.Past more) = (more ≤ count + size) × (more 
 
 -- among all
 abbrev pub LocatedTold : Net → ℕ → Located → Type 0
-LocatedTold n row (located.At t index) = orderOfRow n row ≡ some (orderAt n t index)
+LocatedTold n row (located.At t index) = (t < length (n .transitions)) × (orderOfRow n row ≡ some (orderAt n t index))
 LocatedTold n row located.Nowhere = orderOfRow n row ≡ none
 
-abbrev pub LocatedRoom : ℕ → Located → Type 0
-LocatedRoom transitions (located.At t index) = t < transitions
-LocatedRoom transitions located.Nowhere = Unit {0}
+abbrev pub LocatedRoom : Located → Type 0
+LocatedRoom (located.At t index) = t < 32
+LocatedRoom located.Nowhere = Unit {0}

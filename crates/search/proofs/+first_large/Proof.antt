@@ -1,7 +1,7 @@
 use borrow.Author.Needs.{needs}
 use native.Mathlib.Omega.{arith}
 use Rattle.reading.specs.Basics.{if_then_else_}
-use Rattle.rows.proofs.Prepared.{roomy}
+use Rattle.rows.proofs.Fires.{roomy}
 use Prim.Native.Nat.{ℕ, _<_}
 use borrow.Fn.Kinds.{In}
 use borrow.Fn.PlainCycle.{Measures, is, falls, and}
@@ -12,16 +12,16 @@ use Rattle.search.proofs.first_with.Reads as first-with-reads
 use Rattle.search.proofs.+first_large.{statement}
 use Rattle.search.proofs.+first_large.Tie.{close}
 
-abbrev μ-first-large : Measures 8 first-large-kinds.ps ℕ
-μ-first-large κs a = if a .1 .1 .1 .1 .1 .1 .1 .1 .1 .1 .0 then 1 else 0
+abbrev μ-first-large : Measures 3 first-large-kinds.ps ℕ
+μ-first-large κs a = if a .1 .1 .1 .0 then 1 else 0
 
-abbrev first-large-at : ℕ → In 8 first-large-kinds.ps
+abbrev first-large-at : ℕ → In 3 first-large-kinds.ps
 first-large-at t =
-    and 8 first-large-kinds.ps (is 8 first-large-kinds.ps μ-first-large t) first-large.Pre
+    and 3 first-large-kinds.ps (is 3 first-large-kinds.ps μ-first-large t) first-large.Pre
 
-abbrev first-large-below : ℕ → In 8 first-large-kinds.ps
+abbrev first-large-below : ℕ → In 3 first-large-kinds.ps
 first-large-below t =
-    and 8 first-large-kinds.ps (falls 8 first-large-kinds.ps _<_ μ-first-large t) first-large.Pre
+    and 3 first-large-kinds.ps (falls 3 first-large-kinds.ps _<_ μ-first-large t) first-large.Pre
 
 pub +first-large-spec : {M : Type 1} → statement M
 +first-large-spec = close μ-first-large λ t. first-large-lts.spec (
@@ -32,9 +32,9 @@ pub +first-large-spec : {M : Type 1} → statement M
 )
     (first-large-at t)
     first-large.Post
-    (λ c κs. (rw (← c .before .before .before .before .before .before .before .pre .0, c .if2 .taken) (omega arith), search needs))
+    (λ c κs. (rw (← c .before .before .before .before .pre .0, c .if2 .taken) (omega arith)))
     (λ c. search needs)
     (λ c. search needs)
     (λ c. search needs)
     (λ c κs. search needs)
-    (λ c. λ n ready sized. c .before .before .first-with .ensures n ready sized (omega (arith, roomy ready)) (omega (arith, roomy ready)))
+    (λ c. λ n ready. c .before .before .first-with .ensures n ready (omega (arith, roomy ready)) (omega (arith, roomy ready)))

@@ -2,8 +2,7 @@
 use Prim.Native.Nat.{_<_}
 use Rattle.reading.specs.Basics.{ℕ, List, length, product}
 use Rattle.firing.specs.Firing.{First, found, nothing}
-use Rattle.net.specs.Net.{Net, sizesOf}
-use Rattle.bindings.specs.Effect.{transitionAt}
+use Rattle.net.specs.Net.{Net, sizesOf, transitionAt}
 use Rattle.bindings.specs.Orders.{orderOf}
 use Rattle.bindings.specs.internal.Bindings.{numbered}
 use Rattle.search.specs.declared.engine.Searched.{Searched}
@@ -18,3 +17,8 @@ searchTold n (searched.Nothing tried) = nothing tried
 abbrev pub SearchWithin : Net → Searched → Type 0
 SearchWithin n (searched.At t i tried) = (t < length (n .transitions)) × (i < product (sizesOf n (transitionAt n t)))
 SearchWithin n (searched.Nothing tried) = Unit {0}
+
+-- its transition has a slot in the table
+abbrev pub SearchRoom : Searched → Type 0
+SearchRoom (searched.At t i tried) = t < 32
+SearchRoom (searched.Nothing tried) = Unit {0}

@@ -5,6 +5,7 @@ use Rattle.reading.specs.Basics.{ℕ, _+_, _*_, _/_, Bool, List, [], _∷_, map
 use Rattle.reading.specs.Reading.{Answer, fine, fault}
 use Rattle.firing.specs.Arcs.{Arc}
 use Rattle.firing.specs.internal.RowLists.{arcsIn}
+use Rattle.plan.specs.internal.Layout.{setsIn, variablesIn, expressionIn, startIn, ranksIn, pairIn}
 use Rattle.net.specs.Net.{Expression, one, two, all, plus, minus, times, Place, Net, scope}
 use Rattle.net.specs.Reader.{readExpression}
 use Rattle.net.specs.Values.{weight}
@@ -63,8 +64,12 @@ TermsLoaded start count base stop rest places amounts used places' amounts' r =
     → Appended (rankArcs start count w) places amounts used places' amounts' r
 
 -- the arcs of the expression that stands at a place of the file were appended, where there is room for them and half the file
-abbrev pub ArcLoaded : List ℕ → List ℕ → List ℕ → List ℕ → Bool → ℕ → ℕ → ℕ → List ℕ → List ℕ → ℕ → List ℕ → List ℕ → ℕ → Type 0
-ArcLoaded s sizes vars env paired start count at places amounts used places' amounts' r =
+abbrev pub ExpressionLoaded : List ℕ → List ℕ → List ℕ → List ℕ → Bool → ℕ → ℕ → ℕ → List ℕ → List ℕ → ℕ → List ℕ → List ℕ → ℕ → Type 0
+ExpressionLoaded s sizes vars env paired start count at places amounts used places' amounts' r =
     (known : List Place) (first second next : ℕ) (e : Expression) → readExpression s (scope sizes vars known) (placeBy paired first second) 16 at ≡ fine e next
     → used + slotsFor s at count + length s / 2 ≤ length places → used + slotsFor s at count + length s / 2 ≤ length amounts
     → Appended (rankArcs start count (λ rank. weight (scope sizes vars known) (bound env) rank e)) places amounts used places' amounts' r
+
+-- those of an arc, by the table of a prepared net and the arc's entry in it
+abbrev pub ArcLoaded : List ℕ → List ℕ → List ℕ → ℕ → List ℕ → List ℕ → ℕ → List ℕ → List ℕ → ℕ → Type 0
+ArcLoaded s plan env entry = ExpressionLoaded s (setsIn plan) (variablesIn plan) env (pairIn entry) (startIn entry) (ranksIn entry) (expressionIn entry)

@@ -10,16 +10,16 @@ use Rattle.evaluation.proofs.evaluate.compared_at.Reads as compared-at-
 use Rattle.evaluation.proofs.evaluate.+guard_at.{statement}
 use Rattle.evaluation.proofs.evaluate.+guard_at.Tie.{close}
 
-abbrev μ-guard-at : Measures 7 guard-at-kinds.ps ℕ
-μ-guard-at κs a = a .1 .1 .1 .1 .0
+abbrev μ-guard-at : Measures 4 guard-at-kinds.ps ℕ
+μ-guard-at κs a = a .1 .1 .1 .0
 
-abbrev guard-at-at : ℕ → In 7 guard-at-kinds.ps
+abbrev guard-at-at : ℕ → In 4 guard-at-kinds.ps
 guard-at-at t =
-    and 7 guard-at-kinds.ps (is 7 guard-at-kinds.ps μ-guard-at t) guard-at.Pre
+    and 4 guard-at-kinds.ps (is 4 guard-at-kinds.ps μ-guard-at t) guard-at.Pre
 
-abbrev guard-at-below : ℕ → In 7 guard-at-kinds.ps
+abbrev guard-at-below : ℕ → In 4 guard-at-kinds.ps
 guard-at-below t =
-    and 7 guard-at-kinds.ps (falls 7 guard-at-kinds.ps _<_ μ-guard-at t) guard-at.Pre
+    and 4 guard-at-kinds.ps (falls 4 guard-at-kinds.ps _<_ μ-guard-at t) guard-at.Pre
 
 pub +guard-at-spec : {M : Type 1} → statement M
 +guard-at-spec = close μ-guard-at λ t. guard-at-lts.spec (

@@ -12,4 +12,5 @@ keep-spec =
     (λ c. search needs)
     (λ c. search needs)
     (λ c. search needs)
+    (λ c. search needs)
     (λ c. sym (set-out (c .before .args .starts .now) (c .before .args .i) (c .before .args .start) (c .if1 .left))))

@@ -5,7 +5,7 @@ use mathlib.Core.Path.{_≡_, sym, ap, _∙_}
 use Prim.Native.Nat.{_≤_}
 use Rattle.reading.specs.Basics.{ℕ, List, [], length, take}
 use Rattle.reading.specs.Reading.{fine}
-use Rattle.net.specs.Net.{Place, Net, net, scope}
+use Rattle.net.specs.Net.{Place, Net, net}
 use Rattle.net_file.specs.NetFile.{content}
 use Rattle.net_parts.specs.internal.Tables.{placesOf, placesRead, Started, TokensRead}
 use Rattle.net_transitions.specs.internal.TransitionTables.{TransitionsRead}
@@ -36,7 +36,7 @@ P6 = tie.After-known-told6
 
 -- and one part before
 abbrev to0 : P1 → tie.Start
-to0 c = c .before .before .before .before .before .before .before .before .before .before .before .before .before .before .before .before
+to0 c = c .before .before .before .before .before .before .before .before .before .before .before .before .before
 
 abbrev to1 : P2 → P1
 to1 c = c .before .before .before .before .before .before .before
@@ -45,13 +45,13 @@ abbrev to2 : P3 → P2
 to2 c = c .before .before .before .before .before .before .before .before
 
 abbrev to3 : P4 → P3
-to3 c = c .before .before .before .before .before .before .before .before .before .before .before .before .before .before
+to3 c = c .before .before .before .before .before .before .before .before .before .before .before
 
 abbrev to4 : P5 → P4
-to4 c = c .before .before .before .before .before .before .before .before .before .before .before .before .before .before .before .before .before
+to4 c = c .before .before .before .before .before .before .before .before .before .before .before .before .before
 
 abbrev to5 : P6 → P5
-to5 c = c .before .before .before .before .before .before .before .before .before .before .before
+to5 c = c .before .before .before .before .before .before .before .before
 
 -- the file, and the place after the part
 abbrev file1 : P1 → List ℕ
@@ -136,14 +136,11 @@ left3 : (c : P3) → Left (file3 c) (afterVariables (file3 c) (sets-of (to2 c)) 
 left3 c = variables-go (file3 c) (sets-of (to2 c)) (next2 (to2 c)) (left2 (to2 c)) (rw (c .before .part3 .given .1) at (c .before .before .before .before .before .read-variables .ensures .1))
 
 -- ---- after the places
-abbrev firsts : P4 → List ℕ
-firsts c = c .before .before .before .before .before .before .before .before .before .read-places .last .1 .1 .0
-
-abbrev seconds : P4 → List ℕ
-seconds c = c .before .before .before .before .before .before .before .before .before .read-places .last .1 .1 .1 .0
+abbrev kinds : P4 → List ℕ
+kinds c = c .before .before .before .before .before .before .before .read-places .last .1 .1 .0
 
 abbrev starts : P4 → List ℕ
-starts c = c .before .before .before .before .before .before .before .before .before .read-places .last .1 .1 .1 .1 .0
+starts c = c .before .before .before .before .before .before .before .read-places .last .1 .1 .1 .0
 
 abbrev places : P4 → ℕ
 places c = c .before .part4 .given .0 .0
@@ -152,35 +149,29 @@ abbrev total : P4 → ℕ
 total c = c .before .part4 .given .0 .1 .0
 
 abbrev places-of : P4 → List Place
-places-of c = placesOf (take (places c) (firsts c)) (take (places c) (seconds c))
+places-of c = placesOf (take (places c) (kinds c))
 
-started : (c : P4) → Started (scope (sets-of (to2 (to3 c))) [] []) (places-of c) (starts c) (places c) (total c)
-started c = rw (c .before .part4 .given .1) at (c .before .before .before .before .before .before .before .before .before .read-places .ensures .1)
+started : (c : P4) → Started (net (sets-of (to2 (to3 c))) [] [] [] []) (places-of c) (starts c) (places c) (total c)
+started c = rw (c .before .part4 .given .1) at (c .before .before .before .before .before .before .before .read-places .ensures .1)
 
-firsts-sized : (c : P4) → length (firsts c) ≡ 32
-firsts-sized c = c .before .before .before .before .before .before .before .before .before .read-places .kept .1 .1 .0 ∙ (to0 (to1 (to2 (to3 c)))) .pre .1 .1 .0
-
-seconds-sized : (c : P4) → length (seconds c) ≡ 32
-seconds-sized c = c .before .before .before .before .before .before .before .before .before .read-places .kept .1 .1 .1 .0 ∙ (to0 (to1 (to2 (to3 c)))) .pre .1 .1 .1 .0
+kinds-sized : (c : P4) → length (kinds c) ≡ 32
+kinds-sized c = c .before .before .before .before .before .before .before .read-places .kept .1 .1 .0 ∙ (to0 (to1 (to2 (to3 c)))) .pre .1 .1 .0
 
 starts-sized : (c : P4) → length (starts c) ≡ 33
-starts-sized c = c .before .before .before .before .before .before .before .before .before .read-places .kept .1 .1 .1 .1 .0 ∙ (to0 (to1 (to2 (to3 c)))) .pre .1 .1 .1 .1 .0
+starts-sized c = c .before .before .before .before .before .before .before .read-places .kept .1 .1 .1 .0 ∙ (to0 (to1 (to2 (to3 c)))) .pre .1 .1 .1 .0
 
 left4 : (c : P4) → Left (file4 c) (afterPlaces (file4 c) (sets-of (to2 (to3 c))) (variables-of (to3 c)) (places-of c) (next4 c))
-left4 c = places-go (file4 c) (sets-of (to2 (to3 c))) (variables-of (to3 c)) (next3 (to3 c)) (left3 (to3 c)) (ap (placesRead (firsts c) (seconds c)) (sym (c .before .part4 .given .1)) ∙ c .before .before .before .before .before .before .before .before .before .read-places .ensures .0 (variables-of (to3 c)))
+left4 c = places-go (file4 c) (sets-of (to2 (to3 c))) (variables-of (to3 c)) (next3 (to3 c)) (left3 (to3 c)) (ap (placesRead (kinds c)) (sym (c .before .part4 .given .1)) ∙ c .before .before .before .before .before .before .before .read-places .ensures .0 (variables-of (to3 c)))
 
 -- ---- after the transitions
-abbrev uses : P5 → List ℕ
-uses c = c .before .before .before .before .before .before .before .before .before .read-transitions .last .1 .1 .1 .1 .1 .0
-
-abbrev guards : P5 → List ℕ
-guards c = c .before .before .before .before .before .before .before .before .before .read-transitions .last .1 .1 .1 .1 .1 .1 .0
+abbrev heads : P5 → List ℕ
+heads c = c .before .before .before .before .before .before .before .read-transitions .last .1 .1 .1 .1 .0
 
 abbrev arcs : P5 → List ℕ
-arcs c = c .before .before .before .before .before .before .before .before .before .read-transitions .last .1 .1 .1 .1 .1 .1 .1 .0
+arcs c = c .before .before .before .before .before .before .before .read-transitions .last .1 .1 .1 .1 .1 .0
 
-transitions-read : (c : P5) → TransitionsRead (file5 c) (scope (sets-of (to2 (to3 (to4 c)))) (variables-of (to3 (to4 c))) (places-of (to4 c))) (next4 (to4 c)) (uses c) (guards c) (arcs c) (c .before .part5 .given .0 .0) (c .before .part5 .given .0 .1 .0) (next5 c)
-transitions-read c = rw (c .before .part5 .given .1) at (c .before .before .before .before .before .before .before .before .before .read-transitions .ensures)
+transitions-read : (c : P5) → TransitionsRead (file5 c) (net (sets-of (to2 (to3 (to4 c)))) (variables-of (to3 (to4 c))) (places-of (to4 c)) [] []) (next4 (to4 c)) (heads c) (arcs c) (c .before .part5 .given .0 .0) (c .before .part5 .given .0 .1 .0) (next5 c)
+transitions-read c = rw (c .before .part5 .given .1) at (c .before .before .before .before .before .before .before .read-transitions .ensures)
 
 left5 : (c : P5) → Left (file5 c) (afterTransitions (file5 c) (sets-of (to2 (to3 (to4 c)))) (variables-of (to3 (to4 c))) (places-of (to4 c)) (transitions-read c .transitions) (next5 c))
 left5 c = transitions-go (file5 c) (sets-of (to2 (to3 (to4 c)))) (variables-of (to3 (to4 c))) (places-of (to4 c)) (next4 (to4 c)) (left4 (to4 c)) (transitions-read c .read)
@@ -190,8 +181,8 @@ abbrev drawn : P5 → Net
 drawn c = net (sets-of (to2 (to3 (to4 c)))) (variables-of (to3 (to4 c))) (places-of (to4 c)) (transitions-read c .transitions) []
 
 -- ---- after the tokens
-tokens-read : (c : P6) → TokensRead (file6 c) (drawn (to5 c)) (next5 (to5 c)) (starts (to4 (to5 c))) (c .before .before .before .before .before .before .before .read-tokens .last .1 .1 .1 .1 .0) (next6 c)
-tokens-read c = tokens-by (file6 c) (drawn (to5 c)) (next5 (to5 c)) (starts (to4 (to5 c))) _ (c .before .part6 .given .1) (c .before .before .before .before .before .before .before .read-tokens .ensures .1 (drawn (to5 c)) (started-over (started (to4 (to5 c)))))
+tokens-read : (c : P6) → TokensRead (file6 c) (drawn (to5 c)) (next5 (to5 c)) (starts (to4 (to5 c))) (c .before .before .before .before .before .read-tokens .last .1 .1 .1 .1 .0) (next6 c)
+tokens-read c = tokens-by (file6 c) (drawn (to5 c)) (next5 (to5 c)) (starts (to4 (to5 c))) _ (c .before .part6 .given .1) (c .before .before .before .before .before .read-tokens .ensures .1 (drawn (to5 c)) (started-over (started (to4 (to5 c)))))
 
 abbrev net-of : P6 → Net
 net-of c = net (sets-of (to2 (to3 (to4 (to5 c))))) (variables-of (to3 (to4 (to5 c)))) (places-of (to4 (to5 c))) (transitions-read (to5 c) .transitions) (tokens-read c .tokens)
@@ -203,7 +194,7 @@ returns : tie.Need-returns
 returns c = net-long _ (search needs)
 
 returns-2 : tie.Need-returns-2
-returns-2 c = rw (c .refused .ensures ∙ ap refusal (c .before .enum-told .given .1)) (opening-stops (c .before .before .before .before .before .before .before .before .before .before .before .before .before .before .before .before .args .s .now) (c .before .before .before .before .if1 .left) (rw (c .before .enum-told .given .1) at (c .before .before .before .read-opening .ensures .1 (content (c .before .before .before .before .before .before .before .before .before .before .before .before .before .before .before .before .args .s .now)))))
+returns-2 c = rw (c .refused .ensures ∙ ap refusal (c .before .enum-told .given .1)) (opening-stops (c .before .before .before .before .before .before .before .before .before .before .before .before .before .args .s .now) (c .before .before .before .before .if1 .left) (rw (c .before .enum-told .given .1) at (c .before .before .before .read-opening .ensures .1 (content (c .before .before .before .before .before .before .before .before .before .before .before .before .before .args .s .now)))))
 
 returns-3 : tie.Need-returns-3
 returns-3 c = rw (c .refused2 .ensures ∙ ap refusal (c .before .enum-told2 .given .1)) (sets-stop (file1 (c .before .before .before .before .before .before .before)) (next1 (c .before .before .before .before .before .before .before)) (left1 (c .before .before .before .before .before .before .before)) (rw (c .before .enum-told2 .given .1) at (c .before .before .before .before .before .read-sets .ensures .1)))
@@ -224,10 +215,10 @@ slice-aggregate-read-places : tie.Need-slice-aggregate-read-places
 slice-aggregate-read-places c = sym (front-sized _ (sizes (to2 (c .before))) 16 (sets-few (to2 (c .before))) (sizes-sized (to2 (c .before))))
 
 read-places-requires : tie.Need-read-places-requires
-read-places-requires c κs = (rw (front-sized _ (sizes (to2 (c .before .before .before .before))) 16 (sets-few (to2 (c .before .before .before .before))) (sizes-sized (to2 (c .before .before .before .before)))) (sets-few (to2 (c .before .before .before .before))), ((to0 (to1 (to2 (c .before .before .before .before)))) .pre .1 .1 .0, ((to0 (to1 (to2 (c .before .before .before .before)))) .pre .1 .1 .1 .0, (to0 (to1 (to2 (c .before .before .before .before)))) .pre .1 .1 .1 .1 .0)))
+read-places-requires c κs = (rw (front-sized _ (sizes (to2 (c .before .before .before))) 16 (sets-few (to2 (c .before .before .before))) (sizes-sized (to2 (c .before .before .before)))) (sets-few (to2 (c .before .before .before))), ((to0 (to1 (to2 (c .before .before .before)))) .pre .1 .1 .0, (to0 (to1 (to2 (c .before .before .before)))) .pre .1 .1 .1 .0))
 
 returns-5 : tie.Need-returns-5
-returns-5 c = rw (c .refused4 .ensures ∙ ap refusal (c .before .enum-told4 .given .1)) (places-stop (file3 (c .before .before .before .before .before .before .before .before .before .before .before .before .before .before)) (sets-of (to2 (c .before .before .before .before .before .before .before .before .before .before .before .before .before .before))) (variables-of (c .before .before .before .before .before .before .before .before .before .before .before .before .before .before)) (next3 (c .before .before .before .before .before .before .before .before .before .before .before .before .before .before)) (left3 (c .before .before .before .before .before .before .before .before .before .before .before .before .before .before)) (rw (c .before .enum-told4 .given .1) at (c .before .before .before .before .before .before .before .before .before .read-places .ensures .0 (variables-of (c .before .before .before .before .before .before .before .before .before .before .before .before .before .before)))))
+returns-5 c = rw (c .refused4 .ensures ∙ ap refusal (c .before .enum-told4 .given .1)) (places-stop (file3 (c .before .before .before .before .before .before .before .before .before .before .before)) (sets-of (to2 (c .before .before .before .before .before .before .before .before .before .before .before))) (variables-of (c .before .before .before .before .before .before .before .before .before .before .before)) (next3 (c .before .before .before .before .before .before .before .before .before .before .before)) (left3 (c .before .before .before .before .before .before .before .before .before .before .before)) (rw (c .before .enum-told4 .given .1) at (c .before .before .before .before .before .before .before .read-places .ensures .0 (variables-of (c .before .before .before .before .before .before .before .before .before .before .before)))))
 
 slice-reshare-prefix-read-transitions : tie.Need-slice-reshare-prefix-read-transitions
 slice-reshare-prefix-read-transitions c = front-fits _ (sizes (to2 (to3 c))) 16 (sets-few (to2 (to3 c))) (sizes-sized (to2 (to3 c)))
@@ -242,28 +233,22 @@ slice-aggregate-read-transitions-2 : tie.Need-slice-aggregate-read-transitions-2
 slice-aggregate-read-transitions-2 c = sym (front-sized _ (vars (to3 (c .before .before))) 32 (variables-few (to3 (c .before .before))) (vars-sized (to3 (c .before .before))))
 
 slice-reshare-prefix-read-transitions-3 : tie.Need-slice-reshare-prefix-read-transitions-3
-slice-reshare-prefix-read-transitions-3 c = front-fits _ (firsts (c .before .before)) 32 (started (c .before .before) .few) (firsts-sized (c .before .before))
+slice-reshare-prefix-read-transitions-3 c = front-fits _ (kinds (c .before .before)) 32 (started (c .before .before) .few) (kinds-sized (c .before .before))
 
 slice-aggregate-read-transitions-3 : tie.Need-slice-aggregate-read-transitions-3
-slice-aggregate-read-transitions-3 c = sym (front-sized _ (firsts (c .before .before .before)) 32 (started (c .before .before .before) .few) (firsts-sized (c .before .before .before)))
-
-slice-reshare-prefix-read-transitions-4 : tie.Need-slice-reshare-prefix-read-transitions-4
-slice-reshare-prefix-read-transitions-4 c = front-fits _ (seconds (c .before .before .before)) 32 (started (c .before .before .before) .few) (seconds-sized (c .before .before .before))
-
-slice-aggregate-read-transitions-4 : tie.Need-slice-aggregate-read-transitions-4
-slice-aggregate-read-transitions-4 c = sym (front-sized _ (seconds (c .before .before .before .before)) 32 (started (c .before .before .before .before) .few) (seconds-sized (c .before .before .before .before)))
+slice-aggregate-read-transitions-3 c = sym (front-sized _ (kinds (c .before .before .before)) 32 (started (c .before .before .before) .few) (kinds-sized (c .before .before .before)))
 
 read-transitions-requires : tie.Need-read-transitions-requires
-read-transitions-requires c κs = (fits (to1 (to2 (to3 (c .before .before .before .before .before .before .before)))), (rw (front-sized _ (vars (to3 (c .before .before .before .before .before .before .before))) 32 (variables-few (to3 (c .before .before .before .before .before .before .before))) (vars-sized (to3 (c .before .before .before .before .before .before .before)))) (variables-few (to3 (c .before .before .before .before .before .before .before))), (rw (front-sized _ (firsts (c .before .before .before .before .before .before .before)) 32 (started (c .before .before .before .before .before .before .before) .few) (firsts-sized (c .before .before .before .before .before .before .before))) (started (c .before .before .before .before .before .before .before) .few), (front-sized _ (seconds (c .before .before .before .before .before .before .before)) 32 (started (c .before .before .before .before .before .before .before) .few) (seconds-sized (c .before .before .before .before .before .before .before)) ∙ sym (front-sized _ (firsts (c .before .before .before .before .before .before .before)) 32 (started (c .before .before .before .before .before .before .before) .few) (firsts-sized (c .before .before .before .before .before .before .before))), ((to0 (to1 (to2 (to3 (c .before .before .before .before .before .before .before))))) .pre .1 .1 .1 .1 .1 .0, ((to0 (to1 (to2 (to3 (c .before .before .before .before .before .before .before))))) .pre .1 .1 .1 .1 .1 .1 .0, (to0 (to1 (to2 (to3 (c .before .before .before .before .before .before .before))))) .pre .1 .1 .1 .1 .1 .1 .1 .0))))))
+read-transitions-requires c κs = (fits (to1 (to2 (to3 (c .before .before .before .before .before)))), (rw (front-sized _ (vars (to3 (c .before .before .before .before .before))) 32 (variables-few (to3 (c .before .before .before .before .before))) (vars-sized (to3 (c .before .before .before .before .before)))) (variables-few (to3 (c .before .before .before .before .before))), (rw (front-sized _ (kinds (c .before .before .before .before .before)) 32 (started (c .before .before .before .before .before) .few) (kinds-sized (c .before .before .before .before .before))) (started (c .before .before .before .before .before) .few), ((to0 (to1 (to2 (to3 (c .before .before .before .before .before))))) .pre .1 .1 .1 .1 .0, (to0 (to1 (to2 (to3 (c .before .before .before .before .before))))) .pre .1 .1 .1 .1 .1))))
 
 returns-6 : tie.Need-returns-6
-returns-6 c = rw (c .refused5 .ensures ∙ ap refusal (c .before .enum-told5 .given .1)) (transitions-stop (file4 (c .before .before .before .before .before .before .before .before .before .before .before .before .before .before .before .before .before)) (sets-of (to2 (to3 (c .before .before .before .before .before .before .before .before .before .before .before .before .before .before .before .before .before)))) (variables-of (to3 (c .before .before .before .before .before .before .before .before .before .before .before .before .before .before .before .before .before))) (places-of (c .before .before .before .before .before .before .before .before .before .before .before .before .before .before .before .before .before)) (next4 (c .before .before .before .before .before .before .before .before .before .before .before .before .before .before .before .before .before)) (left4 (c .before .before .before .before .before .before .before .before .before .before .before .before .before .before .before .before .before)) (rw (c .before .enum-told5 .given .1) at (c .before .before .before .before .before .before .before .before .before .read-transitions .ensures)))
+returns-6 c = rw (c .refused5 .ensures ∙ ap refusal (c .before .enum-told5 .given .1)) (transitions-stop (file4 (c .before .before .before .before .before .before .before .before .before .before .before .before .before)) (sets-of (to2 (to3 (c .before .before .before .before .before .before .before .before .before .before .before .before .before)))) (variables-of (to3 (c .before .before .before .before .before .before .before .before .before .before .before .before .before))) (places-of (c .before .before .before .before .before .before .before .before .before .before .before .before .before)) (next4 (c .before .before .before .before .before .before .before .before .before .before .before .before .before)) (left4 (c .before .before .before .before .before .before .before .before .before .before .before .before .before)) (rw (c .before .enum-told5 .given .1) at (c .before .before .before .before .before .before .before .read-transitions .ensures)))
 
 read-tokens-requires : tie.Need-read-tokens-requires
-read-tokens-requires c κs = (rising (started (to4 (c .before .before .before))) (omega (arith, started (to4 (c .before .before .before)) .few, starts-sized (to4 (c .before .before .before)))), ((to0 (to1 (to2 (to3 (to4 (c .before .before .before)))))) .pre .1 .1 .1 .1 .1 .1 .1 .1 .0, (to0 (to1 (to2 (to3 (to4 (c .before .before .before)))))) .pre .1 .1 .1 .1 .1 .1 .1 .1 .1))
+read-tokens-requires c κs = rising (started (to4 (c .before .before))) (omega (arith, started (to4 (c .before .before)) .few, starts-sized (to4 (c .before .before))))
 
 returns-7 : tie.Need-returns-7
-returns-7 c = rw (c .refused6 .ensures ∙ ap refusal (c .before .enum-told6 .given .1)) (tokens-stop (file5 (c .before .before .before .before .before .before .before .before .before .before .before)) (sets-of (to2 (to3 (to4 (c .before .before .before .before .before .before .before .before .before .before .before))))) (variables-of (to3 (to4 (c .before .before .before .before .before .before .before .before .before .before .before)))) (places-of (to4 (c .before .before .before .before .before .before .before .before .before .before .before))) (transitions-read (c .before .before .before .before .before .before .before .before .before .before .before) .transitions) (next5 (c .before .before .before .before .before .before .before .before .before .before .before)) (left5 (c .before .before .before .before .before .before .before .before .before .before .before)) (rw (c .before .enum-told6 .given .1) at (c .before .before .before .before .before .before .before .read-tokens .ensures .1 (drawn (c .before .before .before .before .before .before .before .before .before .before .before)) (started-over (started (to4 (c .before .before .before .before .before .before .before .before .before .before .before)))))))
+returns-7 c = rw (c .refused6 .ensures ∙ ap refusal (c .before .enum-told6 .given .1)) (tokens-stop (file5 (c .before .before .before .before .before .before .before .before)) (sets-of (to2 (to3 (to4 (c .before .before .before .before .before .before .before .before))))) (variables-of (to3 (to4 (c .before .before .before .before .before .before .before .before)))) (places-of (to4 (c .before .before .before .before .before .before .before .before))) (transitions-read (c .before .before .before .before .before .before .before .before) .transitions) (next5 (c .before .before .before .before .before .before .before .before)) (left5 (c .before .before .before .before .before .before .before .before)) (rw (c .before .enum-told6 .given .1) at (c .before .before .before .before .before .read-tokens .ensures .1 (drawn (c .before .before .before .before .before .before .before .before)) (started-over (started (to4 (c .before .before .before .before .before .before .before .before)))))))
 
 enum-told-7 : tie.Need-enum-told-7
 enum-told-7 c = search needs
@@ -272,7 +257,7 @@ returns-8 : tie.Need-returns-8
 returns-8 c = rw (c .refused7 .ensures ∙ ap refusal (c .before .enum-told8 .given .1)) (closing-stops (file6 (c .before .before .before .before)) (net-of (c .before .before .before .before)) (next6 (c .before .before .before .before)) (left6 (c .before .before .before .before)) (rw (c .before .enum-told8 .given .1) at (c .before .before .before .read-closing .ensures .1 (net-of (c .before .before .before .before)))))
 
 returns-9 : tie.Need-returns-9
-returns-9 c = record { value = net-of (c .before .before .before); read = net-read (file6 (c .before .before .before)) (net-of (c .before .before .before)) (next6 (c .before .before .before)) (left6 (c .before .before .before)) (rw (c .enum-told7 .given .1) at (c .before .before .read-closing .ensures .1 (net-of (c .before .before .before)))); holds = tables (file6 (c .before .before .before)) (sizes (to2 (to3 (to4 (to5 (c .before .before .before)))))) (vars (to3 (to4 (to5 (c .before .before .before))))) (firsts (to4 (to5 (c .before .before .before)))) (seconds (to4 (to5 (c .before .before .before)))) (starts (to4 (to5 (c .before .before .before)))) (sets-few (to2 (to3 (to4 (to5 (c .before .before .before)))))) (variables-few (to3 (to4 (to5 (c .before .before .before))))) (firsts-sized (to4 (to5 (c .before .before .before)))) (seconds-sized (to4 (to5 (c .before .before .before)))) (started (to4 (to5 (c .before .before .before)))) (uses (to5 (c .before .before .before))) (guards (to5 (c .before .before .before))) (arcs (to5 (c .before .before .before))) (transitions-read (to5 (c .before .before .before))) _ (tokens-read (c .before .before .before)) }
+returns-9 c = record { value = net-of (c .before .before .before); read = net-read (file6 (c .before .before .before)) (net-of (c .before .before .before)) (next6 (c .before .before .before)) (left6 (c .before .before .before)) (rw (c .enum-told7 .given .1) at (c .before .before .read-closing .ensures .1 (net-of (c .before .before .before)))); holds = tables (file6 (c .before .before .before)) (sizes (to2 (to3 (to4 (to5 (c .before .before .before)))))) (vars (to3 (to4 (to5 (c .before .before .before))))) (kinds (to4 (to5 (c .before .before .before)))) (starts (to4 (to5 (c .before .before .before)))) (sets-few (to2 (to3 (to4 (to5 (c .before .before .before)))))) (variables-few (to3 (to4 (to5 (c .before .before .before))))) (kinds-sized (to4 (to5 (c .before .before .before)))) (started (to4 (to5 (c .before .before .before)))) (heads (to5 (c .before .before .before))) (arcs (to5 (c .before .before .before))) (transitions-read (to5 (c .before .before .before))) _ (tokens-read (c .before .before .before)) }
 
 pub read-net-spec : {M : Type 1} → statement M
 read-net-spec =
@@ -309,7 +294,6 @@ read-net-spec =
     (λ c. search needs)
     (λ c. search needs)
     (λ c. search needs)
-    (λ c. search needs)
     returns-5
     slice-reshare-prefix-read-transitions
     slice-aggregate-read-transitions
@@ -317,16 +301,12 @@ read-net-spec =
     slice-aggregate-read-transitions-2
     slice-reshare-prefix-read-transitions-3
     slice-aggregate-read-transitions-3
-    slice-reshare-prefix-read-transitions-4
-    slice-aggregate-read-transitions-4
     read-transitions-requires
     (λ c. search needs)
     (λ c. search needs)
     (λ c κs. search needs)
-    (λ c. c .before .before .before .before .before .before .before .before .before .before .before .before .before .before .before .before .before .before .before .before .before .before .before .before .before .before .before .before .before .before .before .before .before .before .before .before .before .before .before .before .before .before .before .before .read-sets .kept .1 .0)
-    (λ c. c .before .before .before .before .before .before .before .before .before .before .before .before .before .before .before .before .before .before .before .before .before .before .before .before .before .before .before .before .before .before .before .before .before .before .before .before .read-variables .kept .1 .1 .0)
-    (λ c. search needs)
-    (λ c. search needs)
+    (λ c. c .before .before .before .before .before .before .before .before .before .before .before .before .before .before .before .before .before .before .before .before .before .before .before .before .before .before .before .before .before .before .before .before .before .before .before .before .before .read-sets .kept .1 .0)
+    (λ c. c .before .before .before .before .before .before .before .before .before .before .before .before .before .before .before .before .before .before .before .before .before .before .before .before .before .before .before .before .before .read-variables .kept .1 .1 .0)
     (λ c. search needs)
     (λ c. search needs)
     (λ c. search needs)
@@ -336,13 +316,10 @@ read-net-spec =
     (λ c. search needs)
     (λ c. search needs)
     (λ c κs. search needs)
-    (λ c. c .before .before .before .before .before .before .before .before .before .before .before .before .before .before .before .before .before .before .before .before .before .before .before .before .before .before .before .before .before .before .before .before .before .before .before .before .before .before .before .before .before .before .before .before .before .before .before .before .before .before .before .before .before .before .before .read-sets .kept .1 .0)
-    (λ c. c .before .before .before .before .before .before .before .before .before .before .before .before .before .before .before .before .before .before .before .before .before .before .before .before .before .before .before .before .before .before .before .before .before .before .before .before .before .before .before .before .before .before .before .before .before .before .before .read-variables .kept .1 .1 .0)
-    (λ c. c .before .before .before .before .before .before .before .before .before .before .before .before .before .before .before .before .before .before .before .before .before .before .before .before .before .before .before .before .before .before .before .before .before .before .before .before .before .read-places .kept .1 .1 .0)
-    (λ c. c .before .before .before .before .before .before .before .before .before .before .before .before .before .before .before .before .before .before .before .before .before .before .before .before .before .before .before .before .before .before .before .before .before .before .before .before .before .read-places .kept .1 .1 .1 .0)
-    (λ c. c .before .before .before .before .before .before .before .before .before .before .before .before .before .before .before .before .before .before .before .before .before .before .before .before .before .before .before .before .before .before .before .before .before .before .before .before .before .read-places .kept .1 .1 .1 .1 .0)
-    (λ c. search needs)
-    (λ c. search needs)
+    (λ c. c .before .before .before .before .before .before .before .before .before .before .before .before .before .before .before .before .before .before .before .before .before .before .before .before .before .before .before .before .before .before .before .before .before .before .before .before .before .before .before .before .before .before .before .before .before .read-sets .kept .1 .0)
+    (λ c. c .before .before .before .before .before .before .before .before .before .before .before .before .before .before .before .before .before .before .before .before .before .before .before .before .before .before .before .before .before .before .before .before .before .before .before .before .before .read-variables .kept .1 .1 .0)
+    (λ c. c .before .before .before .before .before .before .before .before .before .before .before .before .before .before .before .before .before .before .before .before .before .before .before .before .before .before .before .before .read-places .kept .1 .1 .0)
+    (λ c. c .before .before .before .before .before .before .before .before .before .before .before .before .before .before .before .before .before .before .before .before .before .before .before .before .before .before .before .before .read-places .kept .1 .1 .1 .0)
     (λ c. search needs)
     (λ c. search needs)
     (λ c. search needs)
@@ -351,24 +328,18 @@ read-net-spec =
     enum-told-7
     (λ c. search needs)
     (λ c κs. search needs)
-    (λ c. c .before .before .before .before .before .before .before .before .before .before .before .before .before .before .before .before .before .before .before .before .before .before .before .before .before .before .before .before .before .before .before .before .before .before .before .before .before .before .before .before .before .before .before .before .before .before .before .before .before .before .before .before .before .before .before .before .before .before .before .read-sets .kept .1 .0)
-    (λ c. c .before .before .before .before .before .before .before .before .before .before .before .before .before .before .before .before .before .before .before .before .before .before .before .before .before .before .before .before .before .before .before .before .before .before .before .before .before .before .before .before .before .before .before .before .before .before .before .before .before .before .before .read-variables .kept .1 .1 .0)
-    (λ c. c .before .before .before .before .before .before .before .before .before .before .before .before .before .before .before .before .before .before .before .before .before .before .before .before .before .before .before .before .before .before .before .before .before .before .before .before .before .before .before .before .before .read-places .kept .1 .1 .0)
-    (λ c. c .before .before .before .before .before .before .before .before .before .before .before .before .before .before .before .before .before .before .before .before .before .before .before .before .before .before .before .before .before .before .before .before .before .before .before .before .before .before .before .before .before .read-places .kept .1 .1 .1 .0)
-    (λ c. c .before .before .before .before .before .before .before .before .before .before .before .before .before .before .before .before .before .before .before .before .before .before .before .before .before .before .before .before .before .before .before .before .before .before .before .before .before .before .before .before .before .read-places .kept .1 .1 .1 .1 .0)
-    (λ c. search needs)
-    (λ c. search needs)
+    (λ c. c .before .before .before .before .before .before .before .before .before .before .before .before .before .before .before .before .before .before .before .before .before .before .before .before .before .before .before .before .before .before .before .before .before .before .before .before .before .before .before .before .before .before .before .before .before .before .before .before .before .read-sets .kept .1 .0)
+    (λ c. c .before .before .before .before .before .before .before .before .before .before .before .before .before .before .before .before .before .before .before .before .before .before .before .before .before .before .before .before .before .before .before .before .before .before .before .before .before .before .before .before .before .read-variables .kept .1 .1 .0)
+    (λ c. c .before .before .before .before .before .before .before .before .before .before .before .before .before .before .before .before .before .before .before .before .before .before .before .before .before .before .before .before .before .before .before .before .read-places .kept .1 .1 .0)
+    (λ c. c .before .before .before .before .before .before .before .before .before .before .before .before .before .before .before .before .before .before .before .before .before .before .before .before .before .before .before .before .before .before .before .before .read-places .kept .1 .1 .1 .0)
     (λ c. search needs)
     (λ c. search needs)
     (λ c. search needs)
     returns-8
-    (λ c. c .before .before .before .before .before .before .before .before .before .before .before .before .before .before .before .before .before .before .before .before .before .before .before .before .before .before .before .before .before .before .before .before .before .before .before .before .before .before .before .before .before .before .before .before .before .before .before .before .before .before .before .before .before .before .before .before .before .before .read-sets .kept .1 .0)
-    (λ c. c .before .before .before .before .before .before .before .before .before .before .before .before .before .before .before .before .before .before .before .before .before .before .before .before .before .before .before .before .before .before .before .before .before .before .before .before .before .before .before .before .before .before .before .before .before .before .before .before .before .before .read-variables .kept .1 .1 .0)
-    (λ c. c .before .before .before .before .before .before .before .before .before .before .before .before .before .before .before .before .before .before .before .before .before .before .before .before .before .before .before .before .before .before .before .before .before .before .before .before .before .before .before .before .read-places .kept .1 .1 .0)
-    (λ c. c .before .before .before .before .before .before .before .before .before .before .before .before .before .before .before .before .before .before .before .before .before .before .before .before .before .before .before .before .before .before .before .before .before .before .before .before .before .before .before .before .read-places .kept .1 .1 .1 .0)
-    (λ c. c .before .before .before .before .before .before .before .before .before .before .before .before .before .before .before .before .before .before .before .before .before .before .before .before .before .before .before .before .before .before .before .before .before .before .before .before .before .before .before .before .read-places .kept .1 .1 .1 .1 .0)
-    (λ c. search needs)
-    (λ c. search needs)
+    (λ c. c .before .before .before .before .before .before .before .before .before .before .before .before .before .before .before .before .before .before .before .before .before .before .before .before .before .before .before .before .before .before .before .before .before .before .before .before .before .before .before .before .before .before .before .before .before .before .before .before .read-sets .kept .1 .0)
+    (λ c. c .before .before .before .before .before .before .before .before .before .before .before .before .before .before .before .before .before .before .before .before .before .before .before .before .before .before .before .before .before .before .before .before .before .before .before .before .before .before .before .before .read-variables .kept .1 .1 .0)
+    (λ c. c .before .before .before .before .before .before .before .before .before .before .before .before .before .before .before .before .before .before .before .before .before .before .before .before .before .before .before .before .before .before .before .read-places .kept .1 .1 .0)
+    (λ c. c .before .before .before .before .before .before .before .before .before .before .before .before .before .before .before .before .before .before .before .before .before .before .before .before .before .before .before .before .before .before .before .read-places .kept .1 .1 .1 .0)
     (λ c. search needs)
     (λ c. search needs)
     (λ c. search needs)

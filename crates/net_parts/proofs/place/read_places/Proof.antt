@@ -6,10 +6,10 @@ use Rattle.net_parts.proofs.place.read_places.Statement.{statement}
 use Rattle.net_parts.proofs.place.read_places.Tie as tie
 
 abbrev Inv-loop : tie.InvT-loop
-Inv-loop s sets firsts₀ seconds₀ starts₀ start count₀ total₀ at₀ firsts seconds starts count total at = Placing s sets start firsts seconds starts count total at
+Inv-loop s sets kinds₀ starts₀ start count₀ total₀ at₀ kinds starts count total at = Placing s sets start kinds starts count total at
 
 abbrev μ-loop : tie.MeasureT-loop
-μ-loop s sets firsts₀ seconds₀ starts₀ start count₀ total₀ at₀ firsts seconds starts count total at = 32 - count
+μ-loop s sets kinds₀ starts₀ start count₀ total₀ at₀ kinds starts count total at = 32 - count
 
 pub read-places-spec : {M : Type 1} → statement M
 read-places-spec =
@@ -18,9 +18,8 @@ read-places-spec =
     Inv-loop
     μ-loop
     (λ c. search needs)
-    (λ c. placing-begins _ _ _ _ _ (c .before .before .before .before .before .args .starts .now) (search needs) (search needs) (search needs))
+    (λ c. placing-begins _ _ _ _ (c .before .before .before .before .args .starts .now) (search needs) (search needs))
     (λ c κs. search needs)
-    (λ c. search needs)
     (λ c. search needs)
     (λ c. search needs)
     (λ c. search needs)
@@ -28,17 +27,23 @@ read-places-spec =
     (λ c. search needs)
     (λ c. search needs)
     (λ c. search needs)
-    (λ c. search needs)
     (λ c. (placing-stops (c .before .before .before .before .loop .inv) _ (c .before .before .before .place-at .ensures .0) (c .before .before .before .place-at .ensures .1) (c .before .number .given .1), tt))
     (λ c. search needs)
+    (λ c. search needs)
+    (λ c. search needs)
+    (λ c. search needs)
     (λ c. omega (arith, rw (c .before .set .given .1) at (c .before .before .before .place-at .ensures .1)))
     (λ c. omega (arith, rw (c .before .set .given .1) at (c .before .before .before .place-at .ensures .1)))
     (λ c. omega (arith, rw (c .before .set .given .1) at (c .before .before .before .place-at .ensures .1)))
     (λ c. omega (arith, rw (c .before .set .given .1) at (c .before .before .before .place-at .ensures .1)))
     (λ c. omega (arith, rw (c .before .set .given .1) at (c .before .before .before .place-at .ensures .1)))
     (λ c. omega (arith, rw (c .before .set .given .1) at (c .before .before .before .place-at .ensures .1)))
-    (λ c. omega (arith, rw (c .before .set .given .1) at (c .before .before .before .place-at .ensures .1)))
-    (λ c. placing-one (c .before .before .before .before .loop .inv) _ (c .before .before .before .place-at .ensures .0) (c .before .before .before .place-at .ensures .1) (c .before .set .given .1))
+    (λ c. placing-one (c .before .before .before .before .loop .inv) _ (c .before .before .before .place-at .ensures .0) (c .before .before .before .place-at .ensures .1) (omega arith) (c .before .set .given .1))
+    (λ c. search needs)
+    (λ c. search needs)
+    (λ c. search needs)
+    (λ c. search needs)
+    (λ c. search needs)
     (λ c. search needs)
     (λ c. omega (arith, rw (c .before .first .given .1) at (c .before .before .before .place-at .ensures .1)))
     (λ c. omega (arith, rw (c .before .first .given .1) at (c .before .before .before .place-at .ensures .1)))
@@ -46,5 +51,4 @@ read-places-spec =
     (λ c. omega (arith, rw (c .before .first .given .1) at (c .before .before .before .place-at .ensures .1)))
     (λ c. omega (arith, rw (c .before .first .given .1) at (c .before .before .before .place-at .ensures .1)))
     (λ c. omega (arith, rw (c .before .first .given .1) at (c .before .before .before .place-at .ensures .1)))
-    (λ c. omega (arith, rw (c .before .first .given .1) at (c .before .before .before .place-at .ensures .1)))
-    (λ c. placing-two (c .before .before .before .before .loop .inv) _ (c .before .before .before .place-at .ensures .0) (c .before .before .before .place-at .ensures .1) (search needs) (c .before .first .given .1)))
+    (λ c. placing-two (c .before .before .before .before .loop .inv) _ (c .before .before .before .place-at .ensures .0) (c .before .before .before .place-at .ensures .1) (omega arith) (search needs) (c .before .first .given .1)))

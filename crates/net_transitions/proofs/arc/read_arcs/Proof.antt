@@ -1,6 +1,5 @@
 use borrow.Author.Needs.{needs}
 use native.Mathlib.Omega.{arith}
-use mathlib.Core.Path.{sym}
 use Prim.Native.Nat.{_-_, _≤_}
 use lib.ListN.{length}
 use Rattle.net_parts.specs.internal.Tables.{placesOf}
@@ -11,10 +10,10 @@ use Rattle.net_transitions.proofs.arc.read_arcs.Statement.{statement}
 use Rattle.net_transitions.proofs.arc.read_arcs.Tie as tie
 
 abbrev Inv-loop : tie.InvT-loop
-Inv-loop s sizes vars firsts seconds row₀ start uses₀ at₀ row uses at = Arcing s (over sizes vars firsts seconds) start row uses at
+Inv-loop s sizes vars kinds row₀ start uses₀ at₀ row uses at = Arcing s (over sizes vars kinds) start row uses at
 
 abbrev μ-loop : tie.MeasureT-loop
-μ-loop s sizes vars firsts seconds row₀ start uses₀ at₀ row uses at = length s - at
+μ-loop s sizes vars kinds row₀ start uses₀ at₀ row uses at = length s - at
 
 pub read-arcs-spec : {M : Type 1} → statement M
 read-arcs-spec =
@@ -23,7 +22,7 @@ read-arcs-spec =
     Inv-loop
     μ-loop
     (λ c κs. search needs)
-    (λ c. let few : length (placesOf (c .before .before .before .before .before .before .before .before .before .before .args .firsts .now) (c .before .before .before .before .before .before .before .before .before .before .args .seconds .now)) ≤ 32 = rw (length-places (c .before .before .before .before .before .before .before .before .before .before .args .firsts .now) (c .before .before .before .before .before .before .before .before .before .before .args .seconds .now) (sym (c .before .before .before .before .before .before .before .before .before .before .pre .1 .1 .1 .0))) (c .before .before .before .before .before .before .before .before .before .before .pre .1 .1 .0) in arcing-begins _ _ _ _ few (search needs) (c .before .before .clear-words .ensures))
+    (λ c. let few : length (placesOf (c .before .before .before .before .before .before .before .before .before .args .kinds .now)) ≤ 32 = rw (length-places (c .before .before .before .before .before .before .before .before .before .args .kinds .now)) (c .before .before .before .before .before .before .before .before .before .pre .1 .1 .0) in arcing-begins _ _ _ _ few (search needs) (c .before .before .clear-slots .ensures))
     (λ c κs. search needs)
     (λ c. search needs)
     (λ c. search needs)
@@ -38,4 +37,4 @@ read-arcs-spec =
     (λ c. omega (arith, rw (c .before .slot .given .1) at (c .before .before .before .arc-at .ensures .1)))
     (λ c. omega (arith, rw (c .before .slot .given .1) at (c .before .before .before .arc-at .ensures .1)))
     (λ c. omega (arith, rw (c .before .slot .given .1) at (c .before .before .before .arc-at .ensures .1)))
-    (λ c. let few : length (placesOf (c .before .before .before .before .before .before .before .before .before .before .before .before .before .before .before .before .args .firsts .now) (c .before .before .before .before .before .before .before .before .before .before .before .before .before .before .before .before .args .seconds .now)) ≤ 32 = rw (length-places (c .before .before .before .before .before .before .before .before .before .before .before .before .before .before .before .before .args .firsts .now) (c .before .before .before .before .before .before .before .before .before .before .before .before .before .before .before .before .args .seconds .now) (sym (c .before .before .before .before .before .before .before .before .before .before .before .before .before .before .before .before .pre .1 .1 .1 .0))) (c .before .before .before .before .before .before .before .before .before .before .before .before .before .before .before .before .pre .1 .1 .0) in arcing-goes (c .before .before .before .before .before .loop .inv) _ (c .before .before .before .arc-at .ensures .0) (c .before .before .before .arc-at .ensures .1) few (c .before .slot .given .1)))
+    (λ c. let few : length (placesOf (c .before .before .before .before .before .before .before .before .before .before .before .before .before .before .before .args .kinds .now)) ≤ 32 = rw (length-places (c .before .before .before .before .before .before .before .before .before .before .before .before .before .before .before .args .kinds .now)) (c .before .before .before .before .before .before .before .before .before .before .before .before .before .before .before .pre .1 .1 .0) in arcing-goes (c .before .before .before .before .before .loop .inv) _ (c .before .before .before .arc-at .ensures .0) (c .before .before .before .arc-at .ensures .1) few (c .before .slot .given .1)))

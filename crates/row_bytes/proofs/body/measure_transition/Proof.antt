@@ -18,5 +18,5 @@ measure-transition-spec =
     (λ c. (λ k e. c .before .before .before .before .measure-bindings .ensures .0 k, omega (arith, c .before .before .before .before .measure-bindings .ensures .1)))
     (λ c. omega (arith, long-most (c .before .count .given .1) (c .before .before .before .steady-row .ensures .1)))
     (λ c. omega (arith, long-most (c .before .count .given .1) (c .before .before .before .steady-row .ensures .1)))
-    (λ c. omega (arith, product-most (c .before .before .before .before .before .before .before .before .before .args .rows) (1 + 5 * c .before .count .given .0 .0) (c .before .before .before .before .before .before .before .before .before .pre .0 .3) (omega (arith, long-most (c .before .count .given .1) (c .before .before .before .steady-row .ensures .1)))))
-    (λ c. (λ k e. rows-measured (k .net) (c .before .before .before .before .before .before .before .before .before .args .t) (k .size) e (rows-long k (c .before .count .given .1) (c .before .before .before .steady-row .ensures .0)), product-most (c .before .before .before .before .before .before .before .before .before .args .rows) (1 + 5 * c .before .count .given .0 .0) (c .before .before .before .before .before .before .before .before .before .pre .0 .3) (omega (arith, long-most (c .before .count .given .1) (c .before .before .before .steady-row .ensures .1))))))
+    (λ c. omega (arith, product-most (c .before .before .before .before .before .before .before .args .rows) (1 + 5 * c .before .count .given .0 .0) (c .before .before .before .before .before .before .before .pre .0 .3) (omega (arith, long-most (c .before .count .given .1) (c .before .before .before .steady-row .ensures .1)))))
+    (λ c. (λ k e. rows-measured (k .net) _ (k .size) e (rows-long k (c .before .count .given .1) (c .before .before .before .steady-row .ensures .0)), product-most (c .before .before .before .before .before .before .before .args .rows) (1 + 5 * c .before .count .given .0 .0) (c .before .before .before .before .before .before .before .pre .0 .3) (omega (arith, long-most (c .before .count .given .1) (c .before .before .before .steady-row .ensures .1))))))

@@ -1,20 +1,23 @@
+use borrow.Author.Needs.{needs}
 use native.Mathlib.Omega.{arith}
 use mathlib.Core.List.{List}
 use Prim.Native.Nat.{ℕ, _≤_, _+_, _*_, _-_}
+use lib.ListN.{length}
 use Rattle.row_bytes.specs.internal.RowBytes.{transitionBytes, Ruled}
 use Rattle.row_numbers.specs.internal.Marks.{Counted}
+use Rattle.row_numbers.proofs.Tabled.{in-net, all-of-net}
 use Rattle.row_bytes.proofs.RowLengths.{product-most}
 use Rattle.row_bytes.proofs.Bounded.{transition-most, Bounding, bound-begins, bound-goes, bound-ends}
 use Rattle.row_bytes.proofs.fit.bound_all.Statement.{statement}
 use Rattle.row_bytes.proofs.fit.bound_all.Tie as tie
 
 abbrev Inv-loop : tie.InvT-loop
-Inv-loop s sizes vars arcs transitions rows total₀ t₀ total t =
+Inv-loop s plan rows transitions total₀ t₀ total t =
     (t ≤ transitions) × (total ≤ 2100000000000 * t)
-    × ((own guards marks : List ℕ) (k : Ruled s sizes vars own guards arcs marks transitions) → Counted (k .net) rows transitions → Bounding (transitionBytes (k .net)) transitions total t)
+    × ((marks : List ℕ) (k : Ruled s plan marks) → Counted (k .net) rows (length (k .net .transitions)) → Bounding (transitionBytes (k .net)) (length (k .net .transitions)) total t)
 
 abbrev μ-loop : tie.MeasureT-loop
-μ-loop s sizes vars arcs transitions rows total₀ t₀ total t = transitions - t
+μ-loop s plan rows transitions total₀ t₀ total t = transitions - t
 
 pub bound-all-spec : {M : Type 1} → statement M
 bound-all-spec =
@@ -22,19 +25,21 @@ bound-all-spec =
     (tie.spec
     Inv-loop
     μ-loop
-    (λ c. (omega arith, omega arith, λ own guards marks k counted. bound-begins (transitionBytes (k .net)) (c .before .before .before .args .transitions)))
-    (λ c κs. omega (arith, c .before .before .before .before .before .pre .0, c .loop-test .taken))
-    (λ c. omega (arith, c .before .before .before .before .before .before .pre .0, c .before .loop-test .taken))
-    (λ c. omega (arith, c .before .before .before .before .before .before .pre .0, c .before .loop-test .taken))
+    (λ c κs. search needs)
+    (λ c. (omega arith, omega arith, λ marks k counted. bound-begins (transitionBytes (k .net)) (length (k .net .transitions))))
+    (λ c κs. omega (arith, c .before .before .transitions-of .ensures .1, c .loop-test .taken))
+    (λ c. omega (arith, c .before .before .before .transitions-of .ensures .1, c .before .loop-test .taken))
+    (λ c. omega (arith, c .before .before .before .transitions-of .ensures .1, c .before .loop-test .taken))
     (λ c. omega (arith, c .before .most-row .ensures .1))
     (λ c. omega (arith, c .before .most-row .ensures .1))
-    (λ c. omega (arith, product-most _ (1 + 5 * c .before .most-row .result) (c .before .before .before .before .before .before .before .pre .1 (c .before .before .before .loop .t) (c .before .before .loop-test .taken)) (omega (arith, c .before .most-row .ensures .1))))
-    (λ c. omega (arith, product-most _ (1 + 5 * c .before .most-row .result) (c .before .before .before .before .before .before .before .pre .1 (c .before .before .before .loop .t) (c .before .before .loop-test .taken)) (omega (arith, c .before .most-row .ensures .1)), c .before .before .before .loop .inv .1, c .before .before .loop-test .taken, c .before .before .before .before .before .before .before .pre .0))
-    (λ c. omega (arith, c .before .before .loop-test .taken, c .before .before .before .before .before .before .before .pre .0))
+    (λ c. omega (arith, product-most _ (1 + 5 * c .before .most-row .result) (c .before .before .before .before .before .before .pre (c .before .before .before .loop .t) (rw (c .before .before .before .before .transitions-of .ensures .0) at (c .before .before .loop-test .taken))) (omega (arith, c .before .most-row .ensures .1))))
+    (λ c. omega (arith, product-most _ (1 + 5 * c .before .most-row .result) (c .before .before .before .before .before .before .pre (c .before .before .before .loop .t) (rw (c .before .before .before .before .transitions-of .ensures .0) at (c .before .before .loop-test .taken))) (omega (arith, c .before .most-row .ensures .1)), c .before .before .before .loop .inv .1, c .before .before .loop-test .taken, c .before .before .before .before .transitions-of .ensures .1))
+    (λ c. omega (arith, c .before .before .loop-test .taken, c .before .before .before .before .transitions-of .ensures .1))
     (λ c. omega (arith, c .before .before .loop-test .taken))
     (λ c. (
       omega (arith, c .before .before .loop-test .taken),
-      omega (arith, product-most _ (1 + 5 * c .before .most-row .result) (c .before .before .before .before .before .before .before .pre .1 (c .before .before .before .loop .t) (c .before .before .loop-test .taken)) (omega (arith, c .before .most-row .ensures .1)), c .before .before .before .loop .inv .1),
-      λ own guards marks k counted. bound-goes (transitionBytes (k .net)) (c .before .before .before .before .before .before .before .args .transitions) (c .before .before .before .loop .inv .2 own guards marks k counted) (c .before .before .loop-test .taken) (transition-most k counted (c .before .before .loop-test .taken) (c .before .most-row .ensures .0)),
+      omega (arith, product-most _ (1 + 5 * c .before .most-row .result) (c .before .before .before .before .before .before .pre (c .before .before .before .loop .t) (rw (c .before .before .before .before .transitions-of .ensures .0) at (c .before .before .loop-test .taken))) (omega (arith, c .before .most-row .ensures .1)), c .before .before .before .loop .inv .1),
+      λ marks k counted. let less = (in-net (k .ready) (c .before .before .before .before .transitions-of .ensures .0) (c .before .before .loop-test .taken)) in
+          bound-goes (transitionBytes (k .net)) (length (k .net .transitions)) (c .before .before .before .loop .inv .2 marks k counted) less (transition-most k counted less (c .before .most-row .ensures .0)),
     ))
-    (λ c. (λ own guards marks k counted. bound-ends (transitionBytes (k .net)) (c .before .before .before .before .before .args .transitions) (c .before .loop .inv .2 own guards marks k counted) (omega (arith, c .loop-test .left)), omega (arith, c .before .loop .inv .1, c .before .loop .inv .0, c .before .before .before .before .before .pre .0))))
+    (λ c. (λ marks k counted. bound-ends (transitionBytes (k .net)) (length (k .net .transitions)) (c .before .loop .inv .2 marks k counted) (omega (arith, all-of-net (k .ready) (c .before .before .transitions-of .ensures .0) (c .before .loop .inv .0) (c .loop-test .left))), omega (arith, c .before .loop .inv .1, c .before .loop .inv .0, c .before .before .transitions-of .ensures .1))))

@@ -1,9 +1,8 @@
 use borrow.Author.Needs.{needs}
 use native.Mathlib.Omega.{arith}
 use denote.Ref.{now}
-use Rattle.net.specs.Net.{scope}
 use Rattle.net.specs.Reader.{readExpression}
-use Rattle.evaluation.specs.internal.Evaluated.{placeBy}
+use Rattle.evaluation.specs.internal.Evaluated.{scopeIn, placeBy}
 use Rattle.row_lengths.proofs.MostRead.{joined-most, all-most, one-most, times-told, either-told, most-past, most-shut, most-stray}
 use Prim.Native.Nat.{ℕ, _+_, _<_}
 use borrow.Fn.Kinds.{In}
@@ -23,36 +22,36 @@ use Rattle.evaluation.proofs.eval_rank.Reads as eval-rank-reads
 use Rattle.row_lengths.proofs.arcs.+most_at+most_inside+most_joined.{statement}
 use Rattle.row_lengths.proofs.arcs.+most_at+most_inside+most_joined.Tie.{close}
 
-abbrev μ-most-at : Measures 7 most-at-kinds.ps ℕ
-μ-most-at κs a = a .1 .1 .1 .1 .1 .1 .0 + a .1 .1 .1 .1 .1 .1 .0 + a .1 .1 .1 .1 .1 .1 .0 + 2
+abbrev μ-most-at : Measures 4 most-at-kinds.ps ℕ
+μ-most-at κs a = a .1 .1 .1 .1 .1 .0 + a .1 .1 .1 .1 .1 .0 + a .1 .1 .1 .1 .1 .0 + 2
 
-abbrev μ-most-inside : Measures 7 most-inside-kinds.ps ℕ
-μ-most-inside κs a = a .1 .1 .1 .1 .1 .1 .0 + a .1 .1 .1 .1 .1 .1 .0 + a .1 .1 .1 .1 .1 .1 .0 + 1
+abbrev μ-most-inside : Measures 4 most-inside-kinds.ps ℕ
+μ-most-inside κs a = a .1 .1 .1 .1 .1 .0 + a .1 .1 .1 .1 .1 .0 + a .1 .1 .1 .1 .1 .0 + 1
 
-abbrev μ-most-joined : Measures 7 most-joined-kinds.ps ℕ
-μ-most-joined κs a = a .1 .1 .1 .1 .1 .1 .1 .0 + a .1 .1 .1 .1 .1 .1 .1 .0 + a .1 .1 .1 .1 .1 .1 .1 .0 + 3
+abbrev μ-most-joined : Measures 4 most-joined-kinds.ps ℕ
+μ-most-joined κs a = a .1 .1 .1 .1 .1 .1 .0 + a .1 .1 .1 .1 .1 .1 .0 + a .1 .1 .1 .1 .1 .1 .0 + 3
 
-abbrev most-at-at : ℕ → In 7 most-at-kinds.ps
-most-at-at t = and 7 most-at-kinds.ps (is 7 most-at-kinds.ps μ-most-at t) most-at.Pre
+abbrev most-at-at : ℕ → In 4 most-at-kinds.ps
+most-at-at t = and 4 most-at-kinds.ps (is 4 most-at-kinds.ps μ-most-at t) most-at.Pre
 
-abbrev most-at-below : ℕ → In 7 most-at-kinds.ps
-most-at-below t = and 7 most-at-kinds.ps (falls 7 most-at-kinds.ps _<_ μ-most-at t) most-at.Pre
+abbrev most-at-below : ℕ → In 4 most-at-kinds.ps
+most-at-below t = and 4 most-at-kinds.ps (falls 4 most-at-kinds.ps _<_ μ-most-at t) most-at.Pre
 
-abbrev most-inside-at : ℕ → In 7 most-inside-kinds.ps
+abbrev most-inside-at : ℕ → In 4 most-inside-kinds.ps
 most-inside-at t =
-    and 7 most-inside-kinds.ps (is 7 most-inside-kinds.ps μ-most-inside t) most-inside.Pre
+    and 4 most-inside-kinds.ps (is 4 most-inside-kinds.ps μ-most-inside t) most-inside.Pre
 
-abbrev most-inside-below : ℕ → In 7 most-inside-kinds.ps
+abbrev most-inside-below : ℕ → In 4 most-inside-kinds.ps
 most-inside-below t =
-    and 7 most-inside-kinds.ps (falls 7 most-inside-kinds.ps _<_ μ-most-inside t) most-inside.Pre
+    and 4 most-inside-kinds.ps (falls 4 most-inside-kinds.ps _<_ μ-most-inside t) most-inside.Pre
 
-abbrev most-joined-at : ℕ → In 7 most-joined-kinds.ps
+abbrev most-joined-at : ℕ → In 4 most-joined-kinds.ps
 most-joined-at t =
-    and 7 most-joined-kinds.ps (is 7 most-joined-kinds.ps μ-most-joined t) most-joined.Pre
+    and 4 most-joined-kinds.ps (is 4 most-joined-kinds.ps μ-most-joined t) most-joined.Pre
 
-abbrev most-joined-below : ℕ → In 7 most-joined-kinds.ps
+abbrev most-joined-below : ℕ → In 4 most-joined-kinds.ps
 most-joined-below t =
-    and 7 most-joined-kinds.ps (falls 7 most-joined-kinds.ps _<_ μ-most-joined t) most-joined.Pre
+    and 4 most-joined-kinds.ps (falls 4 most-joined-kinds.ps _<_ μ-most-joined t) most-joined.Pre
 
 pub +most-at+most-inside+most-joined-spec : {M : Type 1} → statement M
 +most-at+most-inside+most-joined-spec =
@@ -73,7 +72,7 @@ pub +most-at+most-inside+most-joined-spec : {M : Type 1} → statement M
     (λ c. (λ known first second. most-shut _ _ _ _ _ _ _ (search needs) (c .before .if2 .left), omega arith))
     (λ c. search needs)
     (λ c κs. search needs)
-    (λ c. (λ known first second. one-most _ _ _ _ _ _ (search needs) _ _ (c .eval-rank .ensures known first second _ _) (c .before .before .before .if4 .taken), omega arith))
+    (λ c. (λ known first second. one-most _ _ _ _ _ _ (search needs) _ _ (c .eval-rank .ensures known first second _ _) (c .before .if4 .taken), omega arith))
     (λ c κs. search needs)
     (λ c κs. search needs)
     (λ c. rw (c .anew .ensures) (c .before .most-inside .ensures)))
@@ -107,4 +106,4 @@ pub +most-at+most-inside+most-joined-spec : {M : Type 1} → statement M
     (λ c κs. search needs)
     (λ c κs. search needs)
     (λ c κs. search needs)
-    (λ c. let a = c .before .before .before .args in (λ known first second at. rw (c .joined-most .ensures .0) (joined-most _ (readExpression (now (now (a .s))) (scope (now (now (a .sizes))) (now (now (a .vars))) known) (placeBy (a .paired) first second) (a .left)) at (a .next) _ (c .before .before .most-at .ensures .0 known first second) _ (c .before .most-at2 .ensures .0 known first second) (a .less)), c .joined-most .ensures .1))
+    (λ c. let a = c .before .before .before .args in (λ known first second at. rw (c .joined-most .ensures .0) (joined-most _ (readExpression (now (now (a .s))) (scopeIn (now (a .plan)) known) (placeBy (a .paired) first second) (a .left)) at (a .next) _ (c .before .before .most-at .ensures .0 known first second) _ (c .before .most-at2 .ensures .0 known first second) (a .less)), c .joined-most .ensures .1))

@@ -1,3 +1,4 @@
+use Rattle.row_numbers.proofs.Tabled.{effect-told}
 use borrow.Author.Needs.{needs}
 use native.Mathlib.Omega.{arith}
 use native.Mathlib.Nat.{add-zero}
@@ -11,14 +12,18 @@ use Rattle.row_numbers.proofs.marks.mark_one.Statement.{statement}
 use Rattle.row_numbers.proofs.marks.mark_one.Tie as tie
 
 pub mark-one-spec : {M : Type 1} → statement M
-mark-one-spec = tie.close (tie.spec (λ c κs. search needs) (λ c κs. search needs) (λ c. search needs) (λ c. (
-  λ n own t i listed binds.
-      let e = sym (c .before .before .if1 .taken) ∙ c .before .before .before .passes .ensures n own t i listed binds in
-      (ap (λ b. c .before .before .before .before .before .before .before .args .count + (if b then 1 else 0)) e, λ j lt. c .set-mark .ensures .0 j lt ∙ with-effect (markAt (c .before .before .before .before .before .before .before .args .marks .now) j) (eqb j (c .before .before .before .before .before .before .before .args .k)) e),
-  (omega arith, c .set-mark .ensures .1),
-)) (λ c. (
-  λ n own t i listed binds.
-      let e = sym (c .if1 .left) ∙ c .before .passes .ensures n own t i listed binds in
-      (sym (add-zero (c .before .before .before .before .before .args .count)) ∙ ap (λ b. c .before .before .before .before .before .args .count + (if b then 1 else 0)) e, λ j lt. without-effect (markAt (c .before .before .before .before .before .args .marks .now) j) (eqb j (c .before .before .before .before .before .args .k)) e),
-  (omega arith, c .before .before .before .before .before .pre .2),
-)))
+mark-one-spec = tie.close (tie.spec (λ c κs. search needs)
+    (λ c κs. search needs)
+    (λ c. search needs)
+    (λ c. (
+      λ n i p less binds.
+          let e = sym (c .before .before .if1 .taken) ∙ effect-told n _ i (c .before .before .before .has-effect .ensures n _ p less binds) in
+          (ap (λ b. c .before .before .before .before .before .args .count + (if b then 1 else 0)) e, λ j lt. c .set-mark .ensures .0 j lt ∙ with-effect (markAt (c .before .before .before .before .before .args .marks .now) j) (eqb j (c .before .before .before .before .before .args .k)) e),
+      (omega arith, c .set-mark .ensures .1),
+    ))
+    (λ c. (
+      λ n i p less binds.
+          let e = sym (c .if1 .left) ∙ effect-told n _ i (c .before .has-effect .ensures n _ p less binds) in
+          (sym (add-zero (c .before .before .before .args .count)) ∙ ap (λ b. c .before .before .before .args .count + (if b then 1 else 0)) e, λ j lt. without-effect (markAt (c .before .before .before .args .marks .now) j) (eqb j (c .before .before .before .args .k)) e),
+      (omega arith, c .before .before .before .pre .2),
+    )))

@@ -1,6 +1,7 @@
+use Rattle.prepared.proofs.Known.{its-limits}
 use native.Mathlib.Omega.{arith}
 use mathlib.Core.Path.{sym, _∙_}
-use Rattle.row_numbers.proofs.Tabled.{count-passes, count-fails}
+use Rattle.row_numbers.proofs.Tabled.{effect-told, count-passes, count-fails}
 use borrow.Author.Needs.{needs}
 use Rattle.row_numbers.proofs.walk.count_one.Statement.{statement}
 use Rattle.row_numbers.proofs.walk.count_one.Tie as tie
@@ -11,5 +12,5 @@ count-one-spec =
     (tie.spec
     (λ c κs. search needs)
     (λ c. search needs)
-    (λ c. (λ n own t i listed binds inside is. count-passes n t i (listed .limits) (listed .stands) inside (sym (c .if1 .taken) ∙ c .before .passes .ensures n own t i listed binds) is, (omega arith, omega arith)))
-    (λ c. (λ n own t i listed binds inside is. count-fails n t i (listed .limits) (listed .stands) inside (sym (c .if1 .left) ∙ c .before .passes .ensures n own t i listed binds) is, (omega arith, omega arith))))
+    (λ c. (λ n i p lt binds inside is. count-passes n _ i (its-limits p) lt inside (sym (c .if1 .taken) ∙ effect-told n _ i (c .before .has-effect .ensures n _ p lt binds)) is, (omega arith, omega arith)))
+    (λ c. (λ n i p lt binds inside is. count-fails n _ i (its-limits p) lt inside (sym (c .if1 .left) ∙ effect-told n _ i (c .before .has-effect .ensures n _ p lt binds)) is, (omega arith, omega arith))))

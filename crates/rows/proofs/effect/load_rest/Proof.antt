@@ -15,4 +15,4 @@ load-rest-spec =
     (λ c κs. search needs)
     (λ c. search needs)
     (λ c. search needs)
-    (λ c. λ n guards colours d ht binds x y k. effect-rest (now (c .before .before .before .before .before .before .before .before .before .before .before .before .before .before .before .before .before .before .before .args .env)) d _ ht colours binds x y k (c .before .before .before .before .before .before .before .before .before .before .before .load-kind .ensures) (c .before .before .before .before .load-kind2 .ensures)))
+    (λ c. λ n colours p ht binds x y k. effect-rest (now (c .before .before .before .before .before .before .before .before .before .before .before .before .before .before .before .before .before .args .env)) p _ ht colours binds x y k (c .before .before .before .before .before .before .before .before .before .before .before .load-kind .ensures) (c .before .before .before .before .load-kind2 .ensures)))

@@ -1,6 +1,6 @@
 use denote.Ref.{now}
-use borrow.Author.Needs.{needs}
 use Rattle.rows.proofs.Effects.{effect-nothing, effect-takes}
+use borrow.Author.Needs.{needs}
 use Rattle.rows.proofs.effect.load_takes.Statement.{statement}
 use Rattle.rows.proofs.effect.load_takes.Tie as tie
 
@@ -8,13 +8,10 @@ pub load-takes-spec : {M : Type 1} → statement M
 load-takes-spec =
     tie.close
     (tie.spec
-    (λ c. search needs)
-    (λ c. search needs)
     (λ c κs. search needs)
-    (λ c κs. search needs)
-    (λ c. λ n colours d ht binds x y. effect-nothing (now (c .before .before .before .before .before .before .before .before .before .args .env)) d _ ht colours binds _ (c .before .before .wide .ensures) (c .before .guard-holds .ensures) (c .if1 .taken))
+    (λ c. λ n colours p ht binds x y. effect-nothing (now (c .before .before .before .before .before .args .env)) p _ ht colours binds (c .before .has-effect .ensures n colours p ht binds) (c .if1 .taken))
     (λ c. search needs)
     (λ c κs. search needs)
     (λ c. search needs)
     (λ c. search needs)
-    (λ c. λ n colours d ht binds x y. effect-takes (now (c .before .before .before .before .before .before .before .before .before .before .before .before .before .before .before .before .args .env)) d _ ht colours binds _ (c .before .before .before .before .before .before .before .before .before .wide .ensures) (c .before .before .before .before .before .before .before .before .guard-holds .ensures) (c .before .before .before .before .before .before .before .if1 .left) x y (c .before .before .before .before .load-kind .ensures)))
+    (λ c. λ n colours p ht binds x y. effect-takes (now (c .before .before .before .before .before .before .before .before .before .before .before .before .args .env)) p _ ht colours binds (c .before .before .before .before .before .before .before .before .has-effect .ensures n colours p ht binds) (c .before .before .before .before .before .before .before .if1 .left) x y (c .before .before .before .before .load-kind .ensures)))

@@ -1,29 +1,27 @@
 use borrow.Author.Needs.{needs}
 use native.Mathlib.Omega.{arith}
 use mathlib.Core.Path.{_≡_, refl, sym, _∙_}
-use Prim.Native.Nat.{ℕ, _≤_, _<_}
-use Rattle.reading.specs.Basics.{List, _-_, length, eqb, below, product}
+use Prim.Native.Nat.{_≤_, _<_}
+use Rattle.reading.specs.Basics.{_-_, length, eqb, below, product}
 use Rattle.firing.proofs.Running.{Searching, search-begin, below-step, below-found, below-none, stopped-in, stopped-out}
-use Rattle.net.specs.Net.{Net, flatPlaceCount, sizesOf}
-use Rattle.net_file.proofs.Formed.{formed}
-use Rattle.bindings.specs.Effect.{transitionAt}
-use Rattle.rows.specs.internal.Drawing.{room}
+use Rattle.net.specs.Net.{Net, flatPlaceCount, sizesOf, transitionAt}
+use Rattle.rows.specs.internal.Effects.{room}
 use Rattle.bindings.specs.internal.Bindings.{Binds, numbered}
-use Rattle.rows.specs.internal.Prepared.{Prepared, fireBinding}
+use Rattle.prepared.specs.internal.Prepared.{Prepared}
+use Rattle.bindings.specs.internal.Bindings.{fireBinding}
 use Rattle.bindings.proofs.Owning.{first-binds}
-use Rattle.rows.proofs.Prepared.{limited}
 use Rattle.search.proofs.engine.search_bindings.Statement.{statement}
 use Rattle.search.proofs.engine.search_bindings.Tie as tie
 
 abbrev Inv-loop : tie.InvT-loop
-Inv-loop s sizes vars own guards arcs t many m places₀ amounts₀ env₀ i₀ places amounts env i =
-    ((n : Net) (uses : List ℕ) (transitions : ℕ) → Prepared s n sizes vars own uses guards arcs transitions → t < transitions → many ≡ product (sizesOf n (transitionAt n t))
+Inv-loop s plan t many m places₀ amounts₀ env₀ i₀ places amounts env i =
+    ((n : Net) → Prepared s n plan → t < length (n .transitions) → many ≡ product (sizesOf n (transitionAt n t))
     → room s n ≤ length places₀ → room s n ≤ length amounts₀ → length m ≡ flatPlaceCount n
     → Searching (λ j. eqb (fireBinding n (numbered n t j) m .answer) 0) (below many) i × (i < many → Binds n (numbered n t i) env))
     × (length places ≡ length places₀) × (length amounts ≡ length amounts₀) × (i ≤ many)
 
 abbrev μ-loop : tie.MeasureT-loop
-μ-loop s sizes vars own guards arcs t many m places₀ amounts₀ env₀ i₀ places amounts env i = many - i
+μ-loop s plan t many m places₀ amounts₀ env₀ i₀ places amounts env i = many - i
 
 pub search-bindings-spec : {M : Type 1} → statement M
 search-bindings-spec =
@@ -31,24 +29,23 @@ search-bindings-spec =
     (tie.spec
     Inv-loop
     μ-loop
-    (λ c. (λ n uses transitions ready lt counted room room' sized. (search-begin _ _, λ some. first-binds n (c .before .before .before .before .before .before .args .t) 32), refl, refl, omega arith))
+    (λ c. (λ n ready inside counted room room' sized. (search-begin _ _, λ some. first-binds n (c .before .before .before .before .args .t) 32), refl, refl, omega arith))
     (λ c κs. search needs)
     (λ c. search needs)
     (λ c. search needs)
-    (λ c. λ n uses transitions ready lt counted room room' sized.
-    let so-far = c .before .before .before .before .before .before .before .before .before .before .loop .inv .0 n uses transitions ready lt counted room room' sized in
-    let told = c .before .before .before .before .before .fires-bound .ensures n _ (ready .drawing) (omega (arith, ready .transitions-are)) (so-far .1 (c .before .before .before .before .before .before .before .before .before .loop-test .taken)) (omega (arith, c .before .before .before .before .before .before .before .before .before .before .loop .inv .1)) (omega (arith, c .before .before .before .before .before .before .before .before .before .before .loop .inv .2)) sized in
-    below-found _ (c .before .before .before .before .before .before .before .before .before .before .before .before .before .before .before .before .before .args .many) (so-far .0) (c .before .before .before .before .before .before .before .before .before .loop-test .taken) (sym told ∙ c .if1 .taken) ∙ sym (stopped-in _ _ (c .before .before .before .before .before .before .before .before .before .loop-test .taken)))
+    (λ c. λ n ready inside counted room room' sized.
+    let so-far = c .before .before .before .before .before .before .before .before .before .before .loop .inv .0 n ready inside counted room room' sized in
+    let told = c .before .before .before .before .before .fires-bound .ensures n _ ready inside (so-far .1 (c .before .before .before .before .before .before .before .before .before .loop-test .taken)) (omega (arith, c .before .before .before .before .before .before .before .before .before .before .loop .inv .1)) (omega (arith, c .before .before .before .before .before .before .before .before .before .before .loop .inv .2)) sized in
+    below-found _ (c .before .before .before .before .before .before .before .before .before .before .before .before .before .before .before .args .many) (so-far .0) (c .before .before .before .before .before .before .before .before .before .loop-test .taken) (sym told ∙ c .if1 .taken) ∙ sym (stopped-in _ _ (c .before .before .before .before .before .before .before .before .before .loop-test .taken)))
     (λ c κs. search needs)
     (λ c. omega (arith, c .before .before .before .before .before .before .before .before .before .before .before .loop-test .taken))
     (λ c. omega (arith, c .before .before .before .before .before .before .before .before .before .before .before .loop-test .taken))
     (λ c. (
-      λ n uses transitions ready lt counted room room' sized.
-          let so-far = c .before .before .before .before .before .before .before .before .before .before .before .before .loop .inv .0 n uses transitions ready lt counted room room' sized in
-          let inside : c .before .before .before .before .before .before .before .before .before .before .before .before .before .before .before .before .before .before .before .args .t < length (n .transitions) = omega (arith, ready .transitions-are) in
-          let told = c .before .before .before .before .before .before .before .fires-bound .ensures n _ (ready .drawing) inside (so-far .1 (c .before .before .before .before .before .before .before .before .before .before .before .loop-test .taken)) (omega (arith, c .before .before .before .before .before .before .before .before .before .before .before .before .loop .inv .1)) (omega (arith, c .before .before .before .before .before .before .before .before .before .before .before .before .loop .inv .2)) sized in (
-            below-step _ (c .before .before .before .before .before .before .before .before .before .before .before .before .before .before .before .before .before .before .before .args .many) (so-far .0) (c .before .before .before .before .before .before .before .before .before .before .before .loop-test .taken) (sym told ∙ c .before .before .if1 .left),
-            λ more. c .next-binding .ensures n _ (ready .owned) (limited ready) (formed _ n (ready .read)) inside (omega (arith, counted)) (so-far .1 (c .before .before .before .before .before .before .before .before .before .before .before .loop-test .taken)),
+      λ n ready inside counted room room' sized.
+          let so-far = c .before .before .before .before .before .before .before .before .before .before .before .before .loop .inv .0 n ready inside counted room room' sized in
+          let told = c .before .before .before .before .before .before .before .fires-bound .ensures n _ ready inside (so-far .1 (c .before .before .before .before .before .before .before .before .before .before .before .loop-test .taken)) (omega (arith, c .before .before .before .before .before .before .before .before .before .before .before .before .loop .inv .1)) (omega (arith, c .before .before .before .before .before .before .before .before .before .before .before .before .loop .inv .2)) sized in (
+            below-step _ (c .before .before .before .before .before .before .before .before .before .before .before .before .before .before .before .before .before .args .many) (so-far .0) (c .before .before .before .before .before .before .before .before .before .before .before .loop-test .taken) (sym told ∙ c .before .before .if1 .left),
+            λ more. c .next-binding .ensures _ n _ ready inside (omega (arith, counted)) (so-far .1 (c .before .before .before .before .before .before .before .before .before .before .before .loop-test .taken)),
           ),
       search needs,
       search needs,
@@ -56,4 +53,4 @@ search-bindings-spec =
     ))
     (λ c. search needs)
     (λ c. search needs)
-    (λ c. λ n uses transitions ready lt counted room room' sized. below-none _ (c .before .before .before .before .before .before .before .before .args .many) (c .before .loop .inv .0 n uses transitions ready lt counted room room' sized .0) (c .loop-test .left) ∙ sym (stopped-out _ _ (c .loop-test .left))))
+    (λ c. λ n ready inside counted room room' sized. below-none _ (c .before .before .before .before .before .before .args .many) (c .before .loop .inv .0 n ready inside counted room room' sized .0) (c .loop-test .left) ∙ sym (stopped-out _ _ (c .loop-test .left))))

@@ -12,15 +12,15 @@ use Rattle.sums.proofs.sum.sum_counts.Reads as sum-counts-reads
 use Rattle.sums.proofs.sum.+sum_runs.{statement}
 use Rattle.sums.proofs.sum.+sum_runs.Tie.{close}
 
-abbrev μ-sum-runs : Measures 9 sum-runs-kinds.ps ℕ
-μ-sum-runs κs a = a .1 .1 .1 .1 .1 .1 .0
+abbrev μ-sum-runs : Measures 6 sum-runs-kinds.ps ℕ
+μ-sum-runs κs a = a .1 .1 .1 .1 .0
 
-abbrev sum-runs-at : ℕ → In 9 sum-runs-kinds.ps
-sum-runs-at t = and 9 sum-runs-kinds.ps (is 9 sum-runs-kinds.ps μ-sum-runs t) sum-runs.Pre
+abbrev sum-runs-at : ℕ → In 6 sum-runs-kinds.ps
+sum-runs-at t = and 6 sum-runs-kinds.ps (is 6 sum-runs-kinds.ps μ-sum-runs t) sum-runs.Pre
 
-abbrev sum-runs-below : ℕ → In 9 sum-runs-kinds.ps
+abbrev sum-runs-below : ℕ → In 6 sum-runs-kinds.ps
 sum-runs-below t =
-    and 9 sum-runs-kinds.ps (falls 9 sum-runs-kinds.ps _<_ μ-sum-runs t) sum-runs.Pre
+    and 6 sum-runs-kinds.ps (falls 6 sum-runs-kinds.ps _<_ μ-sum-runs t) sum-runs.Pre
 
 pub +sum-runs-spec : {M : Type 1} → statement M
 +sum-runs-spec = close μ-sum-runs λ t. sum-runs-lts.spec (

@@ -1,11 +1,12 @@
 use borrow.Author.Needs.{needs}
 use native.Mathlib.Omega.{arith}
 use denote.Ref.{now}
-use Rattle.net.specs.Net.{scope}
+use Rattle.reading.specs.Basics.{byteAt, eqb}
+use Rattle.plan.specs.internal.Layout.{pairIn}
 use Rattle.net.specs.Reader.{readExpression}
-use Rattle.evaluation.specs.internal.Evaluated.{placeBy}
+use Rattle.evaluation.specs.internal.Evaluated.{scopeIn, placeBy}
 use Rattle.sums.proofs.Listing.{times-listed, joined-listed, all-listed, amount-listed, times-told, either-told, listed-past, listed-shut, listed-stray}
-use Prim.Native.Nat.{ℕ, _+_, _<_}
+use Prim.Native.Nat.{ℕ, _+_, _-_, _<_}
 use borrow.Fn.Kinds.{In}
 use borrow.Fn.PlainCycle.{Measures, is, falls, and}
 use Rattle.sums.proofs.terms.list_inside.Reads as list-inside
@@ -29,58 +30,58 @@ use Rattle.sums.proofs.terms.nothing.Reads as nothing-reads
 use Rattle.sums.proofs.terms.store_below.Reads as store-below-reads
 use Rattle.evaluation.proofs.eval_rank.Reads as eval-rank-reads
 use Rattle.reading.proofs.word_at.Reads as word-at-reads
+use Rattle.plan.proofs.is_pair.Reads as is-pair-reads
+use Rattle.plan.proofs.ranks_of.Reads as ranks-of-reads
 use Rattle.sums.proofs.terms.+list_inside+list_joined+list_terms+list_times.{statement}
 use Rattle.sums.proofs.terms.+list_inside+list_joined+list_terms+list_times.Tie.{close}
 
-abbrev μ-list-inside : Measures 9 list-inside-kinds.ps ℕ
-μ-list-inside κs a = a .1 .1 .1 .1 .1 .1 .0 + a .1 .1 .1 .1 .1 .1 .0 + a .1 .1 .1 .1 .1 .1 .0 + 1
+abbrev μ-list-inside : Measures 6 list-inside-kinds.ps ℕ
+μ-list-inside κs a = a .1 .1 .1 .1 .0 .left + a .1 .1 .1 .1 .0 .left + a .1 .1 .1 .1 .0 .left + 1
 
-abbrev μ-list-joined : Measures 9 list-joined-kinds.ps ℕ
-μ-list-joined κs a = a .1 .1 .1 .1 .1 .1 .1 .0 + a .1 .1 .1 .1 .1 .1 .1 .0 + a .1 .1 .1 .1 .1 .1 .1 .0 + 3
+abbrev μ-list-joined : Measures 6 list-joined-kinds.ps ℕ
+μ-list-joined κs a = a .1 .1 .1 .1 .0 .left + a .1 .1 .1 .1 .0 .left + a .1 .1 .1 .1 .0 .left
 
-abbrev μ-list-terms : Measures 9 list-terms-kinds.ps ℕ
-μ-list-terms κs a = a .1 .1 .1 .1 .1 .1 .0 + a .1 .1 .1 .1 .1 .1 .0 + a .1 .1 .1 .1 .1 .1 .0 + 2
+abbrev μ-list-terms : Measures 6 list-terms-kinds.ps ℕ
+μ-list-terms κs a = a .1 .1 .1 .1 .0 .left + a .1 .1 .1 .1 .0 .left + a .1 .1 .1 .1 .0 .left + 2
 
-abbrev μ-list-times : Measures 9 list-times-kinds.ps ℕ
-μ-list-times κs a = a .1 .1 .1 .1 .1 .1 .1 .0 + a .1 .1 .1 .1 .1 .1 .1 .0 + a .1 .1 .1 .1 .1 .1 .1 .0 + 3
+abbrev μ-list-times : Measures 6 list-times-kinds.ps ℕ
+μ-list-times κs a = a .1 .1 .1 .1 .0 .left + a .1 .1 .1 .1 .0 .left + a .1 .1 .1 .1 .0 .left
 
-abbrev list-inside-at : ℕ → In 9 list-inside-kinds.ps
+abbrev list-inside-at : ℕ → In 6 list-inside-kinds.ps
 list-inside-at t =
-    and 9 list-inside-kinds.ps (is 9 list-inside-kinds.ps μ-list-inside t) list-inside.Pre
+    and 6 list-inside-kinds.ps (is 6 list-inside-kinds.ps μ-list-inside t) list-inside.Pre
 
-abbrev list-inside-below : ℕ → In 9 list-inside-kinds.ps
+abbrev list-inside-below : ℕ → In 6 list-inside-kinds.ps
 list-inside-below t =
-    and 9 list-inside-kinds.ps (falls 9 list-inside-kinds.ps _<_ μ-list-inside t) list-inside.Pre
+    and 6 list-inside-kinds.ps (falls 6 list-inside-kinds.ps _<_ μ-list-inside t) list-inside.Pre
 
-abbrev list-joined-at : ℕ → In 9 list-joined-kinds.ps
+abbrev list-joined-at : ℕ → In 6 list-joined-kinds.ps
 list-joined-at t =
-    and 9 list-joined-kinds.ps (is 9 list-joined-kinds.ps μ-list-joined t) list-joined.Pre
+    and 6 list-joined-kinds.ps (is 6 list-joined-kinds.ps μ-list-joined t) list-joined.Pre
 
-abbrev list-joined-below : ℕ → In 9 list-joined-kinds.ps
+abbrev list-joined-below : ℕ → In 6 list-joined-kinds.ps
 list-joined-below t =
-    and 9 list-joined-kinds.ps (falls 9 list-joined-kinds.ps _<_ μ-list-joined t) list-joined.Pre
+    and 6 list-joined-kinds.ps (falls 6 list-joined-kinds.ps _<_ μ-list-joined t) list-joined.Pre
 
-abbrev list-terms-at : ℕ → In 9 list-terms-kinds.ps
+abbrev list-terms-at : ℕ → In 6 list-terms-kinds.ps
 list-terms-at t =
-    and 9 list-terms-kinds.ps (is 9 list-terms-kinds.ps μ-list-terms t) list-terms.Pre
+    and 6 list-terms-kinds.ps (is 6 list-terms-kinds.ps μ-list-terms t) list-terms.Pre
 
-abbrev list-terms-below : ℕ → In 9 list-terms-kinds.ps
+abbrev list-terms-below : ℕ → In 6 list-terms-kinds.ps
 list-terms-below t =
-    and 9 list-terms-kinds.ps (falls 9 list-terms-kinds.ps _<_ μ-list-terms t) list-terms.Pre
+    and 6 list-terms-kinds.ps (falls 6 list-terms-kinds.ps _<_ μ-list-terms t) list-terms.Pre
 
-abbrev list-times-at : ℕ → In 9 list-times-kinds.ps
+abbrev list-times-at : ℕ → In 6 list-times-kinds.ps
 list-times-at t =
-    and 9 list-times-kinds.ps (is 9 list-times-kinds.ps μ-list-times t) list-times.Pre
+    and 6 list-times-kinds.ps (is 6 list-times-kinds.ps μ-list-times t) list-times.Pre
 
-abbrev list-times-below : ℕ → In 9 list-times-kinds.ps
+abbrev list-times-below : ℕ → In 6 list-times-kinds.ps
 list-times-below t =
-    and 9 list-times-kinds.ps (falls 9 list-times-kinds.ps _<_ μ-list-times t) list-times.Pre
+    and 6 list-times-kinds.ps (falls 6 list-times-kinds.ps _<_ μ-list-times t) list-times.Pre
 
 pub +list-inside+list-joined+list-terms+list-times-spec : {M : Type 1} → statement M
 +list-inside+list-joined+list-terms+list-times-spec =
     close μ-list-inside μ-list-joined μ-list-terms μ-list-times (λ t. list-inside-lts.spec (
-      word-at-reads.Asked,
-      word-at-reads.Learnt,
       list-times-below t,
       list-times.Post,
       anew-reads.Asked,
@@ -93,27 +94,20 @@ pub +list-inside+list-joined+list-terms+list-times-spec : {M : Type 1} → state
     (list-inside-at t)
     list-inside.Post
     (λ c. search needs)
-    (λ c. search needs)
-    (λ c κs. search needs)
-    (λ c. search needs)
-    (λ c. search needs)
-    (λ c. search needs)
     (λ c κs. search needs)
     (λ c κs. search needs)
     (λ c. search needs)
     (λ c. search needs)
-    (λ c. rw (c .anew .ensures) (λ known first second. times-told _ _ _ _ _ _ _ _ _ _ _ _ (c .before .before .before .before .before .before .before .before .before .before .before .before .before .before .pre .1 .1 .0 .0) _ (c .before .before .before .before .before .before .before .before .before .if1 .taken) (rw (c .before .before .before .before .before .before .before .before .word-at .ensures .0) at (c .before .before .before .before .before .list-times .ensures .0 known first second (c .before .before .before .before .before .before .before .before .before .before .before .before .before .before .args .at))), c .before .before .before .before .before .list-times .ensures .1))
+    (λ c. rw (c .anew .ensures) (c .before .before .before .before .before .list-times .ensures))
     (λ c κs. search needs)
     (λ c. (λ known first second. listed-stray _ _ _ _ _ _ _ _ _ _ _ _ _ (search needs) (search needs) (λ e. omega arith) (λ e. omega arith) (c .before .before .if1 .left), omega (arith, c .nothing .ensures)))
     (λ c κs. search needs)
     (λ c. (λ known first second. listed-stray _ _ _ _ _ _ _ _ _ _ _ _ _ (search needs) (search needs) (λ e. omega arith) (λ e. omega arith) (c .before .before .before .if1 .left), omega (arith, c .nothing2 .ensures)))
-    (λ c. search needs)
-    (λ c. search needs)
     (λ c κs. search needs)
     (λ c κs. search needs)
     (λ c. search needs)
     (λ c. search needs)
-    (λ c. rw (c .anew2 .ensures) (λ known first second. either-told _ _ _ _ _ _ _ _ _ _ _ _ (search needs) _ (omega arith) (omega arith) (c .before .before .before .before .before .list-joined .ensures .0 known first second _), c .before .before .before .before .before .list-joined .ensures .1)))
+    (λ c. rw (c .anew2 .ensures) (c .before .before .before .before .before .list-joined .ensures)))
     (λ t. list-joined-lts.spec (
       list-terms-below t,
       list-terms.Post,
@@ -124,20 +118,27 @@ pub +list-inside+list-joined+list-terms+list-times-spec : {M : Type 1} → state
     )
     (list-joined-at t)
     list-joined.Post
+    (λ c. search needs)
+    (λ c. search needs)
+    (λ c. search needs)
     (λ c κs. search needs)
     (λ c κs. search needs)
     (λ c κs. search needs)
     (λ c κs. search needs)
     (λ c. search needs)
     (λ c. search needs)
-    (λ c. let a = c .before .before .before .before .before .before .before .before .before .before .before .before .before .before .before .before .before .before .before .before .before .before .before .before .args in (λ known first second at. rw (c .join .ensures) (joined-listed (scope (now (now (a .sizes))) (now (now (a .vars))) known) _ _ _ _ _ (readExpression (now (now (a .s))) (scope (now (now (a .sizes))) (now (now (a .vars))) known) (placeBy (a .paired) first second) (a .left)) at (a .next) _ _ _ (c .before .before .before .before .before .before .before .before .before .before .before .before .before .before .before .before .before .before .before .list-terms .ensures .0 known first second) _ _ _ (c .before .before .before .before .before .before .before .before .before .before .before .before .list-terms2 .ensures .0 known first second) (a .less) _ _ _ (c .before .before .before .before .before .merge .ensures .0)), c .before .before .before .before .before .merge .ensures .1)))
+    (λ c. let a = c .before .before .before .before .before .before .before .before .before .before .before .before .before .before .before .before .before .before .before .before .before .before .before .before .before .before .before .args in (λ known first second. rw (c .join .ensures) (either-told _ _ _ _ _ _ _ _ _ _ _ _ (c .before .before .before .before .before .before .before .before .before .before .before .before .before .before .before .before .before .before .before .before .before .before .before .before .before .before .before .pre .1 .1 .0 .0) _ (c .before .before .before .before .before .before .before .before .before .before .before .before .before .before .before .before .before .before .before .before .before .before .before .before .before .before .before .pre .1 .1 .1 .0) (c .before .before .before .before .before .before .before .before .before .before .before .before .before .before .before .before .before .before .before .before .before .before .before .before .before .before .before .pre .1 .1 .1 .1) (joined-listed (scopeIn (now (a .plan)) known) _ _ _ _ _ (readExpression (now (now (a .s))) (scopeIn (now (a .plan)) known) (placeBy (pairIn (a .entry)) first second) (a .spot .left - 1)) (a .spot .at) (a .spot .at + 1) _ _ _ (c .before .before .before .before .before .before .before .before .before .before .before .before .before .before .before .before .before .before .before .list-terms .ensures .0 known first second) _ _ _ (c .before .before .before .before .before .before .before .before .before .before .before .before .list-terms2 .ensures .0 known first second) (eqb (byteAt (now (now (a .s))) (a .spot .at)) 0x43) _ _ _ (c .before .before .before .before .before .merge .ensures .0))), c .before .before .before .before .before .merge .ensures .1)))
     (λ t. list-terms-lts.spec (
       nothing-reads.Asked,
       nothing-reads.Learnt,
       word-at-reads.Asked,
       word-at-reads.Learnt,
+      is-pair-reads.Asked,
+      is-pair-reads.Learnt,
       eval-rank-reads.Asked,
       eval-rank-reads.Learnt,
+      ranks-of-reads.Asked,
+      ranks-of-reads.Learnt,
       store-below-reads.Asked,
       store-below-reads.Learnt,
       list-inside-below t,
@@ -156,22 +157,26 @@ pub +list-inside+list-joined+list-terms+list-times-spec : {M : Type 1} → state
     (λ c. search needs)
     (λ c. (λ known first second. rw (c .word-at .ensures .0) (all-listed _ _ _ _ _ _ _ _ _ _ (c .before .if2 .taken)), omega arith))
     (λ c κs. search needs)
-    (λ c. (λ known first second. listed-shut _ _ _ _ _ _ _ _ _ _ _ _ _ (search needs) (c .before .before .if2 .left), omega (arith, c .nothing2 .ensures)))
-    (λ c. search needs)
+    (λ c. (λ known first second. listed-shut _ _ _ _ _ _ _ _ _ _ _ _ _ (search needs) (c .before .before .before .if2 .left), omega (arith, c .nothing2 .ensures)))
     (λ c κs. search needs)
     (λ c. search needs)
     (λ c κs. search needs)
     (λ c. search needs)
     (λ c κs. search needs)
     (λ c. search needs)
+    (λ c κs. search needs)
+    (λ c κs. search needs)
     (λ c. search needs)
-    (λ c. (λ known first second. amount-listed _ _ _ _ _ _ _ _ _ _ _ _ (search needs) _ _ (rw (c .before .before .before .before .before .before .before .word-at2 .ensures .0) at (c .before .before .before .before .store-below .ensures .0)) (c .before .before .before .before .store-below .ensures .1 .0) (c .before .before .before .before .before .before .before .before .eval-rank .ensures known first second _ _) (c .before .before .before .before .before .before .before .before .before .before .before .if4 .taken), c .before .before .before .before .store-below .ensures .1 .1))
+    (λ c. search needs)
+    (λ c. (λ known first second. rw (← c .before .before .before .before .before .before .before .before .before .before .before .is-pair .ensures, ← c .before .before .before .before .before .ranks-of .ensures .0) (amount-listed _ _ _ _ _ _ _ _ _ _ _ _ (search needs) _ _ (rw (c .before .before .before .before .before .before .before .before .word-at2 .ensures .0) at (c .before .before .before .before .store-below .ensures .0)) (c .before .before .before .before .store-below .ensures .1 .0) (c .before .before .before .before .before .before .before .before .before .eval-rank .ensures known first second _ _) (c .before .before .before .before .before .before .before .before .before .before .before .before .if4 .taken)), c .before .before .before .before .store-below .ensures .1 .1))
     (λ c κs. search needs)
     (λ c κs. search needs)
     (λ c. search needs)
     (λ c. search needs)
     (λ c. rw (c .anew .ensures) (c .before .before .before .before .before .list-inside .ensures)))
     λ t. list-times-lts.spec (
+      word-at-reads.Asked,
+      word-at-reads.Learnt,
       list-terms-below t,
       list-terms.Post,
       scale-reads.Asked,
@@ -181,9 +186,14 @@ pub +list-inside+list-joined+list-terms+list-times-spec : {M : Type 1} → state
     )
     (list-times-at t)
     list-times.Post
+    (λ c. search needs)
+    (λ c κs. search needs)
+    (λ c. search needs)
+    (λ c. search needs)
+    (λ c. search needs)
     (λ c κs. search needs)
     (λ c κs. search needs)
     (λ c κs. search needs)
     (λ c. search needs)
     (λ c. search needs)
-    (λ c. let a = c .before .before .before .before .before .before .before .before .before .before .before .before .before .before .args in (λ known first second at. rw (c .scaled .ensures) (times-listed _ _ _ _ _ _ (readExpression (now (now (a .s))) (scope (now (now (a .sizes))) (now (now (a .vars))) known) (placeBy (a .paired) first second) (a .left)) at (a .next) _ _ _ (c .before .before .before .before .before .before .before .before .before .list-terms .ensures .0 known first second) _ _ (c .before .before .before .scale .ensures)), c .before .before .before .before .before .before .before .before .before .list-terms .ensures .1))
+    (λ c. let a = c .before .before .before .before .before .before .before .before .before .before .before .before .before .before .before .before .before .args in (λ known first second. rw (c .scaled .ensures) (times-told _ _ _ _ _ _ _ _ _ _ _ _ (c .before .before .before .before .before .before .before .before .before .before .before .before .before .before .before .before .before .pre .1 .1 .0 .0) _ (c .before .before .before .before .before .before .before .before .before .before .before .before .before .before .before .before .before .pre .1 .1 .1) (rw (← c .before .before .before .before .before .before .before .before .before .before .before .before .before .word-at .ensures .0) (times-listed _ _ _ _ _ _ (readExpression (now (now (a .s))) (scopeIn (now (a .plan)) known) (placeBy (pairIn (a .entry)) first second) (a .spot .left - 1)) (a .spot .at) (a .spot .at + 3) _ _ _ (c .before .before .before .before .before .before .before .before .before .list-terms .ensures .0 known first second) _ _ (c .before .before .before .scale .ensures)))), c .before .before .before .before .before .before .before .before .before .list-terms .ensures .1))

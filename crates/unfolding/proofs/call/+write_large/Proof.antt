@@ -1,7 +1,7 @@
 use borrow.Author.Needs.{needs}
 use native.Mathlib.Omega.{arith}
 use Rattle.reading.specs.Basics.{if_then_else_}
-use Rattle.rows.proofs.Prepared.{most-room}
+use Rattle.rows.proofs.Fires.{most-room}
 use Rattle.row_numbers.proofs.Marking.{blank-words}
 use Prim.Native.Nat.{ℕ, _<_}
 use borrow.Fn.Kinds.{In}
@@ -13,16 +13,16 @@ use Rattle.unfolding.proofs.call.write_with.Reads as write-with-reads
 use Rattle.unfolding.proofs.call.+write_large.{statement}
 use Rattle.unfolding.proofs.call.+write_large.Tie.{close}
 
-abbrev μ-write-large : Measures 8 write-large-kinds.ps ℕ
-μ-write-large κs a = if a .1 .1 .1 .1 .1 .1 .1 .1 .1 .1 .0 then 1 else 0
+abbrev μ-write-large : Measures 4 write-large-kinds.ps ℕ
+μ-write-large κs a = if a .1 .1 .1 .1 .0 then 1 else 0
 
-abbrev write-large-at : ℕ → In 8 write-large-kinds.ps
+abbrev write-large-at : ℕ → In 4 write-large-kinds.ps
 write-large-at t =
-    and 8 write-large-kinds.ps (is 8 write-large-kinds.ps μ-write-large t) write-large.Pre
+    and 4 write-large-kinds.ps (is 4 write-large-kinds.ps μ-write-large t) write-large.Pre
 
-abbrev write-large-below : ℕ → In 8 write-large-kinds.ps
+abbrev write-large-below : ℕ → In 4 write-large-kinds.ps
 write-large-below t =
-    and 8 write-large-kinds.ps (falls 8 write-large-kinds.ps _<_ μ-write-large t) write-large.Pre
+    and 4 write-large-kinds.ps (falls 4 write-large-kinds.ps _<_ μ-write-large t) write-large.Pre
 
 pub +write-large-spec : {M : Type 1} → statement M
 +write-large-spec = close μ-write-large λ t. write-large-lts.spec (
@@ -33,11 +33,11 @@ pub +write-large-spec : {M : Type 1} → statement M
 )
     (write-large-at t)
     write-large.Post
-    (λ c κs. (rw (← c .before .before .before .before .before .before .before .before .pre .0, c .before .if2 .taken) (omega arith), search needs))
+    (λ c κs. (rw (← c .before .before .before .before .before .before .pre .0, c .before .if2 .taken) (omega arith), search needs))
     (λ c. search needs)
     (λ c. search needs)
     (λ c. search needs)
     (λ c. search needs)
-    (λ c κs. ((c .before .before .before .before .before .before .before .before .before .before .pre .1 .0 .0, c .before .before .before .before .before .before .before .before .before .before .pre .1 .0 .1, c .before .before .before .before .before .before .before .before .before .before .pre .1 .0 .2, (λ n read. omega (arith, most-room (c .before .before .before .before .before .before .before .before .before .before .args .s .now) n read)), (λ n read. omega (arith, most-room (c .before .before .before .before .before .before .before .before .before .before .args .s .now) n read)), search needs, blank-words 2048), c .before .before .before .before .before .before .before .before .before .before .pre .1 .1))
+    (λ c κs. ((c .before .before .before .before .before .before .before .before .pre .1 .0, (λ n read. omega (arith, most-room (c .before .before .before .before .before .before .before .before .args .s .now) n read)), (λ n read. omega (arith, most-room (c .before .before .before .before .before .before .before .before .args .s .now) n read)), search needs, blank-words 2048), c .before .before .before .before .before .before .before .before .pre .1 .1))
     (λ c. search needs)
     (λ c. search needs)

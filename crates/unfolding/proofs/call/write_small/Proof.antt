@@ -10,6 +10,6 @@ write-small-spec =
     (tie.spec
     (λ c. search needs)
     (λ c. search needs)
-    (λ c κs. ((c .before .before .before .before .before .before .before .before .before .pre .0 .0, c .before .before .before .before .before .before .before .before .before .pre .0 .1, c .before .before .before .before .before .before .before .before .before .pre .0 .2, (λ n read. omega (arith, c .before .before .before .before .before .before .before .before .before .pre .0 .3 n read)), (λ n read. omega (arith, c .before .before .before .before .before .before .before .before .before .pre .0 .3 n read)), search needs, blank-words 2048), c .before .before .before .before .before .before .before .before .before .pre .1))
+    (λ c κs. ((c .before .before .before .before .before .before .before .pre .0 .0, (λ n read. omega (arith, c .before .before .before .before .before .before .before .pre .0 .1 n read)), (λ n read. omega (arith, c .before .before .before .before .before .before .before .pre .0 .1 n read)), search needs, blank-words 2048), c .before .before .before .before .before .before .before .pre .1))
     (λ c. search needs)
     (λ c. search needs))

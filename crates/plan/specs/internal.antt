@@ -1,0 +1,2 @@
+-- What the code's own tables, lists and enums stand for. Contracts between functions and proofs cite these; no call for users does.
+pub mod Layout

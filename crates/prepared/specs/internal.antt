@@ -1,0 +1,6 @@
+-- What the code's own tables, lists and enums stand for. Contracts between functions and proofs cite these; no call for users does.
+pub mod Packed
+pub mod TransitionVariables
+pub mod Drawing
+pub mod Prepared
+pub mod Filled
