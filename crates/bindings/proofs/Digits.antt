@@ -190,25 +190,25 @@ module _ (n : Net) where
       ∙ at-map (bound t) (choices (sizesOf n (transitionAt n t))) i (choices-at (sizesOf n (transitionAt n t)) i inside)
 
   -- each binding has a transition and a number there
-  pub record Placed (j : ℕ) : Type 0 where
+  pub record BindingPlaced (j : ℕ) : Type 0 where
     pub transition : ℕ
     pub index : ℕ
     pub stands : transition < length (n .transitions)
     pub inside : index < product (sizesOf n (transitionAt n transition))
     pub is : j ≡ before n transition + index
 
-  placed-below : (j k : ℕ) → k ≤ length (n .transitions) → j < before n k → Placed j
+  placed-below : (j k : ℕ) → k ≤ length (n .transitions) → j < before n k → BindingPlaced j
   placed-below j zero le lt = absurd (omega arith)
   placed-below j (suc k) le lt = go (ltb j (before n k)) refl (placed-below j k (omega arith))
     where
-      go : (t : Bool) → ltb j (before n k) ≡ t → (j < before n k → Placed j) → Placed j
+      go : (t : Bool) → ltb j (before n k) ≡ t → (j < before n k → BindingPlaced j) → BindingPlaced j
       go true e ih = ih (ltb-true j (before n k) e)
       go false e ih =
           let h = ltb-false j (before n k) e in
           let q : before n (suc k) ≡ before n k + product (sizesOf n (transitionAt n k)) = ap (before n) (sym (add-one k)) ∙ before-next k (omega arith) in
           record { transition = k; index = j - before n k; stands = omega arith; inside = omega arith; is = omega arith }
 
-  pub placed : (j : ℕ) → j < length (bindings n) → Placed j
+  pub placed : (j : ℕ) → j < length (bindings n) → BindingPlaced j
   placed j lt = placed-below j (length (n .transitions)) (omega arith) (omega (arith, before-all))
 
 -- worked: over the sizes 2, 3 and 4 the number 17 has the colours 1, 1, 1, and these have the number 17

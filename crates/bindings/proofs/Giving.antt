@@ -20,7 +20,7 @@ use Rattle.bindings.specs.internal.SlotSteps.{Given}
 use Rattle.prepared.specs.internal.TransitionVariables.{Owned, slotSize}
 use Rattle.bindings.proofs.Digits.{number-below, digits-number, number-front}
 use Rattle.bindings.proofs.Named.{fits-padded}
-use Rattle.bindings.proofs.Owning.{coloursIn, theirs, theirSizes, theirs-apart, sizes-are, held-binds, Held, few-theirs, by-slot}
+use Rattle.bindings.proofs.Owning.{coloursIn, theirs, theirSizes, theirs-apart, sizes-are, held-binds, SlotHeld, few-theirs, by-slot}
 use Rattle.bindings.proofs.Walking.{set-held}
 
 -- the colours before k fit, their number is index, and the variables before k have them
@@ -60,7 +60,7 @@ module _ {variables sizes colours env after : List ℕ} {index k slot colour : �
         here .fit ∙ gives-none ∙ rw (ne-eqb 0 colour (λ q. omega arith))
 
   -- one that holds a variable
-  module _ (apart : Apart (λ v. v) variables) (sized : length sizes ≡ length variables) (holds : Held variables sizes k slot) where
+  module _ (apart : Apart (λ v. v) variables) (sized : length sizes ≡ length variables) (holds : SlotHeld variables sizes k slot) where
     first : drop k sizes ≡ slotSize slot ∷ drop (k + 1) sizes
     first = drop-cons sizes k 0 (omega (arith, holds .inside)) ∙ ap₂ _∷_ (sym (holds .size)) (ap (λ j. drop j sizes) (sym (add-one k)))
 

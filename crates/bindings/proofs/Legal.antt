@@ -10,7 +10,7 @@ use Rattle.net.specs.Reader.{readGuard}
 use Rattle.net.specs.Values.{holds}
 use Rattle.net.proofs.Alike.{holds-alike, holds-bound}
 use Rattle.plan.specs.internal.Layout.{guardsIn}
-use Rattle.evaluation.specs.internal.Evaluated.{scopeIn, Held}
+use Rattle.evaluation.specs.internal.Evaluated.{scopeIn, GuardHeld}
 use Rattle.evaluation.specs.declared.evaluate.Tested.{Tested}
 use Rattle.prepared.specs.internal.Prepared.{Prepared}
 use Rattle.bindings.specs.Effect.{Binding, weightsOf, colouring, guardTrue, legal, effect}
@@ -64,10 +64,10 @@ module _ {s plan : List ℕ} {n : Net} {t : ℕ} (p : Prepared s n plan) (lt : t
 
   -- it is evaluated where it stands
   pub guard-told : {at : ℕ} (env : List ℕ) (r : Tested) → at ≡ getD (guardsIn plan) t 0 → 1 ≤ at → Binds n (binding t colours) env
-      → Held (scopeIn plan (n .places)) env r (readGuard s (scopeIn plan (n .places)) 16 at) → r .holds ≡ legal n (binding t colours)
+      → GuardHeld (scopeIn plan (n .places)) env r (readGuard s (scopeIn plan (n .places)) 16 at) → r .holds ≡ legal n (binding t colours)
   guard-told env r is h binds held =
-      let there = subst (λ x. Held (scopeIn plan (n .places)) env r (readGuard s (scopeIn plan (n .places)) 16 x)) is held in
-      let whole = subst (Held (scopeIn plan (n .places)) env r) (p .drawing .guard t lt .stands (omega arith) .reads) there in
+      let there = subst (λ x. GuardHeld (scopeIn plan (n .places)) env r (readGuard s (scopeIn plan (n .places)) 16 x)) is held in
+      let whole = subst (GuardHeld (scopeIn plan (n .places)) env r) (p .drawing .guard t lt .stands (omega arith) .reads) there in
       ap (λ x. x .holds) whole
       ∙ sym (holds-alike n (scopeIn plan (n .places)) (p .drawing .sets) (p .drawing .variables) (λ v. getD env v 0) (transitionAt n t .guard))
       ∙ holds-bound n (λ v. getD env v 0) (colouring n (binding t colours)) (transitionAt n t .guard)

@@ -129,7 +129,7 @@ first-binds n t slots v e = zero-at slots v ∙ sym (zero-stands (theirs n t) (t
 
 -- ---- slots of the table
 -- slot k holds a variable, and the size of its set
-pub record Held (variables sizes : List ℕ) (k slot : ℕ) : Type 0 where
+pub record SlotHeld (variables sizes : List ℕ) (k slot : ℕ) : Type 0 where
   pub inside : k < length variables
   pub some : 1 ≤ slot
   pub variable : slotVariable slot ≡ getD variables k 0
@@ -152,7 +152,7 @@ module _ {n : Net} {own : List ℕ} (owned : Owned n own) (l : Limits n) {t : �
   few-theirs = rw length-map (l .few-variables t lt)
 
   -- it holds one, or it is 0
-  pub by-slot : {C : Type 0} {k slot : ℕ} → k < 4 → slot ≡ getD own (t * 4 + k) 0 → (slot < 1 → length (theirs n t) ≤ k → C) → (Held (theirs n t) (theirSizes n t) k slot → C) → C
+  pub by-slot : {C : Type 0} {k slot : ℕ} → k < 4 → slot ≡ getD own (t * 4 + k) 0 → (slot < 1 → length (theirs n t) ≤ k → C) → (SlotHeld (theirs n t) (theirSizes n t) k slot → C) → C
   by-slot {C} {k} {slot} less is unused used = go (ltb k (length (theirs n t))) refl
     where
       entry : slot ≡ getD (ownOf n (transitionAt n t)) k 0

@@ -19,7 +19,7 @@ use Rattle.prepared.specs.internal.TransitionVariables.{Owned, slotVariable, sl
 use Rattle.bindings.proofs.Bindings.{Fit, none, more, fit-length}
 use Rattle.bindings.proofs.Digits.{digits-length, digits-fit, digits-number, number-digits}
 use Rattle.reading.proofs.Clash.{clash}
-use Rattle.bindings.proofs.Owning.{coloursIn, theirs, theirSizes, theirs-apart, sizes-are, binds-held, held-binds, Held, map-at, in-getD, few-theirs, by-slot}
+use Rattle.bindings.proofs.Owning.{coloursIn, theirs, theirSizes, theirs-apart, sizes-are, binds-held, held-binds, SlotHeld, map-at, in-getD, few-theirs, by-slot}
 
 -- ---- one colour changed
 -- the slot of variable k is set: its colour is
@@ -64,7 +64,7 @@ module _ {variables sizes env : List ℕ} {j rest k : ℕ} (here : Walking varia
       let same : drop (k + 1) sizes ≡ drop k sizes = drop-of-length-le sizes (let h : length sizes ≤ k + 1 = omega arith in h) ∙ sym (drop-of-length-le sizes le) in
       record { fit = here .fit; is = rw (← same) (here .is) }
 
-  module _ {slot : ℕ} (room : length env ≡ 32) (apart : Apart (λ v. v) variables) (sized : length sizes ≡ length variables) (held : Held variables sizes k slot) where
+  module _ {slot : ℕ} (room : length env ≡ 32) (apart : Apart (λ v. v) variables) (sized : length sizes ≡ length variables) (held : SlotHeld variables sizes k slot) where
     abbrev v : ℕ
     v = getD variables k 0
 
@@ -146,7 +146,7 @@ module _ (n : Net) (t j : ℕ) where
       passes le same = rw same (walks-on kept (omega (arith, sizes-are n t)))
 
       -- one that holds a variable
-      module _ (room : length env ≡ 32) (held : Held (theirs n t) (theirSizes n t) (k - 1) slot) where
+      module _ (room : length env ≡ 32) (held : SlotHeld (theirs n t) (theirSizes n t) (k - 1) slot) where
         below-size : getD env (slotVariable slot) 0 < slotSize slot
         below-size = rw (held .variable, held .size) (colour-below kept room (theirs-apart n t) (sizes-are n t) held)
 
@@ -161,7 +161,7 @@ module _ (n : Net) (t j : ℕ) where
           (λ free le. passes le (turned .unused free .1))
           (λ held. go held (ltb (getD env (slotVariable slot) 0 + 1) (slotSize slot)) refl)
         where
-          go : Held (theirs n t) (theirSizes n t) (k - 1) slot → (b : Bool) → ltb (getD env (slotVariable slot) 0 + 1) (slotSize slot) ≡ b → Walking (theirs n t) (theirSizes n t) after j rest (k - 1)
+          go : SlotHeld (theirs n t) (theirSizes n t) (k - 1) slot → (b : Bool) → ltb (getD env (slotVariable slot) 0 + 1) (slotSize slot) ≡ b → Walking (theirs n t) (theirSizes n t) after j rest (k - 1)
           go held true f = clash refl e (turned .next (held .some) (ltb-true _ _ f) .0)
           go held false f =
               let le = ltb-false (getD env (slotVariable slot) 0 + 1) (slotSize slot) f in
@@ -174,7 +174,7 @@ module _ (n : Net) (t j : ℕ) where
           (λ free le. clash refl (turned .unused free .0) e)
           (λ held. go held (ltb (getD env (slotVariable slot) 0 + 1) (slotSize slot)) refl)
         where
-          go : Held (theirs n t) (theirSizes n t) (k - 1) slot → (b : Bool) → ltb (getD env (slotVariable slot) 0 + 1) (slotSize slot) ≡ b → Walking (theirs n t) (theirSizes n t) after j 0 (k - 1)
+          go : SlotHeld (theirs n t) (theirSizes n t) (k - 1) slot → (b : Bool) → ltb (getD env (slotVariable slot) 0 + 1) (slotSize slot) ≡ b → Walking (theirs n t) (theirSizes n t) after j 0 (k - 1)
           go held true f =
               let less = ltb-true (getD env (slotVariable slot) 0 + 1) (slotSize slot) f in
               goes (turned .room) held (getD env (slotVariable slot) 0 + 1) 0 (turned .next (held .some) less .1) less (omega (arith, zero-mul (slotSize slot)))

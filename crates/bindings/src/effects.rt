@@ -12,16 +12,16 @@ ghost use Rattle.bindings.specs.internal.Bindings.{Binds, binding};
 ghost use Rattle.bindings.specs.internal.Legal.{everyRow};
 
 // Whether a transition's binding has an effect: it has no guard, or its guard holds.
-pub fn has_effect(s: &[u8], plan: &[u32; 3584], env: &[u8; 32], t: usize) -> bool
+pub fn has_effect(file: &[u8], plan: &[u32; 3584], env: &[u8; 32], t: usize) -> bool
     requires { ⌜ t < 32 ⌝ }
-    ensures { λ r. ⌜ ((n : Net) (colours : List ℕ) → Prepared (now (s .entry)) n (now (plan .entry)) → t < length (n .transitions)
+    ensures { λ r. ⌜ ((n : Net) (colours : List ℕ) → Prepared (now (file .entry)) n (now (plan .entry)) → t < length (n .transitions)
         → Binds n (binding t colours) (now (env .entry)) → r ≡ legal n (binding t colours)) ⌝ }
 {
     let guard = guard_of(plan, t);
     if guard < 1 {
         return true;
     }
-    eval_guard(s, plan, env, 16, guard).holds
+    eval_guard(file, plan, env, 16, guard).holds
 }
 
 // Whether each of a transition's bindings has an effect, whatever its colours: it has no guard.

@@ -26,7 +26,7 @@ pub fn colours_of(slot: u64) -> usize
 // How many bindings a transition has.
 pub fn space_of(plan: &[u32; 3584], t: usize) -> usize
     requires { ⌜ t < 32 ⌝ }
-    ensures is { λ r. ⌜ ((s : List ℕ) (n : Net) → Prepared s n (now (plan .entry)) → t < length (n .transitions) → r ≡ product (sizesOf n (transitionAt n t))) ⌝ }
+    ensures is { λ r. ⌜ ((file : List ℕ) (n : Net) → Prepared file n (now (plan .entry)) → t < length (n .transitions) → r ≡ product (sizesOf n (transitionAt n t))) ⌝ }
     ensures small { λ r. ⌜ r ≤ 4228250625 ⌝ }
 {
     let mut space: usize = 1;
@@ -69,7 +69,7 @@ fn turn_slot(slot: u64, env: &mut [u8; 32]) -> bool
 // Goes from a transition's binding to the next; the last variable changes fastest.
 pub fn next_binding(plan: &[u32; 3584], t: usize, env: &mut [u8; 32])
     requires { ⌜ t < 32 ⌝ }
-    ensures { λ _. ⌜ ((s : List ℕ) (n : Net) (i : ℕ) → Prepared s n (now (plan .entry)) → t < length (n .transitions)
+    ensures { λ _. ⌜ ((file : List ℕ) (n : Net) (i : ℕ) → Prepared file n (now (plan .entry)) → t < length (n .transitions)
         → i + 1 < product (sizesOf n (transitionAt n t)) → Binds n (numbered n t i) (now (env .entry)) → Binds n (numbered n t (i + 1)) (now (env .exit))) ⌝ }
 {
     let mut k: usize = 4;
@@ -106,7 +106,7 @@ fn skip_slot(slot: u64, many: u16, env: &mut [u8; 32]) -> u16
 // Goes from a transition's binding on by so many.
 pub fn skip_bindings(plan: &[u32; 3584], t: usize, many: u16, env: &mut [u8; 32])
     requires { ⌜ t < 32 ⌝ }
-    ensures { λ _. ⌜ ((s : List ℕ) (n : Net) (i : ℕ) → Prepared s n (now (plan .entry)) → t < length (n .transitions)
+    ensures { λ _. ⌜ ((file : List ℕ) (n : Net) (i : ℕ) → Prepared file n (now (plan .entry)) → t < length (n .transitions)
         → i + many < product (sizesOf n (transitionAt n t)) → Binds n (numbered n t i) (now (env .entry)) → Binds n (numbered n t (i + many)) (now (env .exit))) ⌝ }
 {
     let mut rest = many;

@@ -2,13 +2,10 @@
 use bindings::Named;
 use bindings::name_order;
 use firing::fire_rest;
-use firing::some_lacks;
-use rows::Takes;
-use rows::load_rest;
-use rows::load_takes;
+use rows::Loaded;
+use rows::load_bound;
 ghost use mathlib.Core.Path.{_≡_};
-ghost use Prim.Native.Nat.{ℕ, _<_, _+_, _*_, _/_, _≤_};
-ghost use mathlib.Core.List.{List};
+ghost use Prim.Native.Nat.{_+_, _*_, _/_, _≤_};
 ghost use lib.ListN.{length, take, drop};
 ghost use Rattle.reading.specs.Basics.{items};
 ghost use Rattle.firing.specs.Firing.{fired};
@@ -16,40 +13,11 @@ ghost use Rattle.firing.specs.internal.Loops.{Ran};
 ghost use Rattle.net.specs.Net.{Net, flatPlaceCount};
 ghost use Rattle.bindings.specs.Orders.{fireOrder};
 ghost use Rattle.rows.specs.internal.Effects.{room};
-ghost use Rattle.bindings.specs.internal.Bindings.{Binds, binding};
 ghost use Rattle.prepared.specs.internal.Prepared.{Prepared};
-ghost use Rattle.bindings.specs.internal.Bindings.{fireBinding};
-
-// Fires a binding of a transition, whose colours env has. Its takes tell the answer 3 before its puts and hinders are loaded.
-fn fire_bound(
-    s: &[u8],
-    plan: &[u32; 3584],
-    env: &[u8; 32],
-    t: usize,
-    m: &mut [u16],
-    places: &mut [u16],
-    amounts: &mut [u16],
-) -> u8
-    requires { ⌜ t < 32 ⌝ }
-    ensures { λ r. ⌜ ((n : Net) (colours : List ℕ) → Prepared (now (s .entry)) n (now (plan .entry))
-        → t < length (n .transitions) → Binds n (binding t colours) (now (env .entry)) → room (now (s .entry)) n ≤ length (now (places .entry)) → room (now (s .entry)) n ≤ length (now (amounts .entry))
-        → length (now (m .entry)) ≡ flatPlaceCount n → fired r (now (m .exit)) ≡ fireBinding n (binding t colours) (now (m .entry))) ⌝ }
-{
-    match load_takes(s, plan, env, t, places, amounts) {
-        Takes::Nothing => 2,
-        Takes::Upto { end } => {
-            if some_lacks(places, amounts, end, m) {
-                return 3;
-            }
-            let ends = load_rest(s, plan, env, t, end, places, amounts);
-            fire_rest(places, amounts, ends, m)
-        }
-    }
-}
 
 // Fires the order number i; env is lent for the colours of its binding.
 fn fire_nth(
-    s: &[u8],
+    file: &[u8],
     plan: &[u32; 3584],
     m: &mut [u16],
     orders: &[u8],
@@ -59,19 +27,23 @@ fn fire_nth(
     amounts: &mut [u16],
 ) -> u8
     requires { ⌜ i * 6 + 6 ≤ length (now orders) ⌝ }
-    ensures { λ r. ⌜ ((n : Net) → Prepared (now (s .entry)) n (now (plan .entry))
-        → room (now (s .entry)) n ≤ length (now (places .entry)) → room (now (s .entry)) n ≤ length (now (amounts .entry)) → length (now (m .entry)) ≡ flatPlaceCount n
+    ensures { λ r. ⌜ ((n : Net) → Prepared (now (file .entry)) n (now (plan .entry))
+        → room (now (file .entry)) n ≤ length (now (places .entry)) → room (now (file .entry)) n ≤ length (now (amounts .entry)) → length (now (m .entry)) ≡ flatPlaceCount n
         → fired r (now (m .exit)) ≡ fireOrder n (take 6 (drop (i * 6) (now (orders .entry)))) (now (m .entry))) ⌝ }
 {
     let Named::Of { t, .. } = name_order(plan, orders, i, env) else {
         return 1;
     };
-    fire_bound(s, plan, env, t, m, places, amounts)
+    match load_bound(file, plan, env, t, m, places, amounts) {
+        Loaded::NoRow => 2,
+        Loaded::Lacking => 3,
+        Loaded::Row { ends } => fire_rest(places, amounts, ends, m),
+    }
 }
 
 // Fires a list of orders, an answer each.
 pub fn fire_list(
-    s: &[u8],
+    file: &[u8],
     plan: &[u32; 3584],
     m: &mut [u16],
     orders: &[u8],
@@ -80,15 +52,15 @@ pub fn fire_list(
     amounts: &mut [u16],
 )
     requires { ⌜ length (now orders) / 6 ≤ length (now answers) ⌝ }
-    ensures { λ _. ⌜ ((n : Net) → Prepared (now (s .entry)) n (now (plan .entry))
-        → room (now (s .entry)) n ≤ length (now (places .entry)) → room (now (s .entry)) n ≤ length (now (amounts .entry)) → length (now (m .entry)) ≡ flatPlaceCount n
+    ensures { λ _. ⌜ ((n : Net) → Prepared (now (file .entry)) n (now (plan .entry))
+        → room (now (file .entry)) n ≤ length (now (places .entry)) → room (now (file .entry)) n ≤ length (now (amounts .entry)) → length (now (m .entry)) ≡ flatPlaceCount n
         → Ran (fireOrder n) (items 6 (now (orders .entry))) (now (m .entry)) (now (answers .entry)) (now (m .exit)) (now (answers .exit))) ⌝ }
 {
     let many = orders.len() / 6;
     let mut env = [0u8; 32];
     let mut i: usize = 0;
     while i < many {
-        let a = fire_nth(s, plan, m, orders, i, &mut env, places, amounts);
+        let a = fire_nth(file, plan, m, orders, i, &mut env, places, amounts);
         answers[i] = a;
         i += 1;
     }

@@ -5,6 +5,7 @@ use engine::fire_list;
 use plan::flat_places_of;
 use prepared::Preparing;
 use prepared::prepare;
+use reading::once_more;
 use rows::is_small;
 use rows::most_slots;
 ghost use mathlib.Core.Path.{_≡_};
@@ -24,7 +25,7 @@ pub enum FireReply {
 
 // Fires a list of orders on a net that has been read, with lists lent for a row's arcs.
 fn fire_with(
-    s: &[u8],
+    file: &[u8],
     plan: &[u32; 3584],
     marking: &mut [u16],
     orders: &[u8],
@@ -32,9 +33,9 @@ fn fire_with(
     places: &mut [u16],
     amounts: &mut [u16],
 ) -> FireReply
-    ensures { λ r. ⌜ ((n : Net) → Prepared (now (s .entry)) n (now (plan .entry))
-        → room (now (s .entry)) n ≤ length (now (places .entry)) → room (now (s .entry)) n ≤ length (now (amounts .entry))
-        → fireCalled r (now (marking .exit)) (now (answers .exit)) ≡ fireOrders (now (s .entry)) (now (marking .entry)) (now (orders .entry)) (now (answers .entry))) ⌝ }
+    ensures { λ r. ⌜ ((n : Net) → Prepared (now (file .entry)) n (now (plan .entry))
+        → room (now (file .entry)) n ≤ length (now (places .entry)) → room (now (file .entry)) n ≤ length (now (amounts .entry))
+        → fireCalled r (now (marking .exit)) (now (answers .exit)) ≡ fireOrders (now (file .entry)) (now (marking .entry)) (now (orders .entry)) (now (answers .entry))) ⌝ }
 {
     if marking.len() != flat_places_of(plan) {
         return FireReply::Refused {
@@ -54,7 +55,7 @@ fn fire_with(
             place: 0,
         };
     }
-    fire_list(s, plan, marking, orders, answers, places, amounts);
+    fire_list(file, plan, marking, orders, answers, places, amounts);
     FireReply::Answered {
         count: orders.len() / 6,
     }
@@ -62,59 +63,72 @@ fn fire_with(
 
 // With small lists, where the rows have room in them.
 fn fire_small(
-    s: &[u8],
+    file: &[u8],
     plan: &[u32; 3584],
     marking: &mut [u16],
     orders: &[u8],
     answers: &mut [u8],
 ) -> FireReply
-    ensures { λ r. ⌜ ((n : Net) → Prepared (now (s .entry)) n (now (plan .entry))
-        → room (now (s .entry)) n ≤ 1024
-        → fireCalled r (now (marking .exit)) (now (answers .exit)) ≡ fireOrders (now (s .entry)) (now (marking .entry)) (now (orders .entry)) (now (answers .entry))) ⌝ }
+    ensures { λ r. ⌜ ((n : Net) → Prepared (now (file .entry)) n (now (plan .entry))
+        → room (now (file .entry)) n ≤ 1024
+        → fireCalled r (now (marking .exit)) (now (answers .exit)) ≡ fireOrders (now (file .entry)) (now (marking .entry)) (now (orders .entry)) (now (answers .entry))) ⌝ }
 {
     let mut places = [0u16; 1024];
     let mut amounts = [0u16; 1024];
-    fire_with(s, plan, marking, orders, answers, &mut places, &mut amounts)
+    fire_with(
+        file,
+        plan,
+        marking,
+        orders,
+        answers,
+        &mut places,
+        &mut amounts,
+    )
 }
 
-// With lists that have room for every net. It can call itself, once, on an empty file, whose rows need none: so the compiler keeps it
-// apart, and its lists lie in no other function's frame.
+// With lists that have room for every net. Kept apart (once_more).
 fn fire_large(
-    s: &[u8],
+    file: &[u8],
     plan: &[u32; 3584],
     marking: &mut [u16],
     orders: &[u8],
     answers: &mut [u8],
     again: bool,
 ) -> FireReply
-    ensures { λ r. ⌜ ((n : Net) → Prepared (now (s .entry)) n (now (plan .entry))
-        → fireCalled r (now (marking .exit)) (now (answers .exit)) ≡ fireOrders (now (s .entry)) (now (marking .entry)) (now (orders .entry)) (now (answers .entry))) ⌝ }
+    ensures { λ r. ⌜ ((n : Net) → Prepared (now (file .entry)) n (now (plan .entry))
+        → fireCalled r (now (marking .exit)) (now (answers .exit)) ≡ fireOrders (now (file .entry)) (now (marking .entry)) (now (orders .entry)) (now (answers .entry))) ⌝ }
 {
-    if s.len() < 1 {
-        if again {
-            return fire_large(s, plan, marking, orders, answers, false);
-        }
+    if once_more(file, again) {
+        return fire_large(file, plan, marking, orders, answers, false);
     }
     let mut places = [0u16; 20480];
     let mut amounts = [0u16; 20480];
-    fire_with(s, plan, marking, orders, answers, &mut places, &mut amounts)
+    fire_with(
+        file,
+        plan,
+        marking,
+        orders,
+        answers,
+        &mut places,
+        &mut amounts,
+    )
 }
 
 // Fires a list of orders on a net that has been read.
 fn fire_on(
-    s: &[u8],
+    file: &[u8],
     plan: &[u32; 3584],
     marking: &mut [u16],
     orders: &[u8],
     answers: &mut [u8],
 ) -> FireReply
-    ensures { λ r. ⌜ ((n : Net) → Prepared (now (s .entry)) n (now (plan .entry))
-        → fireCalled r (now (marking .exit)) (now (answers .exit)) ≡ fireOrders (now (s .entry)) (now (marking .entry)) (now (orders .entry)) (now (answers .entry))) ⌝ }
+    ensures { λ r. ⌜ ((n : Net) → Prepared (now (file .entry)) n (now (plan .entry))
+        → fireCalled r (now (marking .exit)) (now (answers .exit)) ≡ fireOrders (now (file .entry)) (now (marking .entry)) (now (orders .entry)) (now (answers .entry))) ⌝ }
 {
-    if is_small(most_slots(s, plan), s.len()) {
-        return fire_small(s, plan, marking, orders, answers);
+    if is_small(most_slots(file, plan), file.len()) {
+        return fire_small(file, plan, marking, orders, answers);
     }
-    fire_large(s, plan, marking, orders, answers, true)
+    fire_large(file, plan, marking, orders, answers, true)
 }
 
 // Fires a list of orders, 6 bytes each, on a net file and a marking, an answer each. A refusal changes neither list.

@@ -11,7 +11,7 @@ use Rattle.reading.proofs.Within.{by-test}
 use Rattle.net.specs.Net.{Colour, successor, predecessor, Guard, opposite, both, either, equal, less, Net, sizeOf, setOf}
 use Rattle.net.specs.Reader.{readColour, readGuard, comparison}
 use Rattle.net.specs.Values.{colour, holds}
-use Rattle.evaluation.specs.internal.Evaluated.{after, before, bound, Valued, Held}
+use Rattle.evaluation.specs.internal.Evaluated.{after, before, bound, Valued, GuardHeld}
 use Rattle.evaluation.specs.declared.evaluate.Value.{Value}
 use Rattle.evaluation.specs.declared.evaluate.Tested.{Tested}
 use Rattle.net.proofs.Shut.{commands}
@@ -135,36 +135,36 @@ module _ (s : List ℕ) (n : Net) (env : List ℕ) (left at : ℕ) where
 
 -- ---- guards
 module _ (n : Net) (env : List ℕ) where
-  opposite-of : (x : Answer Guard) (r : Tested) → Held n env r x → Held n env (record { holds = not (r .holds); next = r .next }) (under opposite x)
+  opposite-of : (x : Answer Guard) (r : Tested) → GuardHeld n env r x → GuardHeld n env (record { holds = not (r .holds); next = r .next }) (under opposite x)
   unfolding holds
   opposite-of (fine g next) r h = rw h
   opposite-of (fault k p) r h = tt
 
   -- two guards one after the other, joined
   module _ (join : Guard → Guard → Guard) (op : Bool → Bool → Bool) (joins : (a b : Guard) → holds n (bound env) (join a b) ≡ op (holds n (bound env) a) (holds n (bound env) b)) where
-    second-of : (a : Guard) (p q : Tested) (next : ℕ) (y : Answer Guard) → p ≡ record { holds = holds n (bound env) a; next = next } → Held n env q y
-        → Held n env (record { holds = op (p .holds) (q .holds); next = q .next }) (under (join a) y)
+    second-of : (a : Guard) (p q : Tested) (next : ℕ) (y : Answer Guard) → p ≡ record { holds = holds n (bound env) a; next = next } → GuardHeld n env q y
+        → GuardHeld n env (record { holds = op (p .holds) (q .holds); next = q .next }) (under (join a) y)
     second-of a p q next (fine b end) e f = rw (e, f, joins a b)
     second-of a p q next (fault k i) e f = tt
 
-    two-of : (inner : ℕ → Answer Guard) (x : Answer Guard) (p q : Tested) → Held n env p x → Held n env q (inner (p .next))
-        → Held n env (record { holds = op (p .holds) (q .holds); next = q .next }) (x andThen λ a next. under (join a) (inner next))
-    two-of inner (fine a next) p q e f = second-of a p q next (inner next) e (subst (λ i. Held n env q (inner i)) (ap (λ (r : Tested). r .next) e) f)
+    two-of : (inner : ℕ → Answer Guard) (x : Answer Guard) (p q : Tested) → GuardHeld n env p x → GuardHeld n env q (inner (p .next))
+        → GuardHeld n env (record { holds = op (p .holds) (q .holds); next = q .next }) (x andThen λ a next. under (join a) (inner next))
+    two-of inner (fine a next) p q e f = second-of a p q next (inner next) e (subst (λ i. GuardHeld n env q (inner i)) (ap (λ (r : Tested). r .next) e) f)
     two-of inner (fault k i) p q e f = tt
 
   -- two colours one after the other, compared
   module _ (compare : Colour → Colour → Guard) (op : ℕ → ℕ → Bool) (compares : (a b : Colour) → holds n (bound env) (compare a b) ≡ op (colour n (bound env) a) (colour n (bound env) b)) (at : ℕ) where
     beside-of : (a : Colour) (p q : Value) (next : ℕ) (y : Answer Colour) → p ≡ record { colour = colour n (bound env) a; set = setOf n a; next = next } → Valued n env q y
-        → Held n env (record { holds = op (p .colour) (q .colour); next = q .next }) (y andThen λ b end. checked at ((6 unless eqb (setOf n a) (setOf n b)) ∷ []) (compare a b) end)
-    beside-of a p q next (fine b end) e f = checked-by (Held n env _) (λ k i. tt) at _ (compare a b) end (rw (e, f, compares a b))
+        → GuardHeld n env (record { holds = op (p .colour) (q .colour); next = q .next }) (y andThen λ b end. checked at ((6 unless eqb (setOf n a) (setOf n b)) ∷ []) (compare a b) end)
+    beside-of a p q next (fine b end) e f = checked-by (GuardHeld n env _) (λ k i. tt) at _ (compare a b) end (rw (e, f, compares a b))
     beside-of a p q next (fault k i) e f = tt
 
     compared-of : (inner : ℕ → Answer Colour) (next : ℕ) (p q : Value) → Valued n env p (inner next) → Valued n env q (inner (p .next))
-        → Held n env (record { holds = op (p .colour) (q .colour); next = q .next }) (comparison n inner compare at next)
+        → GuardHeld n env (record { holds = op (p .colour) (q .colour); next = q .next }) (comparison n inner compare at next)
     compared-of inner next p q = go (inner next)
       where
         go : (x : Answer Colour) → Valued n env p x → Valued n env q (inner (p .next))
-            → Held n env (record { holds = op (p .colour) (q .colour); next = q .next })
+            → GuardHeld n env (record { holds = op (p .colour) (q .colour); next = q .next })
             (x andThen λ a more. inner more andThen λ b end. checked at ((6 unless eqb (setOf n a) (setOf n b)) ∷ []) (compare a b) end)
         go (fine a more) e f = beside-of a p q more (inner more) e (subst (λ i. Valued n env q (inner i)) (ap (λ (r : Value). r .next) e) f)
         go (fault k i) e f = tt
@@ -186,61 +186,61 @@ module _ (n : Net) (env : List ℕ) where
   less-holds a b = refl
 
 module _ (s : List ℕ) (n : Net) (env : List ℕ) (left at next : ℕ) (p q : Value) (first : Valued n env p (readColour s n left next)) (second : Valued n env q (readColour s n left (p .next))) where
-  pub either-compared : (lesser : Bool) → Held n env (record { holds = if lesser then ltb (p .colour) (q .colour) else eqb (p .colour) (q .colour); next = q .next })
+  pub either-compared : (lesser : Bool) → GuardHeld n env (record { holds = if lesser then ltb (p .colour) (q .colour) else eqb (p .colour) (q .colour); next = q .next })
       (comparison n (readColour s n left) (if lesser then less else equal) at next)
   either-compared true = compared-of n env less ltb (less-holds n env) at (readColour s n left) next p q first second
   either-compared false = compared-of n env equal eqb (equal-holds n env) at (readColour s n left) next p q first second
 
 module _ (s : List ℕ) (n : Net) (env : List ℕ) (left at : ℕ) where
   -- 0x20
-  pub always-held : byteAt s at ≡ 0x20 → Held n env (record { holds = true; next = at + 1 }) (readGuard s n left at)
+  pub always-held : byteAt s at ≡ 0x20 → GuardHeld n env (record { holds = true; next = at + 1 }) (readGuard s n left at)
   unfolding commands holds
-  always-held e = rw (guard-step s n left at) (needed-by (Held n env _) (λ k p. tt) s at 0x20 _ e refl refl)
+  always-held e = rw (guard-step s n left at) (needed-by (GuardHeld n env _) (λ k p. tt) s at 0x20 _ e refl refl)
 
   -- 0x21, 0x22, 0x23, 0x24 and 0x25, with a level left
   module _ (le : 1 ≤ left) where
-    pub opposite-held : (r : Tested) → Held n env r (readGuard s n (left - 1) (at + 1)) → byteAt s at ≡ 0x21 → Held n env (record { holds = not (r .holds); next = r .next }) (readGuard s n left at)
+    pub opposite-held : (r : Tested) → GuardHeld n env r (readGuard s n (left - 1) (at + 1)) → byteAt s at ≡ 0x21 → GuardHeld n env (record { holds = not (r .holds); next = r .next }) (readGuard s n left at)
     unfolding commands
     opposite-held r inner e =
-        rw (guard-in s n left at le) (needed-by (Held n env _) (λ k p. tt) s at 0x21 _ e refl (opposite-of n env (readGuard s n (left - 1) (at + 1)) r inner))
+        rw (guard-in s n left at le) (needed-by (GuardHeld n env _) (λ k p. tt) s at 0x21 _ e refl (opposite-of n env (readGuard s n (left - 1) (at + 1)) r inner))
 
-    pub both-held : (p q : Tested) → Held n env p (readGuard s n (left - 1) (at + 1)) → Held n env q (readGuard s n (left - 1) (p .next)) → byteAt s at ≡ 0x22
-        → Held n env (record { holds = p .holds && q .holds; next = q .next }) (readGuard s n left at)
+    pub both-held : (p q : Tested) → GuardHeld n env p (readGuard s n (left - 1) (at + 1)) → GuardHeld n env q (readGuard s n (left - 1) (p .next)) → byteAt s at ≡ 0x22
+        → GuardHeld n env (record { holds = p .holds && q .holds; next = q .next }) (readGuard s n left at)
     unfolding commands
     both-held p q f g e =
-        rw (guard-in s n left at le) (needed-by (Held n env _) (λ k p. tt) s at 0x22 _ e refl
+        rw (guard-in s n left at le) (needed-by (GuardHeld n env _) (λ k p. tt) s at 0x22 _ e refl
         (two-of n env both _&&_ (both-holds n env) (readGuard s n (left - 1)) (readGuard s n (left - 1) (at + 1)) p q f g))
 
-    pub either-held : (p q : Tested) → Held n env p (readGuard s n (left - 1) (at + 1)) → Held n env q (readGuard s n (left - 1) (p .next)) → byteAt s at ≡ 0x23
-        → Held n env (record { holds = p .holds || q .holds; next = q .next }) (readGuard s n left at)
+    pub either-held : (p q : Tested) → GuardHeld n env p (readGuard s n (left - 1) (at + 1)) → GuardHeld n env q (readGuard s n (left - 1) (p .next)) → byteAt s at ≡ 0x23
+        → GuardHeld n env (record { holds = p .holds || q .holds; next = q .next }) (readGuard s n left at)
     unfolding commands
     either-held p q f g e =
-        rw (guard-in s n left at le) (needed-by (Held n env _) (λ k p. tt) s at 0x23 _ e refl
+        rw (guard-in s n left at le) (needed-by (GuardHeld n env _) (λ k p. tt) s at 0x23 _ e refl
         (two-of n env either _||_ (either-holds n env) (readGuard s n (left - 1)) (readGuard s n (left - 1) (at + 1)) p q f g))
 
-    pub equal-held : (r : Tested) → Held n env r (comparison n (readColour s n (left - 1)) equal at (at + 1)) → byteAt s at ≡ 0x24 → Held n env r (readGuard s n left at)
+    pub equal-held : (r : Tested) → GuardHeld n env r (comparison n (readColour s n (left - 1)) equal at (at + 1)) → byteAt s at ≡ 0x24 → GuardHeld n env r (readGuard s n left at)
     unfolding commands
-    equal-held r inner e = rw (guard-in s n left at le) (needed-by (Held n env r) (λ k p. tt) s at 0x24 _ e refl inner)
+    equal-held r inner e = rw (guard-in s n left at le) (needed-by (GuardHeld n env r) (λ k p. tt) s at 0x24 _ e refl inner)
 
-    pub less-held : (r : Tested) → Held n env r (comparison n (readColour s n (left - 1)) less at (at + 1)) → byteAt s at ≡ 0x25 → Held n env r (readGuard s n left at)
+    pub less-held : (r : Tested) → GuardHeld n env r (comparison n (readColour s n (left - 1)) less at (at + 1)) → byteAt s at ≡ 0x25 → GuardHeld n env r (readGuard s n left at)
     unfolding commands
-    less-held r inner e = rw (guard-in s n left at le) (needed-by (Held n env r) (λ k p. tt) s at 0x25 _ e refl inner)
+    less-held r inner e = rw (guard-in s n left at le) (needed-by (GuardHeld n env r) (λ k p. tt) s at 0x25 _ e refl inner)
 
   -- nothing is promised past the end, where no level is left for what is inside, and at a stray byte
-  pub guard-past : (r : Tested) → length s ≤ at → Held n env r (readGuard s n left at)
+  pub guard-past : (r : Tested) → length s ≤ at → GuardHeld n env r (readGuard s n left at)
   unfolding commands
-  guard-past r le = rw (guard-step s n left at) (past-by (Held n env r) (λ k p. tt) s at _ refl le)
+  guard-past r le = rw (guard-step s n left at) (past-by (GuardHeld n env r) (λ k p. tt) s at _ refl le)
 
-  pub guard-shut : (r : Tested) → left < 1 → (byteAt s at ≡ 0x20 → ⊥) → Held n env r (readGuard s n left at)
+  pub guard-shut : (r : Tested) → left < 1 → (byteAt s at ≡ 0x20 → ⊥) → GuardHeld n env r (readGuard s n left at)
   unfolding commands
   guard-shut r lt f =
       let z : left ≡ 0 = omega arith in
-      let shut = obey-by (Held n env r) (λ k p. tt) s at in
-      rw (z, guard-step s n 0 at) (needed-each (Held n env r) (λ k p. tt) s at _
+      let shut = obey-by (GuardHeld n env r) (λ k p. tt) s at in
+      rw (z, guard-step s n 0 at) (needed-each (GuardHeld n env r) (λ k p. tt) s at _
       (λ e. absurd (f e), (λ e. shut _ tt, (λ e. shut _ tt, (λ e. shut _ tt, (λ e. shut _ tt, (λ e. shut _ tt, tt)))))))
 
   pub guard-stray : (r : Tested) → (byteAt s at ≡ 0x20 → ⊥) → (byteAt s at ≡ 0x21 → ⊥) → (byteAt s at ≡ 0x22 → ⊥) → (byteAt s at ≡ 0x23 → ⊥) → (byteAt s at ≡ 0x24 → ⊥) → (byteAt s at ≡ 0x25 → ⊥)
-      → Held n env r (readGuard s n left at)
+      → GuardHeld n env r (readGuard s n left at)
   guard-stray r f g h i j k =
-      rw (guard-step s n left at) (needed-each (Held n env r) (λ k p. tt) s at _
+      rw (guard-step s n left at) (needed-each (GuardHeld n env r) (λ k p. tt) s at _
       (λ e. absurd (f e), (λ e. absurd (g e), (λ e. absurd (h e), (λ e. absurd (i e), (λ e. absurd (j e), (λ e. absurd (k e), tt)))))))

@@ -10,7 +10,7 @@ ghost use lib.ListN.{length};
 ghost use Rattle.reading.specs.Basics.{if_then_else_, ltb, eqb};
 ghost use Rattle.net.specs.Net.{Place, equal, less};
 ghost use Rattle.net.specs.Reader.{readColour, readGuard, comparison, amount};
-ghost use Rattle.evaluation.specs.internal.Evaluated.{scopeIn, Valued, Held, Ranks, placeBy, after, before};
+ghost use Rattle.evaluation.specs.internal.Evaluated.{scopeIn, Valued, GuardHeld, Ranks, placeBy, after, before};
 
 // The colour that an expression means, its set, and the place after it.
 pub struct Value {
@@ -41,23 +41,23 @@ fn before_in(size: u8, c: u16) -> u16
 }
 
 // The colour expression at a place, with so many levels left. The file is handed on by address.
-fn colour_at(s: &&[u8], plan: &[u32; 3584], env: &[u8; 32], left: u8, at: usize) -> Value
-    requires { ⌜ length (now (now s)) < 2 ^ 63 ⌝ }
+fn colour_at(file: &&[u8], plan: &[u32; 3584], env: &[u8; 32], left: u8, at: usize) -> Value
+    requires { ⌜ length (now (now file)) < 2 ^ 63 ⌝ }
     ensures is { λ r. ⌜ ((places : List Place) → Valued (scopeIn (now (plan .entry)) places) (now (env .entry)) r
-        (readColour (now (now (s .entry))) (scopeIn (now (plan .entry)) places) left at)) ⌝ }
+        (readColour (now (now (file .entry))) (scopeIn (now (plan .entry)) places) left at)) ⌝ }
     ensures small { λ r. ⌜ r .colour ≤ 255 + left ⌝ }
 {
-    let file = *s;
-    if file.len() <= at {
+    let bytes = *file;
+    if bytes.len() <= at {
         return Value {
             colour: 0,
             set: 0,
             next: at,
         };
     }
-    let b = file[at];
+    let b = bytes[at];
     if b == 0x30 {
-        let v = entry(file, at + 1);
+        let v = entry(bytes, at + 1);
         return Value {
             colour: entry(env, v as usize) as u16,
             set: set_in(plan, v),
@@ -66,8 +66,8 @@ fn colour_at(s: &&[u8], plan: &[u32; 3584], env: &[u8; 32], left: u8, at: usize)
     }
     if b == 0x31 {
         return Value {
-            colour: entry(file, at + 2) as u16,
-            set: entry(file, at + 1),
+            colour: entry(bytes, at + 2) as u16,
+            set: entry(bytes, at + 1),
             next: at + 3,
         };
     }
@@ -78,7 +78,7 @@ fn colour_at(s: &&[u8], plan: &[u32; 3584], env: &[u8; 32], left: u8, at: usize)
             next: at,
         };
     }
-    let k = colour_at(s, plan, env, left - 1, at + 1);
+    let k = colour_at(file, plan, env, left - 1, at + 1);
     let size = size_in(plan, k.set);
     if b == 0x32 {
         return Value {
@@ -109,26 +109,26 @@ fn compares(lesser: bool, x: u16, y: u16) -> bool
 
 // Two colours one after the other, compared: for less, or for equal. Two variables are compared at once.
 fn compared_at(
-    s: &&[u8],
+    file: &&[u8],
     plan: &[u32; 3584],
     env: &[u8; 32],
     lesser: bool,
     left: u8,
     next: usize,
 ) -> Tested
-    requires { ⌜ length (now (now s)) < 2 ^ 63 ⌝ }
-    ensures { λ r. ⌜ ((places : List Place) (at : ℕ) → Held (scopeIn (now (plan .entry)) places) (now (env .entry)) r
+    requires { ⌜ length (now (now file)) < 2 ^ 63 ⌝ }
+    ensures { λ r. ⌜ ((places : List Place) (at : ℕ) → GuardHeld (scopeIn (now (plan .entry)) places) (now (env .entry)) r
         (comparison (scopeIn (now (plan .entry)) places)
-        (readColour (now (now (s .entry))) (scopeIn (now (plan .entry)) places) left) (if lesser then less else equal) at next)) ⌝ }
+        (readColour (now (now (file .entry))) (scopeIn (now (plan .entry)) places) left) (if lesser then less else equal) at next)) ⌝ }
 {
-    let file = *s;
-    if next < file.len() {
-        if 3 < file.len() - next {
+    let bytes = *file;
+    if next < bytes.len() {
+        if 3 < bytes.len() - next {
             let second = next + 2;
-            if file[next] == 0x30 {
-                if file[second] == 0x30 {
-                    let x = entry(env, file[next + 1] as usize);
-                    let y = entry(env, file[second + 1] as usize);
+            if bytes[next] == 0x30 {
+                if bytes[second] == 0x30 {
+                    let x = entry(env, bytes[next + 1] as usize);
+                    let y = entry(env, bytes[second + 1] as usize);
                     return Tested {
                         holds: compares(lesser, x as u16, y as u16),
                         next: second + 2,
@@ -137,8 +137,8 @@ fn compared_at(
             }
         }
     }
-    let a = colour_at(s, plan, env, left, next);
-    let b = colour_at(s, plan, env, left, a.next);
+    let a = colour_at(file, plan, env, left, next);
+    let b = colour_at(file, plan, env, left, a.next);
     Tested {
         holds: compares(lesser, a.colour, b.colour),
         next: b.next,
@@ -146,19 +146,19 @@ fn compared_at(
 }
 
 // The guard at a place, with so many levels left.
-fn guard_at(s: &&[u8], plan: &[u32; 3584], env: &[u8; 32], left: u8, at: usize) -> Tested
-    requires { ⌜ length (now (now s)) < 2 ^ 63 ⌝ }
-    ensures { λ r. ⌜ ((places : List Place) → Held (scopeIn (now (plan .entry)) places) (now (env .entry)) r
-        (readGuard (now (now (s .entry))) (scopeIn (now (plan .entry)) places) left at)) ⌝ }
+fn guard_at(file: &&[u8], plan: &[u32; 3584], env: &[u8; 32], left: u8, at: usize) -> Tested
+    requires { ⌜ length (now (now file)) < 2 ^ 63 ⌝ }
+    ensures { λ r. ⌜ ((places : List Place) → GuardHeld (scopeIn (now (plan .entry)) places) (now (env .entry)) r
+        (readGuard (now (now (file .entry))) (scopeIn (now (plan .entry)) places) left at)) ⌝ }
 {
-    let file = *s;
-    if file.len() <= at {
+    let bytes = *file;
+    if bytes.len() <= at {
         return Tested {
             holds: false,
             next: at,
         };
     }
-    let b = file[at];
+    let b = bytes[at];
     if b == 0x20 {
         return Tested {
             holds: true,
@@ -172,33 +172,33 @@ fn guard_at(s: &&[u8], plan: &[u32; 3584], env: &[u8; 32], left: u8, at: usize) 
         };
     }
     if b == 0x21 {
-        let g = guard_at(s, plan, env, left - 1, at + 1);
+        let g = guard_at(file, plan, env, left - 1, at + 1);
         return Tested {
             holds: !g.holds,
             next: g.next,
         };
     }
     if b == 0x22 {
-        let g = guard_at(s, plan, env, left - 1, at + 1);
-        let h = guard_at(s, plan, env, left - 1, g.next);
+        let g = guard_at(file, plan, env, left - 1, at + 1);
+        let h = guard_at(file, plan, env, left - 1, g.next);
         return Tested {
             holds: g.holds & h.holds,
             next: h.next,
         };
     }
     if b == 0x23 {
-        let g = guard_at(s, plan, env, left - 1, at + 1);
-        let h = guard_at(s, plan, env, left - 1, g.next);
+        let g = guard_at(file, plan, env, left - 1, at + 1);
+        let h = guard_at(file, plan, env, left - 1, g.next);
         return Tested {
             holds: g.holds | h.holds,
             next: h.next,
         };
     }
     if b == 0x24 {
-        return compared_at(s, plan, env, false, left - 1, at + 1);
+        return compared_at(file, plan, env, false, left - 1, at + 1);
     }
     if b == 0x25 {
-        return compared_at(s, plan, env, true, left - 1, at + 1);
+        return compared_at(file, plan, env, true, left - 1, at + 1);
     }
     Tested {
         holds: false,
@@ -207,11 +207,11 @@ fn guard_at(s: &&[u8], plan: &[u32; 3584], env: &[u8; 32], left: u8, at: usize) 
 }
 
 // The same, of a guard in a file.
-pub fn eval_guard(s: &[u8], plan: &[u32; 3584], env: &[u8; 32], left: u8, at: usize) -> Tested
-    ensures { λ r. ⌜ ((places : List Place) → Held (scopeIn (now (plan .entry)) places) (now (env .entry)) r
-        (readGuard (now (s .entry)) (scopeIn (now (plan .entry)) places) left at)) ⌝ }
+pub fn eval_guard(file: &[u8], plan: &[u32; 3584], env: &[u8; 32], left: u8, at: usize) -> Tested
+    ensures { λ r. ⌜ ((places : List Place) → GuardHeld (scopeIn (now (plan .entry)) places) (now (env .entry)) r
+        (readGuard (now (file .entry)) (scopeIn (now (plan .entry)) places) left at)) ⌝ }
 {
-    guard_at(&s, plan, env, left, at)
+    guard_at(&file, plan, env, left, at)
 }
 
 // A rank, and the place after an expression.
@@ -222,21 +222,21 @@ pub struct Ranked {
 
 // The one rank that 0x40 gives its count, and the place after its colours, one or two.
 fn rank_at(
-    s: &&[u8],
+    file: &&[u8],
     plan: &[u32; 3584],
     env: &[u8; 32],
     paired: bool,
     left: u8,
     next: usize,
 ) -> Ranked
-    requires { ⌜ length (now (now s)) < 2 ^ 63 ⌝ }
+    requires { ⌜ length (now (now file)) < 2 ^ 63 ⌝ }
     ensures { λ r. ⌜ ((places : List Place) (first second count at : ℕ) → Ranks (scopeIn (now (plan .entry)) places) (now (env .entry)) count r
         (amount (scopeIn (now (plan .entry)) places)
-        (readColour (now (now (s .entry))) (scopeIn (now (plan .entry)) places) left) (placeBy paired first second) count at next)) ⌝ }
+        (readColour (now (now (file .entry))) (scopeIn (now (plan .entry)) places) left) (placeBy paired first second) count at next)) ⌝ }
 {
-    let a = colour_at(s, plan, env, left, next);
+    let a = colour_at(file, plan, env, left, next);
     if paired {
-        let b = colour_at(s, plan, env, left, a.next);
+        let b = colour_at(file, plan, env, left, a.next);
         let size = size_in(plan, b.set);
         return Ranked {
             rank: (a.colour as usize) * (size as usize) + (b.colour as usize),
@@ -251,7 +251,7 @@ fn rank_at(
 
 // The same, of a count in a file.
 pub fn eval_rank(
-    s: &[u8],
+    file: &[u8],
     plan: &[u32; 3584],
     env: &[u8; 32],
     paired: bool,
@@ -260,7 +260,7 @@ pub fn eval_rank(
 ) -> Ranked
     ensures { λ r. ⌜ ((places : List Place) (first second count at : ℕ) → Ranks (scopeIn (now (plan .entry)) places) (now (env .entry)) count r
         (amount (scopeIn (now (plan .entry)) places)
-        (readColour (now (s .entry)) (scopeIn (now (plan .entry)) places) left) (placeBy paired first second) count at next)) ⌝ }
+        (readColour (now (file .entry)) (scopeIn (now (plan .entry)) places) left) (placeBy paired first second) count at next)) ⌝ }
 {
-    rank_at(&s, plan, env, paired, left, next)
+    rank_at(&file, plan, env, paired, left, next)
 }

@@ -1,11 +1,11 @@
 -- Passes over the arcs that stand in two lent lists, one arc a turn. Assumes nothing.
-use mathlib.Core.Path.{_≡_, refl, sym, _∙_}
+use mathlib.Core.Path.{_≡_, refl, sym, ap, _∙_}
 use native.Mathlib.Omega.{arith}
 use Prim.Native.Nat.{_≤_}
 use native.Mathlib.Decide.{decLt}
 use borrow.Author.Needs.{zero≤}
-use borrow.Author.Tests.{lt-ltb, le-ltb, leb-true, leb-false}
-use Rattle.reading.specs.Basics.{ℕ, zero, suc, _+_, _-_, _<_, Bool, true, false, _&&_, _||_, List, [], _∷_, length, getD, ltb, leb, if_then_else_, find, any}
+use borrow.Author.Tests.{lt-ltb, le-ltb, eq-eqb, ne-eqb, leb-true, leb-false}
+use Rattle.reading.specs.Basics.{ℕ, zero, suc, _+_, _-_, _<_, Bool, true, false, not, _&&_, _||_, List, [], _∷_, length, getD, ltb, leb, eqb, if_then_else_, find, any}
 use Rattle.firing.specs.Firing.{capacity}
 use Rattle.firing.specs.Arcs.{Arc, Rising, none, more, weightIn}
 use Rattle.firing.specs.internal.RowLists.{arcsIn}
@@ -65,19 +65,23 @@ module _ (places weights : List ℕ) (b i : ℕ) where
   unfolding firstIn
   first-past t h = rw (arcs-none places weights b i h) (omega arith)
 
-  -- there is one where it stands before the end
-  pub first-tells : (t : Arc → Bool) {r : ℕ} → r ≡ i + firstIn t (arcsIn places weights i b) → ltb r b ≡ any t (arcsIn places weights i b)
-  first-tells t {r} e = go (any t (arcsIn places weights i b)) refl
+  -- there is one where it does not stand at the end
+  pub first-tells : (t : Arc → Bool) {r : ℕ} → r ≡ i + firstIn t (arcsIn places weights i b) → i ≤ b → not (eqb r b) ≡ any t (arcsIn places weights i b)
+  first-tells t {r} e le = go (any t (arcsIn places weights i b)) refl
     where
-      go : (s : Bool) → any t (arcsIn places weights i b) ≡ s → ltb r b ≡ s
-      go true k = lt-ltb r b (omega (arith, first-some t (arcsIn places weights i b) k, length-arcs places weights i b))
-      go false k = le-ltb r b (omega (arith, first-none t (arcsIn places weights i b) k, length-arcs places weights i b))
+      go : (s : Bool) → any t (arcsIn places weights i b) ≡ s → not (eqb r b) ≡ s
+      go true k = ap not (ne-eqb r b (λ q. omega (arith, first-some t (arcsIn places weights i b) k, length-arcs places weights i b)))
+      go false k = ap not (eq-eqb r b (omega (arith, first-none t (arcsIn places weights i b) k, length-arcs places weights i b)))
 
-  pub first-shows : (t : Arc → Bool) {r : ℕ} → r ≡ i + firstIn t (arcsIn places weights i b) → r < b → any t (arcsIn places weights i b) ≡ true
-  first-shows t {r} e h = sym (first-tells t e) ∙ lt-ltb r b h
+  pub first-shows : (t : Arc → Bool) {r : ℕ} → r ≡ i + firstIn t (arcsIn places weights i b) → i ≤ b → (r ≡ b → ⊥) → any t (arcsIn places weights i b) ≡ true
+  first-shows t {r} e le ne = sym (first-tells t e le) ∙ ap not (ne-eqb r b ne)
 
   pub first-fails : (t : Arc → Bool) {r : ℕ} → r ≡ i + firstIn t (arcsIn places weights i b) → b ≤ r → any t (arcsIn places weights i b) ≡ false
-  first-fails t {r} e h = sym (first-tells t e) ∙ le-ltb r b h
+  first-fails t {r} e h = go (any t (arcsIn places weights i b)) refl
+    where
+      go : (s : Bool) → any t (arcsIn places weights i b) ≡ s → any t (arcsIn places weights i b) ≡ false
+      go true k = absurd (omega (arith, first-some t (arcsIn places weights i b) k, length-arcs places weights i b))
+      go false k = k
 
   -- ---- a change by every arc
   pub change-on : (f : ℕ → ℕ → ℕ) (m : List ℕ) → i < b

@@ -10,7 +10,7 @@ use Rattle.reading.specs.Basics.{ℕ, zero, suc, _+_, _-_, _<_, Bool, true, fal
 use Rattle.reading.proofs.Lists.{length-below, getD-below}
 use Rattle.firing.specs.Firing.{Weights, fired, lacks, hindered, capacity, moved, spills, Kept, fire}
 use Rattle.firing.specs.Arcs.{Arc, Row, Rising, none, more, Proper, weightIn, weights}
-use Rattle.firing.specs.internal.Steps.{lacking, hindering, spilling, Small, changed, added}
+use Rattle.firing.specs.internal.Steps.{lacking, hindering, spilling, SmallCapacities, changed, added}
 use Rattle.firing.proofs.Rows.{In, here, there, in-inside, in-weight, weight-in, weight-hit, weight-skip}
 
 -- ---- tests that agree
@@ -182,7 +182,7 @@ module _ (m : List ℕ) (row : Row) (proper : Proper (length m) row) (fit : (p :
       changed-at added (changed _-_ (row .takes) m) p (length-changed _-_ (row .takes) m) (proper .puts) (omega (arith, fit p)) in
       more ∙ ap (λ x. added x (weightIn (row .puts) p)) less ∙ mod-eq-of-lt h
 
-  module _ (caps : List ℕ) (small : Small caps) where
+  module _ (caps : List ℕ) (small : SmallCapacities caps) where
     -- where no count passes its capacity the change is the rule's
     pub after-is : any (spills caps (weights row) m) (below (length m)) ≡ false → after row m ≡ map (moved (weights row) m) (below (length m))
     after-is e = ext-getD 0 (after row m) (map (moved (weights row) m) (below (length m))) (long ∙ sym (length-map (below (length m)) (moved (weights row) m) ∙ length-below (length m))) each

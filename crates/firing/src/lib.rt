@@ -8,7 +8,7 @@ ghost use Rattle.reading.specs.Basics.{any};
 ghost use Rattle.firing.specs.Firing.{fire, fired};
 ghost use Rattle.firing.specs.Arcs.{weights, Rising, Proper, weightIn};
 ghost use Rattle.firing.specs.internal.RowLists.{arcsIn, rowIn};
-ghost use Rattle.firing.specs.internal.Steps.{Within, EndsWithin, told, arcAt, lacking, hindering, firstIn, Sought, Small, spilling, changedBy, changed, added};
+ghost use Rattle.firing.specs.internal.Steps.{Within, EndsWithin, told, arcAt, lacking, hindering, firstIn, Sought, SmallCapacities, spilling, changedBy, changed, added};
 
 // Where a row's takes, puts and hinders end in the lent lists; each kind starts where the one before it ends.
 pub struct Ends {
@@ -248,10 +248,10 @@ fn rest_answer(
         → any (lacking (now (m .entry))) (arcsIn (now (places .entry)) (now (amounts .entry)) 0 takes) ≡ false
         → r ≡ fire [] (weights (rowIn (now (places .entry)) (now (amounts .entry)) takes puts hinders)) (now (m .entry)) .answer) ⌝ }
 {
-    if hindering_at(places, amounts, puts, hinders, m) < hinders {
+    if hindering_at(places, amounts, puts, hinders, m) != hinders {
         return 4;
     }
-    if spilling_at(places, amounts, takes, puts, m) < puts {
+    if spilling_at(places, amounts, takes, puts, m) != puts {
         return 5;
     }
     0
@@ -261,7 +261,7 @@ fn rest_answer(
 pub fn move_row(places: &[u16], amounts: &[u16], takes: usize, puts: usize, a: u8, m: &mut [u16])
     requires { ⌜ takes ≤ puts ⌝ }
     requires { ⌜ Within (now places) (now amounts) puts ⌝ }
-    ensures { λ _. ⌜ ((caps : List ℕ) (hinders : ℕ) → Small caps → Proper (length (now (m .entry))) (rowIn (now (places .entry)) (now (amounts .entry)) takes puts hinders)
+    ensures { λ _. ⌜ ((caps : List ℕ) (hinders : ℕ) → SmallCapacities caps → Proper (length (now (m .entry))) (rowIn (now (places .entry)) (now (amounts .entry)) takes puts hinders)
         → a ≡ fire caps (weights (rowIn (now (places .entry)) (now (amounts .entry)) takes puts hinders)) (now (m .entry)) .answer
         → fired a (now (m .exit)) ≡ fire caps (weights (rowIn (now (places .entry)) (now (amounts .entry)) takes puts hinders)) (now (m .entry))) ⌝ }
 {
@@ -277,7 +277,7 @@ pub fn answer(places: &[u16], amounts: &[u16], ends: Ends, m: &[u16]) -> u8
     ensures { λ r. ⌜ (Proper (length (now (m .entry))) (rowIn (now (places .entry)) (now (amounts .entry)) (ends .takes) (ends .puts) (ends .hinders))
         → r ≡ fire [] (weights (rowIn (now (places .entry)) (now (amounts .entry)) (ends .takes) (ends .puts) (ends .hinders))) (now (m .entry)) .answer) ⌝ }
 {
-    if lacking_at(places, amounts, ends.takes, m) < ends.takes {
+    if lacking_at(places, amounts, ends.takes, m) != ends.takes {
         return 3;
     }
     rest_answer(places, amounts, ends.takes, ends.puts, ends.hinders, m)
@@ -290,7 +290,7 @@ pub fn some_lacks(places: &[u16], amounts: &[u16], end: usize, m: &[u16]) -> boo
         → r ≡ any (lacking (now (m .entry))) (arcsIn (now (places .entry)) (now (amounts .entry)) 0 end)) ⌝ }
 {
     if within(places, amounts, end) {
-        return lacking_at(places, amounts, end, m) < end;
+        return lacking_at(places, amounts, end, m) != end;
     }
     false
 }

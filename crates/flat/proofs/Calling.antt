@@ -3,7 +3,7 @@ use mathlib.Core.Path.{_≡_, sym, ap, _∙_, subst}
 use Prim.Native.Nat.{_≤_, _<_}
 use native.Mathlib.Omega.{arith}
 use borrow.Author.Tests.{le-leb, lt-leb, eq-eqb, ne-eqb}
-use Rattle.reading.specs.Basics.{ℕ, _+_, _/_, _%_, Bool, if_then_else_, List, length, eqb, below, items}
+use Rattle.reading.specs.Basics.{ℕ, _+_, _/_, _%_, List, length, eqb, below, items}
 use Rattle.reading.specs.Reading.{accepted, refused}
 use Rattle.reading.proofs.Permits.{done, holds, fails, behind}
 use Rattle.firing.specs.Firing.{First, found, nothing, first}
@@ -11,17 +11,13 @@ use Rattle.firing.specs.internal.Loops.{Ran, stoppedAt}
 use Rattle.firing.proofs.Running as running
 use Rattle.firing.proofs.Running.{called, length-items, stopped-in, stopped-out}
 use Rattle.flat_file.specs.Flat.{Flat, readFlat, fireRow, fireImage, flatSizes, fireImages, firstRow}
-use Rattle.flat_file.specs.internal.ReaderEnums.{mostRows, Held, Scanned}
+use Rattle.flat_file.specs.internal.ReaderEnums.{mostRows, FlatHeld, Scanned}
 use Rattle.flat_file.specs.declared.reader.Scan.{Scan}
 use Rattle.flat_file.specs.declared.reader.Scan.the-variants.{Net, Refused}
 
--- how often a function that calls itself again may still do so
-abbrev pub calls : Bool → ℕ
-calls again = if again then 1 else 0
-
 -- what was read
-pub the-net : (s starts : List ℕ) {r : Scan} {places rows : ℕ} → r ≡ Net places rows → Scanned s starts r → (f : Flat) × Held s starts places rows f
-the-net s starts e h = subst (Scanned s starts) e h
+pub the-flat : (s starts : List ℕ) {r : Scan} {places rows : ℕ} → r ≡ Net places rows → Scanned s starts r → (f : Flat) × FlatHeld s starts places rows f
+the-flat s starts e h = subst (Scanned s starts) e h
 
 pub the-refusal : (s starts : List ℕ) {r : Scan} {number place : ℕ} → r ≡ Refused number place → Scanned s starts r → readFlat s ≡ refused number place
 the-refusal s starts e h = subst (Scanned s starts) e h
@@ -41,7 +37,7 @@ module _ (s : List ℕ) {number place : ℕ} (is : readFlat s ≡ refused number
   no-fire m images answers = running.call-refused _ _ _ m _ answers is
 
 -- ---- files that are read
-module _ {s starts : List ℕ} {places rows : ℕ} {f : Flat} (held : Held s starts places rows f) where
+module _ {s starts : List ℕ} {places rows : ℕ} {f : Flat} (held : FlatHeld s starts places rows f) where
   -- a list of starts with room for the most rows has room for these
   pub held-fits : {size : ℕ} → mostRows (length s) ≤ size → length starts ≡ size → rows ≤ length starts
   held-fits enough e = omega (arith, held .fits)

@@ -6,6 +6,7 @@ use flat_file::load_arcs;
 use flat_file::scan_file;
 use reading::byte_at;
 use reading::long_at;
+use reading::once_more;
 ghost use mathlib.Core.Path.{_≡_};
 ghost use mathlib.Core.List.{[]};
 ghost use Prim.Native.Nat.{ℕ, _<_, _+_, _*_, _/_, _≤_};
@@ -18,7 +19,7 @@ ghost use Rattle.firing.specs.internal.Loops.{Ran, stoppedAt};
 ghost use Rattle.firing.specs.Arcs as arcs;
 ghost use Rattle.firing.specs.Arcs.{Row};
 ghost use Rattle.flat_file.specs.Flat.{Flat, fireRow, fireImage, fireImages, firstRow, flatSizes};
-ghost use Rattle.flat_file.specs.internal.ReaderEnums.{mostRows, mostArcs, ArcsStand, RowsStand, Held, arcsAt};
+ghost use Rattle.flat_file.specs.internal.ReaderEnums.{mostRows, mostArcs, ArcsStand, RowsStand, FlatHeld, arcsAt};
 ghost use Rattle.flat.specs.Replies.{fireCalled, firstReply, sizesReply};
 
 // How many flat places and rows a flat file has, or the refusal.
@@ -44,15 +45,15 @@ pub fn flat_sizes(flat: &[u8]) -> SizesReply
 }
 
 // Fires the row whose arcs stand at a place of the file.
-fn fire_at(s: &[u8], start: usize, m: &mut [u16], places: &mut [u16], weights: &mut [u16]) -> u8
+fn fire_at(file: &[u8], start: usize, m: &mut [u16], places: &mut [u16], weights: &mut [u16]) -> u8
     requires { ⌜ length (now m) ≤ 4096 ⌝ }
-    requires { ⌜ ArcsStand (now s) start ⌝ }
-    requires { ⌜ mostArcs (length (now s)) ≤ length (now places) ⌝ }
-    requires { ⌜ mostArcs (length (now s)) ≤ length (now weights) ⌝ }
-    ensures { λ r. ⌜ ((row : Row) (next : ℕ) → arcsAt (now (s .entry)) (length (now (m .entry))) start ≡ fine row next
+    requires { ⌜ ArcsStand (now file) start ⌝ }
+    requires { ⌜ mostArcs (length (now file)) ≤ length (now places) ⌝ }
+    requires { ⌜ mostArcs (length (now file)) ≤ length (now weights) ⌝ }
+    ensures { λ r. ⌜ ((row : Row) (next : ℕ) → arcsAt (now (file .entry)) (length (now (m .entry))) start ≡ fine row next
         → fired r (now (m .exit)) ≡ fire [] (arcs.weights row) (now (m .entry))) ⌝ }
 {
-    let ends = load_arcs(s, start, places, weights);
+    let ends = load_arcs(file, start, places, weights);
     let takes = ends.takes;
     let puts = ends.puts;
     let a = answer(places, weights, ends, m);
@@ -61,8 +62,8 @@ fn fire_at(s: &[u8], start: usize, m: &mut [u16], places: &mut [u16], weights: &
 }
 
 // Fires the image number i.
-fn turn(
-    s: &[u8],
+fn fire_nth(
+    file: &[u8],
     starts: &[u32],
     rows: usize,
     m: &mut [u16],
@@ -74,10 +75,10 @@ fn turn(
     requires { ⌜ i * 5 + 5 ≤ length (now images) ⌝ }
     requires { ⌜ rows ≤ length (now starts) ⌝ }
     requires { ⌜ length (now m) ≤ 4096 ⌝ }
-    requires { ⌜ RowsStand (now s) (now starts) rows ⌝ }
-    requires { ⌜ mostArcs (length (now s)) ≤ length (now places) ⌝ }
-    requires { ⌜ mostArcs (length (now s)) ≤ length (now weights) ⌝ }
-    ensures { λ r. ⌜ ((f : Flat) → Held (now (s .entry)) (now (starts .entry)) (length (now (m .entry))) rows f
+    requires { ⌜ RowsStand (now file) (now starts) rows ⌝ }
+    requires { ⌜ mostArcs (length (now file)) ≤ length (now places) ⌝ }
+    requires { ⌜ mostArcs (length (now file)) ≤ length (now weights) ⌝ }
+    ensures { λ r. ⌜ ((f : Flat) → FlatHeld (now (file .entry)) (now (starts .entry)) (length (now (m .entry))) rows f
         → fired r (now (m .exit)) ≡ fireImage f (take 5 (drop (i * 5) (now (images .entry)))) (now (m .entry))) ⌝ }
 {
     let at = i * 5;
@@ -89,12 +90,12 @@ fn turn(
         return 1;
     }
     let start = starts[row] as usize;
-    fire_at(s, start, m, places, weights)
+    fire_at(file, start, m, places, weights)
 }
 
 // Fires the first count images, an answer each.
 fn fire_list(
-    s: &[u8],
+    file: &[u8],
     starts: &[u32],
     rows: usize,
     m: &mut [u16],
@@ -106,16 +107,16 @@ fn fire_list(
     requires { ⌜ length (now images) / 5 ≤ length (now answers) ⌝ }
     requires { ⌜ rows ≤ length (now starts) ⌝ }
     requires { ⌜ length (now m) ≤ 4096 ⌝ }
-    requires { ⌜ RowsStand (now s) (now starts) rows ⌝ }
-    requires { ⌜ mostArcs (length (now s)) ≤ length (now places) ⌝ }
-    requires { ⌜ mostArcs (length (now s)) ≤ length (now weights) ⌝ }
-    ensures { λ _. ⌜ ((f : Flat) → Held (now (s .entry)) (now (starts .entry)) (length (now (m .entry))) rows f
+    requires { ⌜ RowsStand (now file) (now starts) rows ⌝ }
+    requires { ⌜ mostArcs (length (now file)) ≤ length (now places) ⌝ }
+    requires { ⌜ mostArcs (length (now file)) ≤ length (now weights) ⌝ }
+    ensures { λ _. ⌜ ((f : Flat) → FlatHeld (now (file .entry)) (now (starts .entry)) (length (now (m .entry))) rows f
         → Ran (fireImage f) (items 5 (now (images .entry))) (now (m .entry)) (now (answers .entry)) (now (m .exit)) (now (answers .exit))) ⌝ }
 {
     let count = images.len() / 5;
     let mut i: usize = 0;
     while i < count {
-        let a = turn(s, starts, rows, m, images, i, places, weights);
+        let a = fire_nth(file, starts, rows, m, images, i, places, weights);
         answers[i] = a;
         i += 1;
     }
@@ -129,7 +130,7 @@ pub enum FireReply {
 
 // Fires a list of images with lists lent for where the rows start and for a row's arcs.
 fn fire_with(
-    s: &[u8],
+    file: &[u8],
     m: &mut [u16],
     images: &[u8],
     answers: &mut [u8],
@@ -137,13 +138,13 @@ fn fire_with(
     places: &mut [u16],
     weights: &mut [u16],
 ) -> FireReply
-    requires { ⌜ mostRows (length (now s)) ≤ length (now starts) ⌝ }
-    requires { ⌜ mostArcs (length (now s)) ≤ length (now places) ⌝ }
-    requires { ⌜ mostArcs (length (now s)) ≤ length (now weights) ⌝ }
+    requires { ⌜ mostRows (length (now file)) ≤ length (now starts) ⌝ }
+    requires { ⌜ mostArcs (length (now file)) ≤ length (now places) ⌝ }
+    requires { ⌜ mostArcs (length (now file)) ≤ length (now weights) ⌝ }
     ensures { λ r. ⌜ fireCalled r (now (m .exit)) (now (answers .exit))
-        ≡ fireImages (now (s .entry)) (now (m .entry)) (now (images .entry)) (now (answers .entry)) ⌝ }
+        ≡ fireImages (now (file .entry)) (now (m .entry)) (now (images .entry)) (now (answers .entry)) ⌝ }
 {
-    match scan_file(s, starts) {
+    match scan_file(file, starts) {
         Scan::Refused { number, place } => FireReply::Refused { number, place },
         Scan::Net {
             places: count,
@@ -167,7 +168,7 @@ fn fire_with(
                     place: 0,
                 };
             }
-            fire_list(s, starts, rows, m, images, answers, places, weights);
+            fire_list(file, starts, rows, m, images, answers, places, weights);
             FireReply::Answered {
                 count: images.len() / 5,
             }
@@ -195,8 +196,7 @@ fn fire_short(flat: &[u8], marking: &mut [u16], images: &[u8], answers: &mut [u8
     )
 }
 
-// On any file. It can call itself, though no file is so short: so the compiler keeps it apart, and its tables lie in no other
-// function's frame.
+// On any file. Kept apart (once_more).
 fn fire_long(
     flat: &[u8],
     marking: &mut [u16],
@@ -207,10 +207,8 @@ fn fire_long(
     ensures { λ r. ⌜ fireCalled r (now (marking .exit)) (now (answers .exit))
         ≡ fireImages (now (flat .entry)) (now (marking .entry)) (now (images .entry)) (now (answers .entry)) ⌝ }
 {
-    if flat.len() < 1 {
-        if again {
-            return fire_long(flat, marking, images, answers, false);
-        }
+    if once_more(flat, again) {
+        return fire_long(flat, marking, images, answers, false);
     }
     let mut starts = [0u32; 65536];
     let mut places = [0u16; 12288];
@@ -238,21 +236,21 @@ pub fn fire_images(flat: &[u8], marking: &mut [u16], images: &[u8], answers: &mu
 }
 
 // Whether the row whose arcs stand at a place of the file would fire.
-fn fires_at(s: &[u8], start: usize, m: &[u16], places: &mut [u16], weights: &mut [u16]) -> bool
+fn fires_at(file: &[u8], start: usize, m: &[u16], places: &mut [u16], weights: &mut [u16]) -> bool
     requires { ⌜ length (now m) ≤ 4096 ⌝ }
-    requires { ⌜ ArcsStand (now s) start ⌝ }
-    requires { ⌜ mostArcs (length (now s)) ≤ length (now places) ⌝ }
-    requires { ⌜ mostArcs (length (now s)) ≤ length (now weights) ⌝ }
-    ensures { λ r. ⌜ ((row : Row) (next : ℕ) → arcsAt (now (s .entry)) (length (now (m .entry))) start ≡ fine row next
+    requires { ⌜ ArcsStand (now file) start ⌝ }
+    requires { ⌜ mostArcs (length (now file)) ≤ length (now places) ⌝ }
+    requires { ⌜ mostArcs (length (now file)) ≤ length (now weights) ⌝ }
+    ensures { λ r. ⌜ ((row : Row) (next : ℕ) → arcsAt (now (file .entry)) (length (now (m .entry))) start ≡ fine row next
         → r ≡ eqb (fire [] (arcs.weights row) (now (m .entry)) .answer) 0) ⌝ }
 {
-    let ends = load_arcs(s, start, places, weights);
+    let ends = load_arcs(file, start, places, weights);
     answer(places, weights, ends, m) == 0
 }
 
 // The number of the first row that fires; the row count where none does.
 fn search_rows(
-    s: &[u8],
+    file: &[u8],
     starts: &[u32],
     rows: usize,
     m: &[u16],
@@ -261,16 +259,16 @@ fn search_rows(
 ) -> usize
     requires { ⌜ rows ≤ length (now starts) ⌝ }
     requires { ⌜ length (now m) ≤ 4096 ⌝ }
-    requires { ⌜ RowsStand (now s) (now starts) rows ⌝ }
-    requires { ⌜ mostArcs (length (now s)) ≤ length (now places) ⌝ }
-    requires { ⌜ mostArcs (length (now s)) ≤ length (now weights) ⌝ }
-    ensures { λ r. ⌜ ((f : Flat) → Held (now (s .entry)) (now (starts .entry)) (length (now (m .entry))) rows f
+    requires { ⌜ RowsStand (now file) (now starts) rows ⌝ }
+    requires { ⌜ mostArcs (length (now file)) ≤ length (now places) ⌝ }
+    requires { ⌜ mostArcs (length (now file)) ≤ length (now weights) ⌝ }
+    ensures { λ r. ⌜ ((f : Flat) → FlatHeld (now (file .entry)) (now (starts .entry)) (length (now (m .entry))) rows f
         → first (λ i. eqb (fireRow f i (now (m .entry)) .answer) 0) (below rows) ≡ stoppedAt rows r) ⌝ }
 {
     let mut i: usize = 0;
     while i < rows {
         let start = starts[i] as usize;
-        if fires_at(s, start, m, places, weights) {
+        if fires_at(file, start, m, places, weights) {
             return i;
         }
         i += 1;
@@ -287,18 +285,18 @@ pub enum FirstReply {
 
 // The first row that fires, with lists lent for where the rows start and for a row's arcs.
 fn first_with(
-    s: &[u8],
+    file: &[u8],
     m: &[u16],
     starts: &mut [u32],
     places: &mut [u16],
     weights: &mut [u16],
 ) -> FirstReply
-    requires { ⌜ mostRows (length (now s)) ≤ length (now starts) ⌝ }
-    requires { ⌜ mostArcs (length (now s)) ≤ length (now places) ⌝ }
-    requires { ⌜ mostArcs (length (now s)) ≤ length (now weights) ⌝ }
-    ensures { λ r. ⌜ firstReply r ≡ firstRow (now (s .entry)) (now (m .entry)) ⌝ }
+    requires { ⌜ mostRows (length (now file)) ≤ length (now starts) ⌝ }
+    requires { ⌜ mostArcs (length (now file)) ≤ length (now places) ⌝ }
+    requires { ⌜ mostArcs (length (now file)) ≤ length (now weights) ⌝ }
+    ensures { λ r. ⌜ firstReply r ≡ firstRow (now (file .entry)) (now (m .entry)) ⌝ }
 {
-    match scan_file(s, starts) {
+    match scan_file(file, starts) {
         Scan::Refused { number, place } => FirstReply::Refused { number, place },
         Scan::Net {
             places: count,
@@ -310,7 +308,7 @@ fn first_with(
                     place: 0,
                 };
             }
-            let row = search_rows(s, starts, rows, m, places, weights);
+            let row = search_rows(file, starts, rows, m, places, weights);
             if row < rows {
                 return FirstReply::Found {
                     row,
@@ -333,14 +331,12 @@ fn first_short(flat: &[u8], marking: &[u16]) -> FirstReply
     first_with(flat, marking, &mut starts, &mut places, &mut weights)
 }
 
-// On any file. It can call itself, as fire_long can.
+// On any file. Kept apart (once_more).
 fn first_long(flat: &[u8], marking: &[u16], again: bool) -> FirstReply
     ensures { λ r. ⌜ firstReply r ≡ firstRow (now (flat .entry)) (now (marking .entry)) ⌝ }
 {
-    if flat.len() < 1 {
-        if again {
-            return first_long(flat, marking, false);
-        }
+    if once_more(flat, again) {
+        return first_long(flat, marking, false);
     }
     let mut starts = [0u32; 65536];
     let mut places = [0u16; 12288];

@@ -1,18 +1,18 @@
 -- Pieces of bytes written one behind the other into a lent list. Assumes nothing.
-use mathlib.Core.Path.{_≡_, refl, sym, ap, _∙_}
+use mathlib.Core.Path.{_≡_, refl, sym, ap}
 use mathlib.Core.List.{append-assoc, append-nil}
 use Prim.Native.Nat.{_≤_, _<_}
 use native.Mathlib.Omega.{arith}
 use native.Mathlib.Nat.{add-zero}
 use native.Mathlib.Numerals.{add-one}
-use lib.ListN.{set, length-append, length-drop, length-map, length-take}
+use lib.ListN.{set, length-append, length-drop, length-take}
 use lib.Seq.{drop-cons, getD-take, length-take-le}
-use Rattle.reading.specs.Basics.{ℕ, zero, suc, _+_, _*_, _-_, List, [], _∷_, _++_, flatMap, length, getD, take, drop, over, numbersFrom}
+use Rattle.reading.specs.Basics.{ℕ, zero, suc, _+_, _*_, _-_, List, [], _∷_, _++_, flatMap, length, getD, take, drop, over}
 use Rattle.firing.specs.internal.RowLists.{arcsIn, rowIn}
-use Rattle.firing.specs.internal.Steps.{arcAt}
+use Rattle.firing.proofs.Rows.{length-arcs}
 use Rattle.firing.proofs.Running.{over-set}
 use Rattle.flat_file.specs.Flat.{arcBytes, rowBytes}
-use Rattle.flat_file.proofs.Written.{placeBytes, length-places, length-row, length-arcs}
+use Rattle.flat_file.proofs.Written.{placeBytes, length-places, length-row, length-arc-bytes}
 use Rattle.flat_file.specs.internal.Output.{Appended}
 
 -- nothing
@@ -94,28 +94,19 @@ pub take-none : (l : List ℕ) (n i : ℕ) → n ≤ i → drop i (take n l) ≡
 take-none l n i h = drop-none (take n l) i (omega (arith, length-take n l))
 
 -- ---- lengths
-numbers-length : (a n : ℕ) → length (numbersFrom a n) ≡ n
-unfolding numbersFrom
-numbers-length a zero = refl
-numbers-length a (suc n) = ap suc (numbers-length (a + 1) n)
-
-pub length-arcs-in : (places weights : List ℕ) (a b : ℕ) → length (arcsIn places weights a b) ≡ b - a
-unfolding arcsIn
-length-arcs-in places weights a b = length-map (numbersFrom a (b - a)) (arcAt places weights) ∙ numbers-length a (b - a)
-
 -- the place behind some arcs
 pub next-arcs : (byte : ℕ) (places weights : List ℕ) (a b : ℕ) {entry exit : List ℕ} {at next : ℕ}
     → Appended entry exit at next (flatMap (arcBytes byte) (arcsIn places weights a b)) → next ≡ at + 5 * (b - a)
 next-arcs byte places weights a b x =
-    omega (arith, x .next-is, length-arcs byte (arcsIn places weights a b), length-arcs-in places weights a b)
+    omega (arith, x .next-is, length-arc-bytes byte (arcsIn places weights a b), length-arcs places weights a b)
 
 -- a row's bytes, by its ends
 pub length-row-in : (places weights : List ℕ) (takes puts hinders : ℕ) → takes ≤ puts → puts ≤ hinders
     → length (rowBytes (rowIn places weights takes puts hinders)) ≡ 1 + 5 * hinders
 length-row-in places weights takes puts hinders h k =
-    let t = length-arcs-in places weights 0 takes in
-    let p = length-arcs-in places weights takes puts in
-    let q = length-arcs-in places weights puts hinders in
+    let t = length-arcs places weights 0 takes in
+    let p = length-arcs places weights takes puts in
+    let q = length-arcs places weights puts hinders in
     omega (arith, length-row (rowIn places weights takes puts hinders))
 
 -- the place behind a row

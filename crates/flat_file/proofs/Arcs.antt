@@ -13,11 +13,12 @@ use Rattle.reading.proofs.Parts.{Reading, begins, goes-on, ends, stops}
 use Rattle.firing.specs.Arcs.{Arc, Row, row, Rising, Proper}
 use Rattle.firing.specs.internal.RowLists.{arcsIn, rowIn}
 use Rattle.firing.specs.internal.Steps.{EndsWithin}
+use Rattle.firing.proofs.Rows.{length-arcs}
 use Rattle.flat_file.specs.Flat.{arcCommand, arcPart}
 use Rattle.flat_file.specs.internal.ReaderEnums.{ArcHere, mostArcs, inOrder, added, key, Least, arc, arcStep, ArcRoom, arcsAt, ArcsStand, laterEnd}
 use Rattle.flat_file.specs.declared.reader.ArcStep.{ArcStep}
 use Rattle.flat_file.specs.declared.reader.ArcStep.the-variants as arc-step
-use Rattle.flat_file.proofs.Rows.{in-order, least-added, proper-added, row-added, arcs-count, few-arcs, one-more, arcCount}
+use Rattle.flat_file.proofs.Rows.{in-order, least-added, proper-added, row-added, few-arcs, one-more, arcCount}
 
 -- ---- one arc
 module _ (s : List ℕ) (n at : ℕ) (r : Row) where
@@ -202,7 +203,7 @@ module _ {s : List ℕ} {start size space : ℕ} {places weights : List ℕ} {ta
   -- as many as the lists' front
   row-count : arcCount R ≡ end
   unfolding arcCount
-  row-count = omega (arith, arcs-count places weights 0 takes, arcs-count places weights takes puts, arcs-count places weights puts end, here .first, here .second)
+  row-count = omega (arith, length-arcs places weights 0 takes, length-arcs places weights takes puts, length-arcs places weights puts end, here .first, here .second)
 
   -- it lies in the lists
   pub load-within : EndsWithin places weights takes puts end

@@ -12,7 +12,7 @@ use Rattle.reading.proofs.Commands.{passes, done, fails, passing, failed, other
 use Rattle.reading.proofs.Parts.{Reading, begins, goes-on, ends, stops}
 use Rattle.firing.specs.Arcs.{Row, row}
 use Rattle.flat_file.specs.Flat.{Flat, placePart, arcPart, rowPart, readFlat}
-use Rattle.flat_file.specs.internal.ReaderEnums.{stepTold, StepRoom, PlacesHeld, arcsAt, Stands, RowsHeld, opening, closing, partTold, Counts, scanOf, Scanned}
+use Rattle.flat_file.specs.internal.ReaderEnums.{stepTold, StepRoom, PlacesHeld, arcsAt, RowsReadable, RowsHeld, opening, closing, partTold, Counts, scanOf, Scanned}
 use Rattle.flat_file.specs.declared.reader.Part.{Part}
 use Rattle.flat_file.specs.declared.reader.Part.the-variants as part
 use Rattle.flat_file.specs.declared.reader.Step.{Step}
@@ -76,7 +76,7 @@ pub record RowsSoFar (s : List ℕ) (n start size : ℕ) (starts : List ℕ) (co
   pub counted : count ≤ at
   pub within : at ≤ length s
   pub reading : Reading s (rowPart s n) rows at (whole s (rowPart s n) [] start)
-  pub stands : Stands s n starts rows
+  pub stands : RowsReadable s n starts rows
 
 -- before the first row
 pub rows-begin : (s : List ℕ) (n start : ℕ) (starts : List ℕ) → start ≤ 12290 → start ≤ length s → RowsSoFar s n start (length starts) starts 0 start
@@ -132,7 +132,7 @@ module _ {s : List ℕ} {n start size : ℕ} {starts : List ℕ} {count at : ℕ
       row-inside = (omega (arith, inside .0), inside .2 (row-room .1))
 
       -- every row so far, and this one, can be read again from its start
-      all-stand : Stands s n (set starts count (at + 1)) (with (here .rows) x)
+      all-stand : RowsReadable s n (set starts count (at + 1)) (with (here .rows) x)
       all-stand i lt room = elim (decLt i count) [ yes old ↦ earlier old | no new ↦ last (omega (arith, length-append (here .rows) (x ∷ []), here .sized)) ]
         where
           reached : i < length starts

@@ -5,12 +5,13 @@ use Prim.Native.Nat.{_≤_, _<_}
 use native.Mathlib.Omega.{arith}
 use native.Mathlib.Decide.{decLe}
 use borrow.Author.Tests.{lt-ltb, le-ltb, le-leb, lt-leb, ne-eqb, ltb-true, eqb-true}
-use lib.ListN.{set, length-append, length-map}
+use lib.ListN.{set, length-append}
 use lib.Seq.{getD-set-same, getD-set-other}
 use Rattle.reading.specs.Basics.{ℕ, zero, suc, _+_, _-_, _*_, Bool, _&&_, true, false, List, [], _∷_, map, length, getD, ltb, leb, eqb, with, numbersFrom, every}
 use Rattle.reading.proofs.Commands.{first-fails, second-fails}
 use Rattle.firing.specs.Arcs.{Arc, Row, Rising, none, more, Proper}
 use Rattle.firing.specs.internal.RowLists.{arcsIn, rowIn}
+use Rattle.firing.proofs.Rows.{length-arcs}
 use Rattle.flat_file.specs.Flat.{rise}
 use Rattle.flat_file.specs.internal.ReaderEnums.{inOrder, added, key, Least, arc, laterEnd}
 
@@ -119,16 +120,6 @@ module _ (r : Row) (a : Arc) (least : ℕ) (is : Least r least) (lt : a .place <
       (λ up. rises-on (r .hinders) a q (omega arith) ∙ (in-order r least is 2 q (omega arith) lt′ (omega arith))) (λ down. rises-not (r .hinders) a q (omega arith))
 
 -- ---- in two lent lists
--- so many arcs from a to b
-numbers-count : (a n : ℕ) → length (numbersFrom a n) ≡ n
-unfolding numbersFrom
-numbers-count a zero = refl
-numbers-count a (suc n) = ap suc (numbers-count (a + 1) n)
-
-pub arcs-count : (places weights : List ℕ) (a b : ℕ) → length (arcsIn places weights a b) ≡ b - a
-unfolding arcsIn
-arcs-count places weights a b = length-map (numbersFrom a (b - a)) _ ∙ numbers-count a (b - a)
-
 -- none from a to a
 none-there : (places weights : List ℕ) (a : ℕ) → arcsIn places weights a a ≡ []
 unfolding arcsIn numbersFrom
@@ -174,7 +165,7 @@ module _ (places weights : List ℕ) (takes puts end p w least : ℕ) (room : en
 
   -- no arcs, so both ends are one
   empty : (a b : ℕ) → a ≤ b → eqb (length (arcsIn places weights a b)) 0 ≡ true → a ≡ b
-  empty a b le e = omega (arith, arcs-count places weights a b, eqb-true (length (arcsIn places weights a b)) 0 e)
+  empty a b le e = omega (arith, length-arcs places weights a b, eqb-true (length (arcsIn places weights a b)) 0 e)
 
   -- before a take there are no puts, and before those no hinders
   no-puts : inOrder 0 R p ≡ true → takes ≡ puts

@@ -62,15 +62,15 @@ length-pieces f k e (a ∷ l) = omega (arith, length-append (f a) (flatMap f l),
 pub length-places : (l : List ℕ) → length (flatMap placeBytes l) ≡ 3 * length l
 length-places l = length-pieces placeBytes 3 (λ a. refl) l
 
-pub length-arcs : (byte : ℕ) (l : List Arc) → length (flatMap (arcBytes byte) l) ≡ 5 * length l
-length-arcs byte l = length-pieces (arcBytes byte) 5 (λ a. refl) l
+pub length-arc-bytes : (byte : ℕ) (l : List Arc) → length (flatMap (arcBytes byte) l) ≡ 5 * length l
+length-arc-bytes byte l = length-pieces (arcBytes byte) 5 (λ a. refl) l
 
 pub length-row : (r : Row) → length (rowBytes r) ≡ rowSize r
 length-row r =
     let takes = flatMap (arcBytes 0x52) (r .takes) in
     let puts = flatMap (arcBytes 0x53) (r .puts) in
     let hinders = flatMap (arcBytes 0x54) (r .hinders) in
-    omega (arith, length-append (takes ++ puts) hinders, length-append takes puts, length-arcs 0x52 (r .takes), length-arcs 0x53 (r .puts), length-arcs 0x54 (r .hinders))
+    omega (arith, length-append (takes ++ puts) hinders, length-append takes puts, length-arc-bytes 0x52 (r .takes), length-arc-bytes 0x53 (r .puts), length-arc-bytes 0x54 (r .hinders))
 
 pub length-rows : (l : List Row) → length (flatMap rowBytes l) ≡ sum (map rowSize l)
 unfolding flatMap

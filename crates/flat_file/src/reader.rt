@@ -13,21 +13,21 @@ ghost use Rattle.flat_file.specs.Flat.{Flat, placePart, arcPart, rowPart
 ghost use Rattle.flat_file.specs.internal.ReaderEnums.{mostArcs, ArcHere, Least, arcStep, ArcRoom, laterEnd, arcsAt, ArcsPassed, ArcsStand, stepTold, StepRoom, PlacesRead, rowEnd, RowsRead, opening, closing, partTold, PartWithin, Counts, scanOf, Scanned};
 
 // The u16 that stands whole at a place.
-fn word_in(s: &[u8], at: usize) -> usize
-    requires { ⌜ at + 2 ≤ length (now s) ⌝ }
-    ensures { λ r. ⌜ (r ≡ wordAt (now (s .entry)) at) × (r < 65536) ⌝ }
+fn word_in(file: &[u8], at: usize) -> usize
+    requires { ⌜ at + 2 ≤ length (now file) ⌝ }
+    ensures { λ r. ⌜ (r ≡ wordAt (now (file .entry)) at) × (r < 65536) ⌝ }
 {
-    s[at] as usize + 256 * (s[at + 1] as usize)
+    file[at] as usize + 256 * (file[at + 1] as usize)
 }
 
 // Whether an arc's command byte stands at a place of the file.
-fn arc_here(s: &[u8], at: usize) -> bool
-    ensures { λ r. ⌜ ArcHere (now (s .entry)) at r ⌝ }
+fn arc_here(file: &[u8], at: usize) -> bool
+    ensures { λ r. ⌜ ArcHere (now (file .entry)) at r ⌝ }
 {
-    if s.len() <= at {
+    if file.len() <= at {
         return false;
     }
-    let b = s[at];
+    let b = file[at];
     if b < 0x52 {
         return false;
     }
@@ -46,21 +46,21 @@ pub enum ArcStep {
 
 // An arc of a kind that stands whole at a place, over so many flat places. Its key is its kind * 65536 + its flat place;
 // the least key allowed is given.
-fn arc_of(s: &[u8], count: usize, at: usize, least: usize, kind: u8) -> ArcStep
+fn arc_of(file: &[u8], count: usize, at: usize, least: usize, kind: u8) -> ArcStep
     requires { ⌜ kind ≤ 2 ⌝ }
-    requires { ⌜ byteAt (now s) at ≡ 0x52 + kind ⌝ }
-    requires { ⌜ at + 5 ≤ length (now s) ⌝ }
-    ensures is { λ r. ⌜ ((before : Row) → Least before least → arcPart (now (s .entry)) count before at ≡ arcStep (at + 5) before r) ⌝ }
-    ensures room { λ r. ⌜ ArcRoom (length (now (s .entry))) count at least r ⌝ }
+    requires { ⌜ byteAt (now file) at ≡ 0x52 + kind ⌝ }
+    requires { ⌜ at + 5 ≤ length (now file) ⌝ }
+    ensures is { λ r. ⌜ ((before : Row) → Least before least → arcPart (now (file .entry)) count before at ≡ arcStep (at + 5) before r) ⌝ }
+    ensures room { λ r. ⌜ ArcRoom (length (now (file .entry))) count at least r ⌝ }
 {
-    let place = word_in(s, at + 1);
+    let place = word_in(file, at + 1);
     if count <= place {
         return ArcStep::Stop {
             number: 5,
             place: at,
         };
     }
-    let weight = word_in(s, at + 3);
+    let weight = word_in(file, at + 3);
     if weight < 1 {
         return ArcStep::Stop {
             number: 5,
@@ -81,18 +81,18 @@ fn arc_of(s: &[u8], count: usize, at: usize, least: usize, kind: u8) -> ArcStep
 }
 
 // The arc at a place of the file, or the end of the row.
-fn arc_at(s: &[u8], count: usize, at: usize, least: usize) -> ArcStep
-    ensures is { λ r. ⌜ ((before : Row) → Least before least → arcPart (now (s .entry)) count before at ≡ arcStep (at + 5) before r) ⌝ }
-    ensures room { λ r. ⌜ ArcRoom (length (now (s .entry))) count at least r ⌝ }
+fn arc_at(file: &[u8], count: usize, at: usize, least: usize) -> ArcStep
+    ensures is { λ r. ⌜ ((before : Row) → Least before least → arcPart (now (file .entry)) count before at ≡ arcStep (at + 5) before r) ⌝ }
+    ensures room { λ r. ⌜ ArcRoom (length (now (file .entry))) count at least r ⌝ }
 {
-    if arc_here(s, at) {
-        if s.len() < at + 5 {
+    if arc_here(file, at) {
+        if file.len() < at + 5 {
             return ArcStep::Stop {
                 number: 2,
-                place: s.len(),
+                place: file.len(),
             };
         }
-        return arc_of(s, count, at, least, s[at] - 0x52);
+        return arc_of(file, count, at, least, file[at] - 0x52);
     }
     ArcStep::Done
 }
@@ -104,14 +104,14 @@ pub enum RowRead {
 }
 
 // Passes over the arcs from a place on, over so many flat places, with all their checks.
-fn pass_arcs(s: &[u8], count: usize, at: usize) -> RowRead
+fn pass_arcs(file: &[u8], count: usize, at: usize) -> RowRead
     requires { ⌜ count ≤ 4096 ⌝ }
-    ensures { λ r. ⌜ ArcsPassed (now (s .entry)) count at r ⌝ }
+    ensures { λ r. ⌜ ArcsPassed (now (file .entry)) count at r ⌝ }
 {
     let mut least: usize = 0;
     let mut next = at;
     loop {
-        match arc_at(s, count, next, least) {
+        match arc_at(file, count, next, least) {
             ArcStep::Done => {
                 return RowRead::Whole { next };
             }
@@ -138,22 +138,22 @@ fn later_end(kind: u8, of: u8, more: usize, was: usize) -> usize
 }
 
 // Loads the arcs from a place on, which have passed all checks, into the front of two lent lists.
-pub fn load_arcs(s: &[u8], at: usize, places: &mut [u16], weights: &mut [u16]) -> Ends
-    requires { ⌜ ArcsStand (now s) at ⌝ }
-    requires { ⌜ mostArcs (length (now s)) ≤ length (now places) ⌝ }
-    requires { ⌜ mostArcs (length (now s)) ≤ length (now weights) ⌝ }
+pub fn load_arcs(file: &[u8], at: usize, places: &mut [u16], weights: &mut [u16]) -> Ends
+    requires { ⌜ ArcsStand (now file) at ⌝ }
+    requires { ⌜ mostArcs (length (now file)) ≤ length (now places) ⌝ }
+    requires { ⌜ mostArcs (length (now file)) ≤ length (now weights) ⌝ }
     ensures within { λ r. ⌜ EndsWithin (now (places .exit)) (now (weights .exit)) (r .takes) (r .puts) (r .hinders) ⌝ }
-    ensures is { λ r. ⌜ ((n : ℕ) (arcs : Row) (next : ℕ) → n ≤ 4096 → arcsAt (now (s .entry)) n at ≡ fine arcs next
+    ensures is { λ r. ⌜ ((n : ℕ) (arcs : Row) (next : ℕ) → n ≤ 4096 → arcsAt (now (file .entry)) n at ≡ fine arcs next
         → (rowIn (now (places .exit)) (now (weights .exit)) (r .takes) (r .puts) (r .hinders) ≡ arcs) × Proper n arcs) ⌝ }
 {
     let mut takes: usize = 0;
     let mut puts: usize = 0;
     let mut end: usize = 0;
     let mut next = at;
-    while arc_here(s, next) {
-        let kind = s[next] - 0x52;
-        let place = word_in(s, next + 1);
-        let weight = word_in(s, next + 3);
+    while arc_here(file, next) {
+        let kind = file[next] - 0x52;
+        let place = word_in(file, next + 1);
+        let weight = word_in(file, next + 3);
         places[end] = place as u16;
         weights[end] = weight as u16;
         end += 1;
@@ -176,19 +176,19 @@ pub enum Step {
 }
 
 // The flat place at a place of the file, after so many.
-fn place_at(s: &[u8], count: usize, at: usize) -> Step
-    ensures is { λ r. ⌜ ((initial : List ℕ) → length initial ≡ count → placePart (now (s .entry)) initial at
-        ≡ stepTold (fine (with initial (wordAt (now (s .entry)) (at + 1))) (at + 3)) r) ⌝ }
-    ensures room { λ r. ⌜ StepRoom 4096 3 (length (now (s .entry))) count at r ⌝ }
+fn place_at(file: &[u8], count: usize, at: usize) -> Step
+    ensures is { λ r. ⌜ ((initial : List ℕ) → length initial ≡ count → placePart (now (file .entry)) initial at
+        ≡ stepTold (fine (with initial (wordAt (now (file .entry)) (at + 1))) (at + 3)) r) ⌝ }
+    ensures room { λ r. ⌜ StepRoom 4096 3 (length (now (file .entry))) count at r ⌝ }
 {
-    if s.len() <= at {
+    if file.len() <= at {
         return Step::Done;
     }
-    if s[at] == 0x50 {
-        if s.len() < at + 3 {
+    if file[at] == 0x50 {
+        if file.len() < at + 3 {
             return Step::Stop {
                 number: 2,
-                place: s.len(),
+                place: file.len(),
             };
         }
         if 4096 <= count {
@@ -216,14 +216,14 @@ pub enum Part {
 }
 
 // The flat places. Their initial counts are not kept.
-fn read_places(s: &[u8], start: usize) -> Part
-    requires { ⌜ start ≤ length (now s) ⌝ }
-    ensures { λ r. ⌜ PlacesRead (now (s .entry)) start r ⌝ }
+fn read_places(file: &[u8], start: usize) -> Part
+    requires { ⌜ start ≤ length (now file) ⌝ }
+    ensures { λ r. ⌜ PlacesRead (now (file .entry)) start r ⌝ }
 {
     let mut count: usize = 0;
     let mut at = start;
     loop {
-        match place_at(s, count, at) {
+        match place_at(file, count, at) {
             Step::Done => {
                 return Part::Whole {
                     places: count,
@@ -243,15 +243,15 @@ fn read_places(s: &[u8], start: usize) -> Part
 }
 
 // The row command at a place of the file, after so many rows. Its arcs are not read here.
-fn row_at(s: &[u8], rows: usize, at: usize) -> Step
-    ensures is { λ r. ⌜ ((places : ℕ) (before : List Row) → length before ≡ rows → rowPart (now (s .entry)) places before at
-        ≡ stepTold (under (with before) (whole (now (s .entry)) (arcPart (now (s .entry)) places) (row [] [] []) (at + 1))) r) ⌝ }
-    ensures room { λ r. ⌜ StepRoom 65536 1 (length (now (s .entry))) rows at r ⌝ }
+fn row_at(file: &[u8], rows: usize, at: usize) -> Step
+    ensures is { λ r. ⌜ ((places : ℕ) (before : List Row) → length before ≡ rows → rowPart (now (file .entry)) places before at
+        ≡ stepTold (under (with before) (whole (now (file .entry)) (arcPart (now (file .entry)) places) (row [] [] []) (at + 1))) r) ⌝ }
+    ensures room { λ r. ⌜ StepRoom 65536 1 (length (now (file .entry))) rows at r ⌝ }
 {
-    if s.len() <= at {
+    if file.len() <= at {
         return Step::Done;
     }
-    if s[at] == 0x51 {
+    if file[at] == 0x51 {
         if 65536 <= rows {
             return Step::Stop {
                 number: 4,
@@ -285,16 +285,16 @@ fn keep(starts: &mut [u32], i: usize, start: usize)
 
 // The rows, over so many flat places: where each row's arcs start goes into the front of starts, as far as it reaches. Each
 // start is a u32: at most 65,535 rows of at most 61,441 bytes each stand before it.
-fn read_rows(s: &[u8], count: usize, start: usize, starts: &mut [u32]) -> Part
+fn read_rows(file: &[u8], count: usize, start: usize, starts: &mut [u32]) -> Part
     requires { ⌜ count ≤ 4096 ⌝ }
     requires { ⌜ start ≤ 12290 ⌝ }
-    requires { ⌜ start ≤ length (now s) ⌝ }
-    ensures { λ r. ⌜ RowsRead (now (s .entry)) count start (now (starts .exit)) r ⌝ }
+    requires { ⌜ start ≤ length (now file) ⌝ }
+    ensures { λ r. ⌜ RowsRead (now (file .entry)) count start (now (starts .exit)) r ⌝ }
 {
     let mut rows: usize = 0;
     let mut at = start;
     loop {
-        match row_at(s, rows, at) {
+        match row_at(file, rows, at) {
             Step::Done => {
                 return Part::Whole {
                     places: count,
@@ -306,7 +306,7 @@ fn read_rows(s: &[u8], count: usize, start: usize, starts: &mut [u32]) -> Part
                 return Part::Fault { number, place };
             }
             Step::More => {
-                let a = pass_arcs(s, count, at + 1);
+                let a = pass_arcs(file, count, at + 1);
                 let RowRead::Whole { next } = a else {
                     return row_end(count, rows, a);
                 };
@@ -319,29 +319,29 @@ fn read_rows(s: &[u8], count: usize, start: usize, starts: &mut [u32]) -> Part
 }
 
 // The file opens with 0x02 and edition 1.
-fn opens(s: &[u8]) -> Part
-    ensures is { λ r. ⌜ ((content : ℕ → Answer Flat) → opening (now (s .entry)) content ≡ partTold content r) ⌝ }
-    ensures room { λ r. ⌜ PartWithin (length (now (s .entry))) r ⌝ }
+fn opens(file: &[u8]) -> Part
+    ensures is { λ r. ⌜ ((content : ℕ → Answer Flat) → opening (now (file .entry)) content ≡ partTold content r) ⌝ }
+    ensures room { λ r. ⌜ PartWithin (length (now (file .entry))) r ⌝ }
 {
-    if s.len() < 1 {
+    if file.len() < 1 {
         return Part::Fault {
             number: 2,
-            place: s.len(),
+            place: file.len(),
         };
     }
-    if s[0] != 2 {
+    if file[0] != 2 {
         return Part::Fault {
             number: 3,
             place: 0,
         };
     }
-    if s.len() < 2 {
+    if file.len() < 2 {
         return Part::Fault {
             number: 2,
-            place: s.len(),
+            place: file.len(),
         };
     }
-    if s[1] != 1 {
+    if file[1] != 1 {
         return Part::Fault {
             number: 5,
             place: 0,
@@ -355,23 +355,23 @@ fn opens(s: &[u8]) -> Part
 }
 
 // The file closes at a place with 0x5F, and nothing after it.
-fn closes(s: &[u8], places: usize, rows: usize, at: usize) -> Part
-    ensures is { λ r. ⌜ ((f : Flat) → closing (now (s .entry)) f at ≡ partTold (fine f) r) ⌝ }
+fn closes(file: &[u8], places: usize, rows: usize, at: usize) -> Part
+    ensures is { λ r. ⌜ ((f : Flat) → closing (now (file .entry)) f at ≡ partTold (fine f) r) ⌝ }
     ensures counts { λ r. ⌜ Counts places rows r ⌝ }
 {
-    if s.len() <= at {
+    if file.len() <= at {
         return Part::Fault {
             number: 2,
-            place: s.len(),
+            place: file.len(),
         };
     }
-    if s[at] != 0x5F {
+    if file[at] != 0x5F {
         return Part::Fault {
             number: 3,
             place: at,
         };
     }
-    if at + 1 < s.len() {
+    if at + 1 < file.len() {
         return Part::Fault {
             number: 15,
             place: at + 1,
@@ -405,10 +405,10 @@ fn scan_of(a: Part) -> Scan
 }
 
 // Reads a whole flat file: where each row's arcs start goes into the front of starts, as far as it reaches.
-pub fn scan_file(s: &[u8], starts: &mut [u32]) -> Scan
-    ensures { λ r. ⌜ Scanned (now (s .entry)) (now (starts .exit)) r ⌝ }
+pub fn scan_file(file: &[u8], starts: &mut [u32]) -> Scan
+    ensures { λ r. ⌜ Scanned (now (file .entry)) (now (starts .exit)) r ⌝ }
 {
-    let a = opens(s);
+    let a = opens(file);
     let Part::Whole {
         places: _,
         rows: _,
@@ -417,7 +417,7 @@ pub fn scan_file(s: &[u8], starts: &mut [u32]) -> Scan
     else {
         return scan_of(a);
     };
-    let b = read_places(s, start);
+    let b = read_places(file, start);
     let Part::Whole {
         places: count,
         rows: _,
@@ -426,7 +426,7 @@ pub fn scan_file(s: &[u8], starts: &mut [u32]) -> Scan
     else {
         return scan_of(b);
     };
-    let c = read_rows(s, count, at, starts);
+    let c = read_rows(file, count, at, starts);
     let Part::Whole {
         places: _,
         rows,
@@ -435,5 +435,5 @@ pub fn scan_file(s: &[u8], starts: &mut [u32]) -> Scan
     else {
         return scan_of(c);
     };
-    scan_of(closes(s, count, rows, end))
+    scan_of(closes(file, count, rows, end))
 }

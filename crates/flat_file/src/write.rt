@@ -24,14 +24,14 @@ pub fn put_byte(out: &mut [u8], at: usize, b: u8) -> usize
 }
 
 // The bytes of a list.
-pub fn put_bytes(s: &[u8], out: &mut [u8], at: usize) -> usize
-    requires { ⌜ at + length (now s) ≤ length (now out) ⌝ }
-    ensures { λ r. ⌜ Appended (now (out .entry)) (now (out .exit)) at r (now (s .entry)) ⌝ }
+pub fn put_bytes(file: &[u8], out: &mut [u8], at: usize) -> usize
+    requires { ⌜ at + length (now file) ≤ length (now out) ⌝ }
+    ensures { λ r. ⌜ Appended (now (out .entry)) (now (out .exit)) at r (now (file .entry)) ⌝ }
 {
     let mut next = at;
     let mut i = 0;
-    while i < s.len() {
-        next = put_byte(out, next, s[i]);
+    while i < file.len() {
+        next = put_byte(out, next, file[i]);
         i += 1;
     }
     next

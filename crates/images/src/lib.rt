@@ -1,11 +1,12 @@
 // Gives the images of orders on a flat net, and the order of a row.
-mod answer;
+mod image;
 
-use answer::write_images;
 pub use bindings::Order;
 use bindings::order_at;
+use image::write_images;
 use prepared::Preparing;
 use prepared::prepare;
+use reading::once_more;
 use row_numbers::Located;
 use row_numbers::count_entries;
 use row_numbers::number_all;
@@ -28,49 +29,57 @@ pub enum ImagesReply {
 }
 
 // Writes the images of orders on a prepared net, with a table lent for the row numbers.
-fn images_with(s: &[u8], plan: &[u32; 3584], orders: &[u8], out: &mut [u8], numbers: &mut [u32])
+fn images_with(file: &[u8], plan: &[u32; 3584], orders: &[u8], out: &mut [u8], numbers: &mut [u32])
     requires { ⌜ length (now orders) / 6 * 5 ≤ length (now out) ⌝ }
-    ensures { λ _. ⌜ ((n : Net) → Prepared (now (s .entry)) n (now (plan .entry))
+    ensures { λ _. ⌜ ((n : Net) → Prepared (now (file .entry)) n (now (plan .entry))
         → entries n (now (plan .entry)) (length (n .transitions)) ≤ length (now (numbers .entry))
         → now (out .exit) ≡ over (meant.images n (now (orders .entry))) (now (out .entry))) ⌝ }
 {
     let mut starts = [0usize; 32];
-    number_all(s, plan, &mut starts, numbers);
+    number_all(file, plan, &mut starts, numbers);
     write_images(plan, &starts, numbers, orders, out);
 }
 
-// Where a table of 1,024 entries is enough.
-fn images_short(s: &[u8], plan: &[u32; 3584], orders: &[u8], out: &mut [u8])
+// Where a table of 64 entries is enough.
+fn images_few(file: &[u8], plan: &[u32; 3584], orders: &[u8], out: &mut [u8])
     requires { ⌜ length (now orders) / 6 * 5 ≤ length (now out) ⌝ }
-    ensures { λ _. ⌜ ((n : Net) → Prepared (now (s .entry)) n (now (plan .entry))
+    ensures { λ _. ⌜ ((n : Net) → Prepared (now (file .entry)) n (now (plan .entry))
+        → entries n (now (plan .entry)) (length (n .transitions)) ≤ 64
+        → now (out .exit) ≡ over (meant.images n (now (orders .entry))) (now (out .entry))) ⌝ }
+{
+    let mut numbers = [0u32; 64];
+    images_with(file, plan, orders, out, &mut numbers);
+}
+
+// Where a table of 1,024 entries is enough.
+fn images_short(file: &[u8], plan: &[u32; 3584], orders: &[u8], out: &mut [u8])
+    requires { ⌜ length (now orders) / 6 * 5 ≤ length (now out) ⌝ }
+    ensures { λ _. ⌜ ((n : Net) → Prepared (now (file .entry)) n (now (plan .entry))
         → entries n (now (plan .entry)) (length (n .transitions)) ≤ 1024
         → now (out .exit) ≡ over (meant.images n (now (orders .entry))) (now (out .entry))) ⌝ }
 {
     let mut numbers = [0u32; 1024];
-    images_with(s, plan, orders, out, &mut numbers);
+    images_with(file, plan, orders, out, &mut numbers);
 }
 
-// On any net. It can call itself, once, on an empty file, whose rows need none: so the compiler keeps it apart, and its table lies in no
-// other function's frame.
-fn images_long(s: &[u8], plan: &[u32; 3584], orders: &[u8], out: &mut [u8], again: bool)
+// On any net. Kept apart (once_more).
+fn images_long(file: &[u8], plan: &[u32; 3584], orders: &[u8], out: &mut [u8], again: bool)
     requires { ⌜ length (now orders) / 6 * 5 ≤ length (now out) ⌝ }
-    ensures { λ _. ⌜ ((n : Net) → Prepared (now (s .entry)) n (now (plan .entry))
+    ensures { λ _. ⌜ ((n : Net) → Prepared (now (file .entry)) n (now (plan .entry))
         → now (out .exit) ≡ over (meant.images n (now (orders .entry))) (now (out .entry))) ⌝ }
 {
-    if s.len() < 1 {
-        if again {
-            images_long(s, plan, orders, out, false);
-            return;
-        }
+    if once_more(file, again) {
+        images_long(file, plan, orders, out, false);
+        return;
     }
     let mut numbers = [0u32; 65536];
-    images_with(s, plan, orders, out, &mut numbers);
+    images_with(file, plan, orders, out, &mut numbers);
 }
 
 // The images of orders on a prepared net.
-fn images_of(s: &[u8], plan: &[u32; 3584], orders: &[u8], out: &mut [u8]) -> ImagesReply
-    ensures { λ r. ⌜ ((n : Net) → Prepared (now (s .entry)) n (now (plan .entry))
-        → imagesCalled r (now (out .exit)) ≡ imagesCall (now (s .entry)) (now (orders .entry)) (now (out .entry))) ⌝ }
+fn images_of(file: &[u8], plan: &[u32; 3584], orders: &[u8], out: &mut [u8]) -> ImagesReply
+    ensures { λ r. ⌜ ((n : Net) → Prepared (now (file .entry)) n (now (plan .entry))
+        → imagesCalled r (now (out .exit)) ≡ imagesCall (now (file .entry)) (now (orders .entry)) (now (out .entry))) ⌝ }
 {
     if orders.len() % 6 != 0 {
         return ImagesReply::Refused {
@@ -85,11 +94,16 @@ fn images_of(s: &[u8], plan: &[u32; 3584], orders: &[u8], out: &mut [u8]) -> Ima
             place: 0,
         };
     }
-    if count_entries(plan) <= 1024 {
-        images_short(s, plan, orders, out);
+    let entries = count_entries(plan);
+    if entries <= 64 {
+        images_few(file, plan, orders, out);
         return ImagesReply::Answered { count };
     }
-    images_long(s, plan, orders, out, true);
+    if entries <= 1024 {
+        images_short(file, plan, orders, out);
+        return ImagesReply::Answered { count };
+    }
+    images_long(file, plan, orders, out, true);
     ImagesReply::Answered { count }
 }
 
@@ -101,10 +115,10 @@ pub enum OrderReply {
 }
 
 // The order of a row of a prepared net.
-fn order_of(s: &[u8], plan: &[u32; 3584], row: u32) -> OrderReply
-    ensures { λ r. ⌜ ((n : Net) → Prepared (now (s .entry)) n (now (plan .entry)) → orderReply r ≡ orderCall (now (s .entry)) row) ⌝ }
+fn order_of(file: &[u8], plan: &[u32; 3584], row: u32) -> OrderReply
+    ensures { λ r. ⌜ ((n : Net) → Prepared (now (file .entry)) n (now (plan .entry)) → orderReply r ≡ orderCall (now (file .entry)) row) ⌝ }
 {
-    match seek_row(s, plan, row as usize) {
+    match seek_row(file, plan, row as usize) {
         Located::Nowhere => OrderReply::NoRow,
         Located::At { transition, index } => OrderReply::Found {
             order: order_at(plan, transition, index),

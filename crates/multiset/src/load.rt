@@ -5,6 +5,7 @@ use plan::is_pair;
 use plan::ranks_of;
 use plan::start_of;
 use reading::byte_at;
+use reading::once_more;
 use reading::word_at;
 use runs::slot;
 use sums::Spot;
@@ -16,7 +17,7 @@ ghost use Prim.Native.Nat.{ℕ, _≤_, _<_, _+_};
 ghost use lib.ListN.{length, getD};
 ghost use Rattle.reading.specs.Basics.{byteAt};
 ghost use Rattle.plan.specs.internal.Layout.{expressionIn};
-ghost use Rattle.runs.specs.internal.Terms.{Appended};
+ghost use Rattle.runs.specs.internal.Terms.{ArcsAppended};
 ghost use Rattle.sums.specs.internal.Loaded.{oneArc, rankArcs, TermsLoaded, ArcLoaded};
 
 // Stores an arc after so many, if its weight is above 0: how many there are then. Past the end it stores nothing.
@@ -28,7 +29,7 @@ pub fn append(
     weight: u16,
 ) -> usize
     ensures is { λ r. ⌜ ((0 < weight → (used < length (now (places .entry))) × (used < length (now (amounts .entry))))
-        → Appended (oneArc place weight) (now (places .entry)) (now (amounts .entry)) used (now (places .exit)) (now (amounts .exit)) r) ⌝ }
+        → ArcsAppended (oneArc place weight) (now (places .entry)) (now (amounts .entry)) used (now (places .exit)) (now (amounts .exit)) r) ⌝ }
     ensures behind { λ r. ⌜ ((i : ℕ) → r ≤ i → (getD (now (places .exit)) i 0 ≡ getD (now (places .entry)) i 0) × (getD (now (amounts .exit)) i 0 ≡ getD (now (amounts .entry)) i 0)) ⌝ }
 {
     if weight < 1 {
@@ -67,7 +68,7 @@ fn fill(
 ) -> usize
     requires { ⌜ place + many ≤ 65535 ⌝ }
     ensures is { λ r. ⌜ (used + many ≤ length (now (places .entry)) → used + many ≤ length (now (amounts .entry))
-        → Appended (rankArcs place many (λ _. rest)) (now (places .entry)) (now (amounts .entry)) used (now (places .exit)) (now (amounts .exit)) r) ⌝ }
+        → ArcsAppended (rankArcs place many (λ _. rest)) (now (places .entry)) (now (amounts .entry)) used (now (places .exit)) (now (amounts .exit)) r) ⌝ }
     ensures behind { λ r. ⌜ ((i : ℕ) → r ≤ i → (getD (now (places .exit)) i 0 ≡ getD (now (places .entry)) i 0) × (getD (now (amounts .exit)) i 0 ≡ getD (now (amounts .entry)) i 0)) ⌝ }
 {
     if rest < 1 {
@@ -125,9 +126,9 @@ fn load_terms(
 
 // Appends the arcs of any expression but 0x40: its terms first, behind the room for its arcs.
 // A sum of counts is gone through operand after operand; where something else stands inside, the terms are listed by recursion.
-// It can call itself, on an empty file and once, so that it is not built into load_arc: the way of 0x40 stays short.
+// Kept apart (once_more) from load_arc: the way of 0x40 stays short.
 fn load_listed(
-    s: &[u8],
+    file: &[u8],
     plan: &[u32; 3584],
     env: &[u8; 32],
     entry: u64,
@@ -136,14 +137,12 @@ fn load_listed(
     used: usize,
     again: bool,
 ) -> usize
-    requires { ⌜ (byteAt (now s) (expressionIn entry) ≡ 0x40 → ⊥) ⌝ }
-    ensures { λ r. ⌜ ArcLoaded (now (s .entry)) (now (plan .entry)) (now (env .entry)) entry
+    requires { ⌜ (byteAt (now file) (expressionIn entry) ≡ 0x40 → ⊥) ⌝ }
+    ensures { λ r. ⌜ ArcLoaded (now (file .entry)) (now (plan .entry)) (now (env .entry)) entry
         (now (places .entry)) (now (amounts .entry)) used (now (places .exit)) (now (amounts .exit)) r ⌝ }
 {
-    if s.len() < 1 {
-        if again {
-            return load_listed(s, plan, env, entry, places, amounts, used, false);
-        }
+    if once_more(file, again) {
+        return load_listed(file, plan, env, entry, places, amounts, used, false);
     }
     let start = start_of(entry);
     let count = ranks_of(entry);
@@ -155,21 +154,21 @@ fn load_listed(
         return used;
     }
     let base = used + count;
-    if byte_at(s, at) == 0x42 {
-        let sum = sum_terms(&s, plan, env, entry, at, places, amounts, base);
+    if byte_at(file, at) == 0x42 {
+        let sum = sum_terms(&file, plan, env, entry, at, places, amounts, base);
         if sum.ahead < 1 {
             return load_terms(start, count, base, sum.end, 0, places, amounts, used);
         }
     }
     let whole = Spot { left: 16, at };
-    let m = list_terms(&s, plan, env, entry, whole, places, amounts, base);
+    let m = list_terms(&file, plan, env, entry, whole, places, amounts, base);
     load_terms(start, count, base, m.end, m.rest, places, amounts, used)
 }
 
 // Appends the arcs of an arc's expression, which its entry tells, with the ranks of its place and where the place's flat places begin.
 // A count of one colour or pair, 0x40, has one arc at most.
 pub fn load_arc(
-    s: &[u8],
+    file: &[u8],
     plan: &[u32; 3584],
     env: &[u8; 32],
     entry: u64,
@@ -177,18 +176,18 @@ pub fn load_arc(
     amounts: &mut [u16],
     used: usize,
 ) -> usize
-    ensures { λ r. ⌜ ArcLoaded (now (s .entry)) (now (plan .entry)) (now (env .entry)) entry
+    ensures { λ r. ⌜ ArcLoaded (now (file .entry)) (now (plan .entry)) (now (env .entry)) entry
         (now (places .entry)) (now (amounts .entry)) used (now (places .exit)) (now (amounts .exit)) r ⌝ }
 {
     let at = expression_of(entry);
-    if byte_at(s, at) != 0x40 {
-        return load_listed(s, plan, env, entry, places, amounts, used, true);
+    if byte_at(file, at) != 0x40 {
+        return load_listed(file, plan, env, entry, places, amounts, used, true);
     }
-    let rank = eval_rank(s, plan, env, is_pair(entry), 15, at + 3).rank;
+    let rank = eval_rank(file, plan, env, is_pair(entry), 15, at + 3).rank;
     if ranks_of(entry) <= rank {
         return used;
     }
-    let weight = word_at(s, at + 1);
+    let weight = word_at(file, at + 1);
     append(
         places,
         amounts,

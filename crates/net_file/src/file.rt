@@ -23,19 +23,19 @@ fn stopped(number: u8, place: usize) -> Part
 }
 
 // The first command: 0x01 and edition 1.
-fn read_opening(s: &[u8]) -> Part
+fn read_opening(file: &[u8]) -> Part
     ensures bare { λ r. ⌜ Bare r ⌝ }
-    ensures told { λ r. ⌜ ((content : ℕ → Answer Net) → opened (now (s .entry)) content ≡ openTold content r) ⌝ }
+    ensures told { λ r. ⌜ ((content : ℕ → Answer Net) → opened (now (file .entry)) content ≡ openTold content r) ⌝ }
 {
-    if s.len() < 1 {
-        return stopped(2, s.len());
+    if file.len() < 1 {
+        return stopped(2, file.len());
     }
-    if s[0] == 0x01 {
-        let next = after(s, 0);
-        if s.len() < next {
-            return stopped(2, s.len());
+    if file[0] == 0x01 {
+        let next = after(file, 0);
+        if file.len() < next {
+            return stopped(2, file.len());
         }
-        if s[1] == 1 {
+        if file[1] == 1 {
             return Part::Whole(0, 0, next);
         }
         return stopped(5, 0);
@@ -44,16 +44,16 @@ fn read_opening(s: &[u8]) -> Part
 }
 
 // The last command: 0x1F, and nothing after it.
-fn read_closing(s: &[u8], at: usize) -> Part
+fn read_closing(file: &[u8], at: usize) -> Part
     ensures bare { λ r. ⌜ Bare r ⌝ }
-    ensures told { λ r. ⌜ ((n : Net) → closed (now (s .entry)) n at ≡ closeTold n r) ⌝ }
+    ensures told { λ r. ⌜ ((n : Net) → closed (now (file .entry)) n at ≡ closeTold n r) ⌝ }
 {
-    if s.len() <= at {
-        return stopped(2, s.len());
+    if file.len() <= at {
+        return stopped(2, file.len());
     }
-    if s[at] == 0x1F {
-        let next = after(s, at);
-        if next < s.len() {
+    if file[at] == 0x1F {
+        let next = after(file, at);
+        if next < file.len() {
             return stopped(15, next);
         }
         return Part::Whole(0, 0, next);
@@ -92,7 +92,7 @@ fn refused(part: Part) -> NetRead
 
 // The whole net file: what it holds goes into the lent tables.
 pub fn read_net(
-    s: &[u8],
+    file: &[u8],
     sizes: &mut [u8],
     vars: &mut [u8],
     kinds: &mut [u16],
@@ -107,33 +107,33 @@ pub fn read_net(
     requires { ⌜ length (now starts) ≡ 33 ⌝ }
     requires { ⌜ length (now heads) ≡ 64 ⌝ }
     requires { ⌜ length (now arcs) ≡ 3072 ⌝ }
-    ensures { λ r. ⌜ NetTold (now (s .entry)) (now (sizes .exit)) (now (vars .exit)) (now (kinds .exit)) (now (starts .exit))
+    ensures { λ r. ⌜ NetTold (now (file .entry)) (now (sizes .exit)) (now (vars .exit)) (now (kinds .exit)) (now (starts .exit))
         (now (heads .exit)) (now (arcs .exit)) (now (initial .exit)) r ⌝ }
 {
-    if 16384 < s.len() {
+    if 16384 < file.len() {
         return NetRead::Refused {
             number: 1,
             place: 16384,
         };
     }
-    let part = read_opening(s);
+    let part = read_opening(file);
     let Part::Whole(_, _, next) = part else {
         return refused(part);
     };
-    let part = read_sets(s, sizes, next);
+    let part = read_sets(file, sizes, next);
     let Part::Whole(sets, _, next) = part else {
         return refused(part);
     };
-    let part = read_variables(s, &sizes[..sets], vars, next);
+    let part = read_variables(file, &sizes[..sets], vars, next);
     let Part::Whole(variables, _, next) = part else {
         return refused(part);
     };
-    let part = read_places(s, &sizes[..sets], kinds, starts, next);
+    let part = read_places(file, &sizes[..sets], kinds, starts, next);
     let Part::Whole(places, total, next) = part else {
         return refused(part);
     };
     let part = read_transitions(
-        s,
+        file,
         &sizes[..sets],
         &vars[..variables],
         &kinds[..places],
@@ -144,11 +144,11 @@ pub fn read_net(
     let Part::Whole(transitions, space, next) = part else {
         return refused(part);
     };
-    let part = read_tokens(s, starts, places, total, initial, next);
+    let part = read_tokens(file, starts, places, total, initial, next);
     let Part::Whole(_, _, next) = part else {
         return refused(part);
     };
-    let part = read_closing(s, next);
+    let part = read_closing(file, next);
     let Part::Whole(_, _, _) = part else {
         return refused(part);
     };

@@ -14,7 +14,7 @@ use Rattle.reading.proofs.Parts.{Reading, begins, goes-on, ends, stops}
 use Rattle.net.specs.Net.{Place, single, Tokens, Net, coloursOf, placeAt, tokensOn}
 use Rattle.net.specs.Reader.{widthOf}
 use Rattle.net_parts.specs.Parts.{tokensPart}
-use Rattle.net_parts.specs.internal.Tables.{startOf, Started, Rising, flatAt, countOf, flag, Holds, tokenStep, TokenRoom, TokensRead}
+use Rattle.net_parts.specs.internal.Tables.{startOf, Started, StartsRise, flatAt, countOf, flag, Holds, tokenStep, TokenRoom, TokensRead}
 use Rattle.net_parts.specs.declared.token.TokenStep.{TokenStep}
 use Rattle.net_parts.specs.declared.token.TokenStep.the-variants.{Done, More, Stop}
 use Rattle.net.proofs.Shut.{commands}
@@ -68,7 +68,7 @@ module _ {n : Net} {places : List Place} {starts : List ℕ} {count total : ℕ}
       whole-is : take count places ≡ places
       whole-is = open-take places count (here .are)
 
-  pub rising : count < length starts → Rising starts count total
+  pub rising : count < length starts → StartsRise starts count total
   rising lt = record {
     sized = lt;
     small = here .small;
@@ -196,6 +196,15 @@ pub record Tokening (s : List ℕ) (n : Net) (start : ℕ) (starts initial named
   pub counts : Holds n tokens countOf starts initial
   pub names : Holds n tokens flag starts named
 
+-- there are none
+pub no-tokens : {s starts : List ℕ} {count total start : ℕ} (initial : List ℕ) → (byteAt s start ≡ 0x19 → ⊥) → ((i : ℕ) → i < total → getD initial i 0 ≡ 0)
+    → (n : Net) → Started n (n .places) starts count total → TokensRead s n start starts initial start
+no-tokens {s} {start = start} initial ne zeros n begun = record {
+  tokens = [];
+  read = ends s (tokensPart s n) (begins s (tokensPart s n) [] start) (tokens-other s n [] start ne);
+  holds = holds-none begun countOf initial refl zeros;
+}
+
 -- over every net whose flat places begin so
 pub record TokenLoop (s starts : List ℕ) (count total start len : ℕ) (initial named : List ℕ) (at : ℕ) : Type 0 where
   pub counted : length initial ≡ len
@@ -227,10 +236,10 @@ module _ {s starts : List ℕ} {count total start len : ℕ} {initial named : Li
   tokening-stops e n begun =
       let now = here .each n begun in stops s (tokensPart s n) (now .reading) (rw e at room) (rw e at (is n (now .tokens) begun (now .names)))
 
-  pub token-below : Rising starts count total → {p rank amount flat next : ℕ} → r ≡ More p rank amount flat next → flat < 4096
+  pub token-below : StartsRise starts count total → {p rank amount flat next : ℕ} → r ≡ More p rank amount flat next → flat < 4096
   token-below rises {p} e = let h = rw e at room in omega (arith, h .2, rises .bound p (h .0), rises .small)
 
-  pub tokening-goes : Rising starts count total → {p rank amount flat next : ℕ} → r ≡ More p rank amount flat next
+  pub tokening-goes : StartsRise starts count total → {p rank amount flat next : ℕ} → r ≡ More p rank amount flat next
       → TokenLoop s starts count total start len (set initial flat amount) (set named flat 1) next
   tokening-goes rises {p} {rank} {amount} {flat} {next} e = record {
     counted = length-set initial flat amount ∙ here .counted;

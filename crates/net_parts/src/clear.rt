@@ -1,7 +1,7 @@
 // The front of a lent table set to 0.
 ghost use mathlib.Core.Path.{_≡_};
-ghost use Prim.Native.Nat.{ℕ, _≤_, _<_};
-ghost use lib.ListN.{length, getD};
+ghost use Prim.Native.Nat.{ℕ, _<_};
+ghost use lib.ListN.{getD};
 
 // The first n words.
 pub fn clear_words(l: &mut [u16], n: usize)
@@ -12,18 +12,6 @@ pub fn clear_words(l: &mut [u16], n: usize)
         if l.len() <= i {
             return;
         }
-        l[i] = 0;
-        i += 1;
-    }
-}
-
-// The first n slots.
-pub fn clear_slots(l: &mut [u32], n: usize)
-    requires { ⌜ n ≤ length (now l) ⌝ }
-    ensures { λ r. ⌜ ((i : ℕ) → i < n → getD (now (l .exit)) i 0 ≡ 0) ⌝ }
-{
-    let mut i = 0;
-    while i < n {
         l[i] = 0;
         i += 1;
     }

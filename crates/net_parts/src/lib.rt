@@ -3,7 +3,6 @@ mod clear;
 mod place;
 mod token;
 
-pub use clear::clear_slots;
 use net::after;
 use net::entry;
 pub use place::read_places;
@@ -34,21 +33,21 @@ fn stop(number: u8, place: usize) -> SetStep
 }
 
 // The set command at a place, after so many sets.
-fn set_at(s: &[u8], count: usize, at: usize) -> SetStep
-    ensures is { λ r. ⌜ ((sets : List ℕ) → length sets ≡ count → setPart (now (s .entry)) sets at ≡ setStep sets r) ⌝ }
-    ensures room { λ r. ⌜ Room (length (now (s .entry))) count at r ⌝ }
+fn set_at(file: &[u8], count: usize, at: usize) -> SetStep
+    ensures is { λ r. ⌜ ((sets : List ℕ) → length sets ≡ count → setPart (now (file .entry)) sets at ≡ setStep sets r) ⌝ }
+    ensures room { λ r. ⌜ Room (length (now (file .entry))) count at r ⌝ }
 {
-    if s.len() <= at {
+    if file.len() <= at {
         return SetStep::Done;
     }
-    if s[at] != 0x10 {
+    if file[at] != 0x10 {
         return SetStep::Done;
     }
-    let next = after(s, at);
-    if s.len() < next {
-        return stop(2, s.len());
+    let next = after(file, at);
+    if file.len() < next {
+        return stop(2, file.len());
     }
-    let size = s[at + 1];
+    let size = file[at + 1];
     if size < 1 {
         return stop(5, at);
     }
@@ -68,15 +67,15 @@ pub enum Part {
 }
 
 // The set part: the sizes go into the front of a lent list of 16.
-pub fn read_sets(s: &[u8], sizes: &mut [u8], start: usize) -> Part
+pub fn read_sets(file: &[u8], sizes: &mut [u8], start: usize) -> Part
     requires { ⌜ length (now sizes) ≡ 16 ⌝ }
     ensures few { λ r. ⌜ Few 16 r ⌝ }
-    ensures is { λ r. ⌜ setsRead (now (sizes .exit)) r ≡ whole (now (s .entry)) (setPart (now (s .entry))) [] start ⌝ }
+    ensures is { λ r. ⌜ setsRead (now (sizes .exit)) r ≡ whole (now (file .entry)) (setPart (now (file .entry))) [] start ⌝ }
 {
     let mut count: usize = 0;
     let mut at = start;
     loop {
-        match set_at(s, count, at) {
+        match set_at(file, count, at) {
             SetStep::Done => {
                 return Part::Whole(count, 0, at);
             }
@@ -93,22 +92,22 @@ pub fn read_sets(s: &[u8], sizes: &mut [u8], start: usize) -> Part
 }
 
 // The variable command at a place, after so many variables.
-fn variable_at(s: &[u8], sets: &[u8], count: usize, at: usize) -> SetStep
+fn variable_at(file: &[u8], sets: &[u8], count: usize, at: usize) -> SetStep
     ensures is { λ r. ⌜ ((variables : List ℕ) → length variables ≡ count
-        → variablePart (now (s .entry)) (scope (now (sets .entry)) [] []) variables at ≡ setStep variables r) ⌝ }
-    ensures room { λ r. ⌜ RoomFor 32 (length (now (s .entry))) count at r ⌝ }
+        → variablePart (now (file .entry)) (scope (now (sets .entry)) [] []) variables at ≡ setStep variables r) ⌝ }
+    ensures room { λ r. ⌜ RoomFor 32 (length (now (file .entry))) count at r ⌝ }
 {
-    if s.len() <= at {
+    if file.len() <= at {
         return SetStep::Done;
     }
-    if s[at] != 0x11 {
+    if file[at] != 0x11 {
         return SetStep::Done;
     }
-    let next = after(s, at);
-    if s.len() < next {
-        return stop(2, s.len());
+    let next = after(file, at);
+    if file.len() < next {
+        return stop(2, file.len());
     }
-    let set = s[at + 1];
+    let set = file[at + 1];
     if sets.len() <= set as usize {
         return stop(5, at);
     }
@@ -119,15 +118,15 @@ fn variable_at(s: &[u8], sets: &[u8], count: usize, at: usize) -> SetStep
 }
 
 // The variable part: each variable's set goes into the front of a lent list of 32.
-pub fn read_variables(s: &[u8], sets: &[u8], vars: &mut [u8], start: usize) -> Part
+pub fn read_variables(file: &[u8], sets: &[u8], vars: &mut [u8], start: usize) -> Part
     requires { ⌜ length (now vars) ≡ 32 ⌝ }
     ensures few { λ r. ⌜ Few 32 r ⌝ }
-    ensures is { λ r. ⌜ setsRead (now (vars .exit)) r ≡ whole (now (s .entry)) (variablePart (now (s .entry)) (scope (now (sets .entry)) [] [])) [] start ⌝ }
+    ensures is { λ r. ⌜ setsRead (now (vars .exit)) r ≡ whole (now (file .entry)) (variablePart (now (file .entry)) (scope (now (sets .entry)) [] [])) [] start ⌝ }
 {
     let mut count: usize = 0;
     let mut at = start;
     loop {
-        match variable_at(s, sets, count, at) {
+        match variable_at(file, sets, count, at) {
             SetStep::Done => {
                 return Part::Whole(count, 0, at);
             }
@@ -171,20 +170,20 @@ fn place_stop(number: u8, place: usize) -> PlaceStep
 }
 
 // The command of a place of one set, after so many places with so many colours together.
-fn one_set(s: &[u8], sets: &[u8], count: usize, total: usize, at: usize) -> PlaceStep
+fn one_set(file: &[u8], sets: &[u8], count: usize, total: usize, at: usize) -> PlaceStep
     requires { ⌜ total ≤ 4096 ⌝ }
-    requires { ⌜ at < length (now s) ⌝ }
-    requires { ⌜ byteAt (now s) at ≡ 0x12 ⌝ }
+    requires { ⌜ at < length (now file) ⌝ }
+    requires { ⌜ byteAt (now file) at ≡ 0x12 ⌝ }
     ensures is { λ r. ⌜ ((variables : List ℕ) (places : List Place) → length places ≡ count
         → sum (map (coloursOf (scope (now (sets .entry)) variables [])) places) ≡ total
-        → placePart (now (s .entry)) (scope (now (sets .entry)) variables []) places at ≡ placeStep places r) ⌝ }
-    ensures room { λ r. ⌜ PlaceRoom (now (sets .entry)) (length (now (s .entry))) count total at r ⌝ }
+        → placePart (now (file .entry)) (scope (now (sets .entry)) variables []) places at ≡ placeStep places r) ⌝ }
+    ensures room { λ r. ⌜ PlaceRoom (now (sets .entry)) (length (now (file .entry))) count total at r ⌝ }
 {
-    let next = after(s, at);
-    if s.len() < next {
-        return place_stop(2, s.len());
+    let next = after(file, at);
+    if file.len() < next {
+        return place_stop(2, file.len());
     }
-    let set = s[at + 1];
+    let set = file[at + 1];
     if sets.len() <= set as usize {
         return place_stop(5, at);
     }
@@ -203,21 +202,21 @@ fn one_set(s: &[u8], sets: &[u8], count: usize, total: usize, at: usize) -> Plac
 }
 
 // The command of a place of two sets, likewise.
-fn two_sets(s: &[u8], sets: &[u8], count: usize, total: usize, at: usize) -> PlaceStep
+fn two_sets(file: &[u8], sets: &[u8], count: usize, total: usize, at: usize) -> PlaceStep
     requires { ⌜ total ≤ 4096 ⌝ }
-    requires { ⌜ at < length (now s) ⌝ }
-    requires { ⌜ byteAt (now s) at ≡ 0x13 ⌝ }
+    requires { ⌜ at < length (now file) ⌝ }
+    requires { ⌜ byteAt (now file) at ≡ 0x13 ⌝ }
     ensures is { λ r. ⌜ ((variables : List ℕ) (places : List Place) → length places ≡ count
         → sum (map (coloursOf (scope (now (sets .entry)) variables [])) places) ≡ total
-        → placePart (now (s .entry)) (scope (now (sets .entry)) variables []) places at ≡ placeStep places r) ⌝ }
-    ensures room { λ r. ⌜ PlaceRoom (now (sets .entry)) (length (now (s .entry))) count total at r ⌝ }
+        → placePart (now (file .entry)) (scope (now (sets .entry)) variables []) places at ≡ placeStep places r) ⌝ }
+    ensures room { λ r. ⌜ PlaceRoom (now (sets .entry)) (length (now (file .entry))) count total at r ⌝ }
 {
-    let next = after(s, at);
-    if s.len() < next {
-        return place_stop(2, s.len());
+    let next = after(file, at);
+    if file.len() < next {
+        return place_stop(2, file.len());
     }
-    let first = s[at + 1];
-    let second = s[at + 2];
+    let first = file[at + 1];
+    let second = file[at + 2];
     if sets.len() <= first as usize {
         return place_stop(5, at);
     }
@@ -241,22 +240,22 @@ fn two_sets(s: &[u8], sets: &[u8], count: usize, total: usize, at: usize) -> Pla
 }
 
 // The place command at a place, after so many places with so many colours together.
-fn place_at(s: &[u8], sets: &[u8], count: usize, total: usize, at: usize) -> PlaceStep
+fn place_at(file: &[u8], sets: &[u8], count: usize, total: usize, at: usize) -> PlaceStep
     requires { ⌜ total ≤ 4096 ⌝ }
     ensures is { λ r. ⌜ ((variables : List ℕ) (places : List Place) → length places ≡ count
         → sum (map (coloursOf (scope (now (sets .entry)) variables [])) places) ≡ total
-        → placePart (now (s .entry)) (scope (now (sets .entry)) variables []) places at ≡ placeStep places r) ⌝ }
-    ensures room { λ r. ⌜ PlaceRoom (now (sets .entry)) (length (now (s .entry))) count total at r ⌝ }
+        → placePart (now (file .entry)) (scope (now (sets .entry)) variables []) places at ≡ placeStep places r) ⌝ }
+    ensures room { λ r. ⌜ PlaceRoom (now (sets .entry)) (length (now (file .entry))) count total at r ⌝ }
 {
-    if s.len() <= at {
+    if file.len() <= at {
         return PlaceStep::Done;
     }
-    let b = s[at];
+    let b = file[at];
     if b == 0x12 {
-        return one_set(s, sets, count, total, at);
+        return one_set(file, sets, count, total, at);
     }
     if b == 0x13 {
-        return two_sets(s, sets, count, total, at);
+        return two_sets(file, sets, count, total, at);
     }
     PlaceStep::Done
 }

@@ -13,7 +13,7 @@ ghost use Rattle.net_parts.specs.internal.Tables.{placesRead, PlacesHeld
 
 // The place part, over so many sets; its total is the colours of all places together.
 pub fn read_places(
-    s: &[u8],
+    file: &[u8],
     sets: &[u8],
     kinds: &mut [u16],
     starts: &mut [usize],
@@ -23,7 +23,7 @@ pub fn read_places(
     requires { ⌜ length (now kinds) ≡ 32 ⌝ }
     requires { ⌜ length (now starts) ≡ 33 ⌝ }
     ensures is { λ r. ⌜ ((variables : List ℕ) → placesRead (now (kinds .exit)) r
-        ≡ whole (now (s .entry)) (placePart (now (s .entry)) (scope (now (sets .entry)) variables [])) [] start) ⌝ }
+        ≡ whole (now (file .entry)) (placePart (now (file .entry)) (scope (now (sets .entry)) variables [])) [] start) ⌝ }
     ensures held { λ r. ⌜ PlacesHeld (now (sets .entry)) (now (kinds .exit)) (now (starts .exit)) r ⌝ }
 {
     let mut count: usize = 0;
@@ -31,7 +31,7 @@ pub fn read_places(
     let mut at = start;
     starts[0] = 0;
     loop {
-        match place_at(s, sets, count, total, at) {
+        match place_at(file, sets, count, total, at) {
             PlaceStep::Done => {
                 return Part::Whole(count, total, at);
             }

@@ -2,6 +2,7 @@
 use crate::Part;
 use crate::clear::clear_words;
 use net::after;
+use reading::byte_at;
 use reading::word_at;
 ghost use mathlib.Core.Path.{_≡_};
 ghost use mathlib.Core.List.{List};
@@ -10,7 +11,7 @@ ghost use lib.ListN.{length, getD, set};
 ghost use Rattle.net.specs.Net.{Net, Tokens};
 ghost use Rattle.net_parts.specs.Parts.{tokensPart};
 ghost use Rattle.net_parts.specs.internal.Steps.{Bare};
-ghost use Rattle.net_parts.specs.internal.Tables.{Rising, Started, Holds, flag, tokenStep, TokenRoom, TokensTold};
+ghost use Rattle.net_parts.specs.internal.Tables.{StartsRise, Started, Holds, flag, tokenStep, TokenRoom, TokensTold};
 
 // One step of the tokens part: a place, a rank, their count, and the flat place that they are.
 pub enum TokenStep {
@@ -37,29 +38,29 @@ fn stop(number: u8, place: usize) -> TokenStep
 
 // The tokens command at a place; a flat place that has had its command is marked by 1.
 fn token_at(
-    s: &[u8],
+    file: &[u8],
     starts: &[usize],
     places: usize,
     total: usize,
     named: &[u8],
     at: usize,
 ) -> TokenStep
-    requires { ⌜ Rising (now starts) places total ⌝ }
+    requires { ⌜ StartsRise (now starts) places total ⌝ }
     requires { ⌜ total ≤ length (now named) ⌝ }
     ensures is { λ r. ⌜ ((n : Net) (tokens : List Tokens) → Started n (n .places) (now (starts .entry)) places total
-        → Holds n tokens flag (now (starts .entry)) (now (named .entry)) → tokensPart (now (s .entry)) n tokens at ≡ tokenStep tokens r) ⌝ }
-    ensures room { λ r. ⌜ TokenRoom (now (starts .entry)) (now (named .entry)) (length (now (s .entry))) places at r ⌝ }
+        → Holds n tokens flag (now (starts .entry)) (now (named .entry)) → tokensPart (now (file .entry)) n tokens at ≡ tokenStep tokens r) ⌝ }
+    ensures room { λ r. ⌜ TokenRoom (now (starts .entry)) (now (named .entry)) (length (now (file .entry))) places at r ⌝ }
 {
-    if s.len() <= at {
+    if file.len() <= at {
         return TokenStep::Done;
     }
-    if s[at] == 0x19 {
-        let next = after(s, at);
-        if s.len() < next {
-            return stop(2, s.len());
+    if file[at] == 0x19 {
+        let next = after(file, at);
+        if file.len() < next {
+            return stop(2, file.len());
         }
-        let p = s[at + 1] as usize;
-        let rank = word_at(s, at + 2);
+        let p = file[at + 1] as usize;
+        let rank = word_at(file, at + 2);
         if places <= p {
             return stop(5, at);
         }
@@ -73,7 +74,7 @@ fn token_at(
         return TokenStep::More {
             place: p,
             rank,
-            count: word_at(s, at + 4) as u16,
+            count: word_at(file, at + 4) as u16,
             flat,
             next,
         };
@@ -92,7 +93,7 @@ fn store(initial: &mut [u16], flat: usize, count: u16)
 
 // The tokens part, over places whose flat places begin so, with a table for marks that has none yet. Counts are stored as far as theirs reaches.
 fn read_marked(
-    s: &[u8],
+    file: &[u8],
     starts: &[usize],
     places: usize,
     total: usize,
@@ -100,17 +101,17 @@ fn read_marked(
     named: &mut [u8],
     start: usize,
 ) -> Part
-    requires { ⌜ Rising (now starts) places total ⌝ }
+    requires { ⌜ StartsRise (now starts) places total ⌝ }
     requires { ⌜ length (now named) ≡ 4096 ⌝ }
     requires { ⌜ ((i : ℕ) → i < total → getD (now named) i 0 ≡ 0) ⌝ }
     ensures bare { λ r. ⌜ Bare r ⌝ }
     ensures told { λ r. ⌜ ((n : Net) → Started n (n .places) (now (starts .entry)) places total
-        → TokensTold (now (s .entry)) n start (now (starts .entry)) (now (initial .exit)) r) ⌝ }
+        → TokensTold (now (file .entry)) n start (now (starts .entry)) (now (initial .exit)) r) ⌝ }
 {
     clear_words(initial, total);
     let mut at = start;
     loop {
-        match token_at(s, starts, places, total, named, at) {
+        match token_at(file, starts, places, total, named, at) {
             TokenStep::Done => {
                 return Part::Whole(0, 0, at);
             }
@@ -132,20 +133,24 @@ fn read_marked(
     }
 }
 
-// The same, with marks of its own.
+// The same, with marks of its own, where there are tokens.
 pub fn read_tokens(
-    s: &[u8],
+    file: &[u8],
     starts: &[usize],
     places: usize,
     total: usize,
     initial: &mut [u16],
     start: usize,
 ) -> Part
-    requires { ⌜ Rising (now starts) places total ⌝ }
+    requires { ⌜ StartsRise (now starts) places total ⌝ }
     ensures bare { λ r. ⌜ Bare r ⌝ }
     ensures told { λ r. ⌜ ((n : Net) → Started n (n .places) (now (starts .entry)) places total
-        → TokensTold (now (s .entry)) n start (now (starts .entry)) (now (initial .exit)) r) ⌝ }
+        → TokensTold (now (file .entry)) n start (now (starts .entry)) (now (initial .exit)) r) ⌝ }
 {
+    if byte_at(file, start) != 0x19 {
+        clear_words(initial, total);
+        return Part::Whole(0, 0, start);
+    }
     let mut named = [0u8; 4096];
-    read_marked(s, starts, places, total, initial, &mut named, start)
+    read_marked(file, starts, places, total, initial, &mut named, start)
 }

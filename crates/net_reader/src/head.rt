@@ -11,16 +11,16 @@ pub enum Head {
 }
 
 // The command at a place.
-pub fn head_at(s: &[u8], at: usize) -> Head
-    ensures { λ r. ⌜ headTold r ≡ headAt (now (s .entry)) at ⌝ }
+pub fn head_at(file: &[u8], at: usize) -> Head
+    ensures { λ r. ⌜ headTold r ≡ headAt (now (file .entry)) at ⌝ }
 {
-    if s.len() <= at {
+    if file.len() <= at {
         return Head::Fault {
             number: 2,
-            place: s.len(),
+            place: file.len(),
         };
     }
-    let byte = s[at];
+    let byte = file[at];
     let operands = width(byte);
     if operands == 255 {
         return Head::Fault {
@@ -28,10 +28,10 @@ pub fn head_at(s: &[u8], at: usize) -> Head
             place: at,
         };
     }
-    if s.len() - at <= operands as usize {
+    if file.len() - at <= operands as usize {
         return Head::Fault {
             number: 2,
-            place: s.len(),
+            place: file.len(),
         };
     }
     Head::Command {
@@ -41,10 +41,10 @@ pub fn head_at(s: &[u8], at: usize) -> Head
 }
 
 // The place after the command at a place; the place itself where there is a fault.
-pub fn next_at(s: &[u8], at: usize) -> usize
-    ensures { λ r. ⌜ r ≡ nextPlace (now (s .entry)) at ⌝ }
+pub fn next_at(file: &[u8], at: usize) -> usize
+    ensures { λ r. ⌜ r ≡ nextPlace (now (file .entry)) at ⌝ }
 {
-    match head_at(s, at) {
+    match head_at(file, at) {
         Head::Command { byte: _, next } => next,
         Head::Fault {
             number: _,

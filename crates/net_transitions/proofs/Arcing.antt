@@ -3,7 +3,7 @@ use mathlib.Core.Path.{_≡_, refl, sym, ap, fun-ext, _∙_}
 use mathlib.Core.Bool.{Bool, true, false, _&&_, _||_}
 use Prim.Native.Nat.{_≤_, _<_, _-_}
 use native.Mathlib.Omega.{arith}
-use borrow.Author.Tests.{lt-ltb, le-ltb, eq-eqb, ne-eqb, eqb-true, eqb-false}
+use borrow.Author.Tests.{lt-ltb, le-ltb, eq-eqb, ne-eqb, eqb-true, eqb-false, ltb-true, ltb-false}
 use lib.Bits.{bitOr}
 use lib.ListN.{set, length-set}
 use lib.Seq.{getD-set-same, getD-set-other}
@@ -219,15 +219,66 @@ pub record Arcing (s : List ℕ) (n : Net) (start : ℕ) (row : List ℕ) (uses 
   pub holds : RowHolds s n arcs (λ i. getD row i 0)
   pub used : uses ≡ bits (λ v. any (λ a. inExpression v (a .expression)) arcs) 32
 
-pub arcing-begins : (s : List ℕ) (n : Net) (start : ℕ) (row : List ℕ) → length (n .places) ≤ 32 → length row ≡ 96 → ((i : ℕ) → i < 96 → getD row i 0 ≡ 0) → Arcing s n start row 0 start
+-- ---- a row set to 0, place by place
+pub record Cleared (row : List ℕ) (places : ℕ) : Type 0 where
+  pub sized : length row ≡ 96
+  pub zeros : (k p : ℕ) → k < 3 → p < places → getD row (k * 32 + p) 0 ≡ 0
+
+-- what is 0 but at one slot is 0 everywhere, when that is set to 0
+set-zero : (l : List ℕ) (j i : ℕ) → j < length l → ((i ≡ j → ⊥) → getD l i 0 ≡ 0) → getD (set l j 0) i 0 ≡ 0
+set-zero l j i inside others = go (eqb i j) refl
+  where
+    go : (t : Bool) → eqb i j ≡ t → getD (set l j 0) i 0 ≡ 0
+    go true e = rw (eqb-true i j e) (getD-set-same l j 0 0 inside)
+    go false e = getD-set-other l j i 0 0 (eqb-false i j e) ∙ others (eqb-false i j e)
+
+pub cleared-begins : (row : List ℕ) → length row ≡ 96 → Cleared row 0
+cleared-begins row sized = record { sized = sized; zeros = λ k p hk hp. absurd (omega arith) }
+
+pub cleared-goes : {row : List ℕ} {q : ℕ} → Cleared row q → q < 32 → Cleared (set (set (set row q 0) (32 + q) 0) (64 + q) 0) (q + 1)
+cleared-goes {row} {q} l lt = record {
+  sized = third;
+  zeros = λ k p hk hp.
+      set-zero two (64 + q) (k * 32 + p) (omega (arith, second)) (λ c. set-zero one (32 + q) (k * 32 + p) (omega (arith, first)) (λ b. set-zero row q (k * 32 + p) (omega (arith, l .sized)) (λ a. l .zeros k p hk (below k p hk hp a b c))));
+}
+  where
+    one : List ℕ
+    one = set row q 0
+
+    two : List ℕ
+    two = set one (32 + q) 0
+
+    first : length one ≡ 96
+    first = length-set row q 0 ∙ l .sized
+
+    second : length two ≡ 96
+    second = length-set one (32 + q) 0 ∙ first
+
+    third : length (set two (64 + q) 0) ≡ 96
+    third = length-set two (64 + q) 0 ∙ second
+
+    below : (k p : ℕ) → k < 3 → p < q + 1 → (k * 32 + p ≡ q → ⊥) → (k * 32 + p ≡ 32 + q → ⊥) → (k * 32 + p ≡ 64 + q → ⊥) → p < q
+    below k p hk hp a b c = go (ltb p q) refl
+      where
+        none-else : (k : ℕ) → k < 3 → q ≤ p → (k * 32 + p ≡ q → ⊥) → (k * 32 + p ≡ 32 + q → ⊥) → (k * 32 + p ≡ 64 + q → ⊥) → ⊥
+        none-else zero h le a b c = a (omega arith)
+        none-else (suc zero) h le a b c = b (omega arith)
+        none-else (suc (suc zero)) h le a b c = c (omega arith)
+        none-else (suc (suc (suc k))) h le a b c = omega arith
+
+        go : (t : Bool) → ltb p q ≡ t → p < q
+        go true e = ltb-true p q e
+        go false e = absurd (none-else k hk (ltb-false p q e) a b c)
+
+pub arcing-begins : (s : List ℕ) (n : Net) (start : ℕ) (row : List ℕ) → length row ≡ 96 → ((k p : ℕ) → k < 3 → p < length (n .places) → getD row (k * 32 + p) 0 ≡ 0) → Arcing s n start row 0 start
 unfolding find any bits
-arcing-begins s n start row few sized zeros = record {
+arcing-begins s n start row sized zeros = record {
   arcs = [];
   sized = sized;
   after = omega arith;
   within = λ h. h;
   reading = begins s (arcPart s n) [] start;
-  holds = λ k p of-three known. zeros (k * 32 + p) (omega arith);
+  holds = zeros;
   used = refl;
 }
 

@@ -19,7 +19,7 @@ ghost use mathlib.Core.Option.{some};
 
 // The end of a transition with these variables, after a binding space: the space with it in the place of a set, or the fault.
 fn close_at(
-    s: &[u8],
+    file: &[u8],
     sizes: &[u8],
     vars: &[u8],
     set: u32,
@@ -31,10 +31,10 @@ fn close_at(
     requires { ⌜ space ≤ 65536 ⌝ }
     ensures is { λ r. ⌜ ((places : List Place) (transitions : List Transition) (t : Transition) → set ≡ bits (λ v. inTransition v t) 32
         → bindingSpace (scope (now (sizes .entry)) (now (vars .entry)) places) transitions ≡ space
-        → ClosedTold (now (s .entry)) (scope (now (sizes .entry)) (now (vars .entry)) places) transitions at t end r) ⌝ }
+        → ClosedTold (now (file .entry)) (scope (now (sizes .entry)) (now (vars .entry)) places) transitions at t end r) ⌝ }
     ensures room { λ r. ⌜ ClosedRoom r ⌝ }
 {
-    if byte_at(s, end) == 0x15 {
+    if byte_at(file, end) == 0x15 {
         return fault(3, end);
     }
     if 4 < count_of(set, vars.len()) {
@@ -52,15 +52,15 @@ fn close_at(
 }
 
 // Where a guard stands, or 0 without one.
-fn guard_place(s: &[u8], at: usize) -> u16
-    requires { ⌜ length (now s) ≤ 16384 ⌝ }
-    ensures { λ r. ⌜ r ≡ guardPlace (now (s .entry)) at ⌝ }
+fn guard_place(file: &[u8], at: usize) -> u16
+    requires { ⌜ length (now file) ≤ 16384 ⌝ }
+    ensures { λ r. ⌜ r ≡ guardPlace (now (file .entry)) at ⌝ }
 {
-    if s.len() <= at {
+    if file.len() <= at {
         return 0;
     }
-    if s[at] == 0x15 {
-        return after(s, at) as u16;
+    if file[at] == 0x15 {
+        return after(file, at) as u16;
     }
     0
 }
@@ -96,7 +96,7 @@ fn stopped(e: Read) -> TransitionStep
 
 // The transition whose command stands at a place and ends before next.
 fn transition_in(
-    s: &[u8],
+    file: &[u8],
     sizes: &[u8],
     vars: &[u8],
     kinds: &[u16],
@@ -105,19 +105,19 @@ fn transition_in(
     at: usize,
     next: usize,
 ) -> TransitionStep
-    requires { ⌜ length (now s) ≤ 16384 ⌝ }
+    requires { ⌜ length (now file) ≤ 16384 ⌝ }
     requires { ⌜ length (now vars) ≤ 32 ⌝ }
     requires { ⌜ length (now kinds) ≤ 32 ⌝ }
     requires { ⌜ length (now row) ≡ 96 ⌝ }
     requires { ⌜ space ≤ 65536 ⌝ }
     requires { ⌜ at < next ⌝ }
-    requires { ⌜ next ≤ length (now s) ⌝ }
+    requires { ⌜ next ≤ length (now file) ⌝ }
     ensures is { λ r. ⌜ ((transitions : List Transition) → bindingSpace (over (now (sizes .entry)) (now (vars .entry)) (now (kinds .entry))) transitions ≡ space
-        → TransitionTold (now (s .entry)) (over (now (sizes .entry)) (now (vars .entry)) (now (kinds .entry))) transitions
-        (some (inside (now (s .entry)) (over (now (sizes .entry)) (now (vars .entry)) (now (kinds .entry))) transitions at next)) (λ i. getD (now (row .exit)) i 0) r) ⌝ }
-    ensures room { λ r. ⌜ TransitionRoom (length (now (s .entry))) at r ⌝ }
+        → TransitionTold (now (file .entry)) (over (now (sizes .entry)) (now (vars .entry)) (now (kinds .entry))) transitions
+        (some (inside (now (file .entry)) (over (now (sizes .entry)) (now (vars .entry)) (now (kinds .entry))) transitions at next)) (λ i. getD (now (row .exit)) i 0) r) ⌝ }
+    ensures room { λ r. ⌜ TransitionRoom (length (now (file .entry))) at r ⌝ }
 {
-    let guard = read_guard_if(s, sizes, vars, next);
+    let guard = read_guard_if(file, sizes, vars, next);
     let Read::Whole {
         next: more,
         set: _,
@@ -126,7 +126,7 @@ fn transition_in(
     else {
         return stopped(guard);
     };
-    let arcs = read_arcs(s, sizes, vars, kinds, row, more);
+    let arcs = read_arcs(file, sizes, vars, kinds, row, more);
     let Read::Whole {
         next: end,
         set: _,
@@ -135,7 +135,7 @@ fn transition_in(
     else {
         return stopped(arcs);
     };
-    let closed = close_at(s, sizes, vars, uses | others, space, at, end);
+    let closed = close_at(file, sizes, vars, uses | others, space, at, end);
     let Read::Whole {
         next: _,
         set: total,
@@ -145,7 +145,7 @@ fn transition_in(
         return stopped(closed);
     };
     TransitionStep::More {
-        guard: guard_place(s, next),
+        guard: guard_place(file, next),
         uses: uses | others,
         space: total as usize,
         next: end,
@@ -154,7 +154,7 @@ fn transition_in(
 
 // The transition command at a place, after so many transitions with a binding space; its row is the next of the table.
 pub fn transition_at(
-    s: &[u8],
+    file: &[u8],
     sizes: &[u8],
     vars: &[u8],
     kinds: &[u16],
@@ -163,34 +163,43 @@ pub fn transition_at(
     arcs: &mut [u32],
     at: usize,
 ) -> TransitionStep
-    requires { ⌜ length (now s) ≤ 16384 ⌝ }
+    requires { ⌜ length (now file) ≤ 16384 ⌝ }
     requires { ⌜ length (now vars) ≤ 32 ⌝ }
     requires { ⌜ length (now kinds) ≤ 32 ⌝ }
     requires { ⌜ length (now arcs) ≡ 3072 ⌝ }
     requires { ⌜ space ≤ 65536 ⌝ }
     ensures is { λ r. ⌜ ((transitions : List Transition) → length transitions ≡ count
         → bindingSpace (over (now (sizes .entry)) (now (vars .entry)) (now (kinds .entry))) transitions ≡ space
-        → TransitionTold (now (s .entry)) (over (now (sizes .entry)) (now (vars .entry)) (now (kinds .entry))) transitions
-        (transitionPart (now (s .entry)) (over (now (sizes .entry)) (now (vars .entry)) (now (kinds .entry))) transitions at)
+        → TransitionTold (now (file .entry)) (over (now (sizes .entry)) (now (vars .entry)) (now (kinds .entry))) transitions
+        (transitionPart (now (file .entry)) (over (now (sizes .entry)) (now (vars .entry)) (now (kinds .entry))) transitions at)
         (λ i. getD (now (arcs .exit)) (count * 96 + i) 0) r) ⌝ }
-    ensures room { λ r. ⌜ TransitionRoom (length (now (s .entry))) at r ⌝ }
+    ensures room { λ r. ⌜ TransitionRoom (length (now (file .entry))) at r ⌝ }
     ensures few { λ r. ⌜ TransitionFew count r ⌝ }
     ensures kept { λ r. ⌜ ((i : ℕ) → i < count * 96 → getD (now (arcs .exit)) i 0 ≡ getD (now (arcs .entry)) i 0) ⌝ }
 {
-    if s.len() <= at {
+    if file.len() <= at {
         return TransitionStep::Done;
     }
-    if s[at] == 0x14 {
+    if file[at] == 0x14 {
         if 32 <= count {
             return TransitionStep::Stop {
                 number: 4,
                 place: at,
             };
         }
-        let next = after(s, at);
+        let next = after(file, at);
         let from = count * 96;
         let to = from + 96;
-        return transition_in(s, sizes, vars, kinds, space, &mut arcs[from..to], at, next);
+        return transition_in(
+            file,
+            sizes,
+            vars,
+            kinds,
+            space,
+            &mut arcs[from..to],
+            at,
+            next,
+        );
     }
     TransitionStep::Done
 }

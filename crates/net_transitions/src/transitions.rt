@@ -9,7 +9,7 @@ ghost use Rattle.net_transitions.specs.internal.TransitionTables.{over, 
 
 // The transition part, over sets, variables and places; its total is the binding space.
 pub fn read_transitions(
-    s: &[u8],
+    file: &[u8],
     sizes: &[u8],
     vars: &[u8],
     kinds: &[u16],
@@ -17,19 +17,19 @@ pub fn read_transitions(
     arcs: &mut [u32],
     start: usize,
 ) -> Part
-    requires { ⌜ length (now s) ≤ 16384 ⌝ }
+    requires { ⌜ length (now file) ≤ 16384 ⌝ }
     requires { ⌜ length (now vars) ≤ 32 ⌝ }
     requires { ⌜ length (now kinds) ≤ 32 ⌝ }
     requires { ⌜ length (now heads) ≡ 64 ⌝ }
     requires { ⌜ length (now arcs) ≡ 3072 ⌝ }
-    ensures { λ r. ⌜ TransitionsTold (now (s .entry)) (over (now (sizes .entry)) (now (vars .entry)) (now (kinds .entry))) start
+    ensures { λ r. ⌜ TransitionsTold (now (file .entry)) (over (now (sizes .entry)) (now (vars .entry)) (now (kinds .entry))) start
         (now (heads .exit)) (now (arcs .exit)) r ⌝ }
 {
     let mut count: usize = 0;
     let mut space: usize = 0;
     let mut at = start;
     loop {
-        match transition_at(s, sizes, vars, kinds, count, space, arcs, at) {
+        match transition_at(file, sizes, vars, kinds, count, space, arcs, at) {
             TransitionStep::Done => {
                 return Part::Whole(count, space, at);
             }

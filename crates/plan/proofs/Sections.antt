@@ -8,7 +8,7 @@ use borrow.Author.Tests.{lt-ltb, le-ltb}
 use lib.ListN.{set, length-set, length-take, List·getD-map, List·getD-eq-default, length-map}
 use lib.Seq.{getD-set-same, getD-set-other, getD-take, getD-drop}
 use Rattle.reading.specs.Basics.{ℕ, _+_, _-_, _*_, _/_, _%_, List, map, length, getD, take, drop}
-use Rattle.plan.specs.internal.Layout.{low, placesIn, arcWith, setsIn, variablesIn, ownIn, guardsIn, arcsIn, Placed}
+use Rattle.plan.specs.internal.Layout.{low, placesIn, arcWith, setsIn, variablesIn, ownIn, guardsIn, packedIn, Placed}
 
 -- a loop that writes a list's values one by one
 pub record Placing (from : ℕ) (values before now : List ℕ) (i : ℕ) : Type 0 where
@@ -51,15 +51,15 @@ unfolding placesIn
 shape-at plan i = sym (getD-drop 56 plan i 0)
 
 -- an arc, with what its place is like
-pub arc-at : (plan : List ℕ) (i : ℕ) → arcWith (placesIn plan) (getD plan (512 + i) 0) ≡ getD (arcsIn plan) i 0
-unfolding arcsIn
+pub arc-at : (plan : List ℕ) (i : ℕ) → arcWith (placesIn plan) (getD plan (512 + i) 0) ≡ getD (packedIn plan) i 0
+unfolding packedIn
 arc-at plan i = sym (List·getD-map (arcWith (placesIn plan)) (drop 512 plan) i 0 ∙ ap (arcWith (placesIn plan)) (getD-drop 512 plan i 0))
 
-pub arc-none : (plan : List ℕ) (i : ℕ) → getD plan (512 + i) 0 < 1 → 0 ≡ getD (arcsIn plan) i 0
+pub arc-none : (plan : List ℕ) (i : ℕ) → getD plan (512 + i) 0 < 1 → 0 ≡ getD (packedIn plan) i 0
 arc-none plan i h = rw (lt-ltb (getD plan (512 + i) 0) 1 h) at (arc-at plan i)
 
 pub arc-told : (plan : List ℕ) (i : ℕ) → 1 ≤ getD plan (512 + i) 0
-    → getD plan (512 + i) 0 / 32 * 134217728 + getD plan (56 + getD plan (512 + i) 0 % 32) 0 ≡ getD (arcsIn plan) i 0
+    → getD plan (512 + i) 0 / 32 * 134217728 + getD plan (56 + getD plan (512 + i) 0 % 32) 0 ≡ getD (packedIn plan) i 0
 arc-told plan i h = rw (shape-at plan (getD plan (512 + i) 0 % 32)) (rw (le-ltb (getD plan (512 + i) 0) 1 h) at (arc-at plan i))
 
 -- the low bytes of so many entries from a place on

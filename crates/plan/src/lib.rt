@@ -7,7 +7,7 @@ pub use place::place_words;
 ghost use mathlib.Core.Path.{_≡_};
 ghost use Prim.Native.Nat.{_≤_, _<_, _+_, _*_, _/_, _%_};
 ghost use lib.ListN.{getD};
-ghost use Rattle.plan.specs.internal.Layout.{transitionsIn, flatPlacesIn, setsIn, variablesIn, ownIn, guardsIn, arcsIn, expressionIn, startIn, ranksIn, pairIn};
+ghost use Rattle.plan.specs.internal.Layout.{transitionsIn, flatPlacesIn, setsIn, variablesIn, ownIn, guardsIn, packedIn, expressionIn, startIn, ranksIn, pairIn};
 
 // An entry as a number that others are made of.
 fn wide(entry: u32) -> u64
@@ -82,7 +82,7 @@ pub fn own_of(plan: &[u32; 3584], t: usize, k: usize) -> u64
 // An entry of the packed arcs, with what its place is like.
 pub fn arc_of(plan: &[u32; 3584], i: usize) -> u64
     requires { ⌜ i < 3072 ⌝ }
-    ensures { λ r. ⌜ r ≡ getD (arcsIn (now (plan .entry))) i 0 ⌝ }
+    ensures { λ r. ⌜ r ≡ getD (packedIn (now (plan .entry))) i 0 ⌝ }
 {
     let arc = wide(plan[512 + i]);
     if arc < 1 {

@@ -36,9 +36,9 @@ module _ (s sizes vars kinds starts heads arcs initial : List ℕ) where
   the-refusal e told = subst (NetTold s sizes vars kinds starts heads arcs initial) e told
 
   module _ {sets variables places total transitions space : ℕ} where
-    pub the-net : {r : NetRead} → r ≡ Whole sets variables places total transitions space → NetTold s sizes vars kinds starts heads arcs initial r
+    pub the-tables : {r : NetRead} → r ≡ Whole sets variables places total transitions space → NetTold s sizes vars kinds starts heads arcs initial r
         → NetHeld s sizes vars kinds starts heads arcs initial sets variables places total transitions space
-    the-net e told = subst (NetTold s sizes vars kinds starts heads arcs initial) e told
+    the-tables e told = subst (NetTold s sizes vars kinds starts heads arcs initial) e told
 
     module _ (held : NetHeld s sizes vars kinds starts heads arcs initial sets variables places total transitions space) where
       abbrev n : Net

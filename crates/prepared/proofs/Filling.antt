@@ -12,7 +12,7 @@ use Rattle.net.specs.internal.ReaderEnums.{bits}
 use Rattle.net_file.specs.Limits.{Limits}
 use Rattle.net_file.specs.Formed.{Formed}
 use Rattle.net_transitions.proofs.Transitioning.{part-in, part-before}
-use Rattle.plan.specs.internal.Layout.{upTo, low, arcWith, setsIn, variablesIn, placesIn, guardsIn, ownIn, arcsIn, Kept, Placed}
+use Rattle.plan.specs.internal.Layout.{upTo, low, arcWith, setsIn, variablesIn, placesIn, guardsIn, ownIn, packedIn, OthersKept, Placed}
 use Rattle.plan.proofs.Sections.{Placing, placing-begins, placing-goes, placing-ends, own-at, guard-at, arc-at}
 use Rattle.net_parts.specs.internal.Tables.{countOf}
 use Rattle.net_transitions.specs.internal.TransitionTables.{GuardHolds}
@@ -23,7 +23,7 @@ use Rattle.prepared.proofs.Packing.{holding-at, entries-many, entry-at,
 use Rattle.prepared.specs.internal.Drawing.{Drawing}
 use Rattle.prepared.proofs.Accepted.{Gathered, gathered, shaped}
 use Rattle.prepared.specs.internal.TransitionVariables.{Owned}
-use Rattle.prepared.specs.internal.Filled.{Stands, ListsPlaced, Readied}
+use Rattle.prepared.specs.internal.Filled.{ListStands, ListsPlaced, Readied}
 
 -- ---- the counts
 pub counts-placed : (plan : List ℕ) (a b c d e f : ℕ) → 7 ≤ length plan
@@ -65,7 +65,7 @@ module _ (plan part rest : List ℕ) (room : length plan ≡ 3584) (long : lengt
   pub part-at : (i : ℕ) → i < 3072 → getD (drop 512 (take 512 plan ++ (part ++ rest))) i 0 ≡ getD part i 0
   part-at i lt = getD-drop 512 (take 512 plan ++ (part ++ rest)) i 0 ∙ part-in plan part rest 512 i (omega arith) (omega arith)
 
-  pub part-kept : length (take 512 plan ++ (part ++ rest)) ≡ length plan → Kept 512 3072 plan (take 512 plan ++ (part ++ rest))
+  pub part-kept : length (take 512 plan ++ (part ++ rest)) ≡ length plan → OthersKept 512 3072 plan (take 512 plan ++ (part ++ rest))
   part-kept same = record {
     front = λ i lt. part-before plan (part ++ rest) 512 i (omega arith) lt;
     back = λ i le. List·getD-eq-default (take 512 plan ++ (part ++ rest)) 0 (omega arith) ∙ sym (List·getD-eq-default plan 0 (omega arith));
@@ -82,17 +82,17 @@ fits-same slots others few few' same fit t k lt of-three p less = omega (arith, 
 
 -- each arc is told with what its place is like
 pub packed-told : {shape : ℕ → ℕ} {slots : List ℕ} {places transitions : ℕ} (plan : List ℕ) → places ≤ 32 → ((p : ℕ) → p < places → getD (placesIn plan) p 0 ≡ shape p)
-    → Packed 32 (λ p. p) slots (drop 512 plan) places transitions → Packed 134217728 shape slots (arcsIn plan) places transitions
+    → Packed 32 (λ p. p) slots (drop 512 plan) places transitions → Packed 134217728 shape slots (packedIn plan) places transitions
 packed-told {shape} {slots} {places} plan few are packs = record {
   row = λ t k lt of-three. record { entries = λ i less far. told (t * 96 + k * 32) i far (packs .row t k lt of-three .entries i less far) };
 }
   where
     raw : (b i : ℕ) → getD (drop 512 plan) (b + i) 0 ≡ getD (entriesOf 32 (λ p. p) slots b places) i 0
-        → arcWith (placesIn plan) (getD (entriesOf 32 (λ p. p) slots b places) i 0) ≡ getD (arcsIn plan) (b + i) 0
+        → arcWith (placesIn plan) (getD (entriesOf 32 (λ p. p) slots b places) i 0) ≡ getD (packedIn plan) (b + i) 0
     raw b i is = ap (arcWith (placesIn plan)) (sym is ∙ getD-drop 512 plan (b + i) 0) ∙ arc-at plan (b + i)
 
     told : (b i : ℕ) → i ≤ length (holding slots b places) → getD (drop 512 plan) (b + i) 0 ≡ getD (entriesOf 32 (λ p. p) slots b places) i 0
-        → getD (arcsIn plan) (b + i) 0 ≡ getD (entriesOf 134217728 shape slots b places) i 0
+        → getD (packedIn plan) (b + i) 0 ≡ getD (entriesOf 134217728 shape slots b places) i 0
     told b i far is = sym (raw b i is) ∙ go (ltb i (length (holding slots b places))) refl
       where
         go : (t : Bool) → ltb i (length (holding slots b places)) ≡ t
@@ -113,7 +113,7 @@ packed-told {shape} {slots} {places} plan few are packs = record {
 
 -- ---- the lists
 -- a list stands after others are written behind it
-stands-on : (from : ℕ) {at : ℕ} (values : List ℕ) {others a b : List ℕ} → Placed at others a b → from + length values ≤ at → Stands from values a → Stands from values b
+stands-on : (from : ℕ) {at : ℕ} (values : List ℕ) {others a b : List ℕ} → Placed at others a b → from + length values ≤ at → ListStands from values a → ListStands from values b
 stands-on from values placed le stands i lt = placed .kept .front (from + i) (omega arith) ∙ stands i lt
 
 pub lists-placed : {sizes vars heads own p₀ p₁ p₂ p₃ p₄ : List ℕ} {transitions : ℕ}
@@ -135,7 +135,7 @@ lists-placed {sizes} {vars} {heads} {own} {p₄ = p₄} few few' many long few''
 
 -- ---- the whole table
 -- the low bytes of a section that holds bytes
-lows : (from count : ℕ) (values plan : List ℕ) → length values ≡ count → from + count ≤ length plan → Stands from values plan → ((i : ℕ) → i < length values → getD values i 0 < 256)
+lows : (from count : ℕ) (values plan : List ℕ) → length values ≡ count → from + count ≤ length plan → ListStands from values plan → ((i : ℕ) → i < length values → getD values i 0 < 256)
     → values ≡ map low (take count (drop from plan))
 lows from count values plan many room stands small =
     ext-getD 0 values (map low (take count (drop from plan))) (omega (arith, length-map (take count (drop from plan)) low, length-take-le count (drop from plan) (omega (arith, length-drop from plan))))
@@ -173,7 +173,7 @@ module _ (s sizes vars kinds starts heads arcs initial : List ℕ) {sets variabl
     {read first second third plan : List ℕ} (long : length plan ≡ 3584) (stood : (i : ℕ) → i < 3072 → getD (drop 512 read) i 0 ≡ getD arcs i 0)
     (lists : ListsPlaced (take sets sizes) (take variables vars) heads transitions read first)
     (placed : Placed 56 (map (shapeIn kinds starts) (below places)) first second)
-    (packs : Packed 32 (λ p. p) (drop 512 second) (drop 512 third) places transitions) (elsewhere : Kept 512 3072 second third)
+    (packs : Packed 32 (λ p. p) (drop 512 second) (drop 512 third) places transitions) (elsewhere : OthersKept 512 3072 second third)
     (counts : Placed 0 (sets ∷ variables ∷ places ∷ total ∷ transitions ∷ space ∷ 1 ∷ []) third plan) where
   abbrev n : Net
   n = held .value
@@ -198,7 +198,7 @@ module _ (s sizes vars kinds starts heads arcs initial : List ℕ) {sets variabl
       getD-drop 56 plan p 0 ∙ counts .kept .back (56 + p) (omega arith) ∙ elsewhere .front (56 + p) (omega arith) ∙ placed .values-are p (omega (arith, values-many (shapeIn kinds starts) places))
       ∙ getD-below (shapeIn kinds starts) places p lt
 
-  arcs-told : Packed 134217728 (shapeIn kinds starts) arcs (arcsIn plan) places transitions
+  arcs-told : Packed 134217728 (shapeIn kinds starts) arcs (packedIn plan) places transitions
   arcs-told =
       packed-told plan (h .started .few) shape-at
       (packed-same (h .started .few) (h .few-transitions) (slots-kept arcs (shapeIn kinds starts) places (h .started .few) stood lists placed) (λ i lt. getD-drop 512 plan i 0 ∙ counts .kept .back (512 + i) (omega arith) ∙ sym (getD-drop 512 third i 0)) packs)
@@ -226,7 +226,7 @@ module _ (s sizes vars kinds starts heads arcs initial : List ℕ) {sets variabl
       (subst (λ l. (i : ℕ) → i < length l → getD l i 0 < 256) (sym (h .variables-are)) (λ i lt. omega (arith, keeps .variable-sets i lt, keeps .sets)))
       ∙ ap (λ c. map low (take c (drop 24 plan))) (sym (count-is 1 (omega arith)))
 
-  gathers : Gathered s n (take sets sizes) (take variables vars) (ownIn first) heads (drop 32 heads) (arcsIn plan) transitions
+  gathers : Gathered s n (take sets sizes) (take variables vars) (ownIn first) heads (drop 32 heads) (packedIn plan) transitions
   gathers = gathered s sizes vars kinds starts heads arcs initial held arcs-told (lists .owned)
 
   few : length (n .transitions) ≤ 32
@@ -238,9 +238,9 @@ module _ (s sizes vars kinds starts heads arcs initial : List ℕ) {sets variabl
       let e : 120 + t ≡ 88 + (32 + t) = omega arith in
       sym (guard-at plan t) ∙ high-kept (120 + t) (omega arith) (omega (arith, few)) ∙ ap (λ i. getD first i 0) e ∙ lists .headed (32 + t) (omega (arith, few)) ∙ sym (getD-drop 32 heads t 0)
 
-  drawn : Drawing s n (setsIn plan) (variablesIn plan) (guardsIn plan) (arcsIn plan)
+  drawn : Drawing s n (setsIn plan) (variablesIn plan) (guardsIn plan) (packedIn plan)
   drawn =
-      subst (λ l. Drawing s n l (variablesIn plan) (guardsIn plan) (arcsIn plan)) sets-same (subst (λ l. Drawing s n (take sets sizes) l (guardsIn plan) (arcsIn plan)) variables-same
+      subst (λ l. Drawing s n l (variablesIn plan) (guardsIn plan) (packedIn plan)) sets-same (subst (λ l. Drawing s n (take sets sizes) l (guardsIn plan) (packedIn plan)) variables-same
       (guards-same guard-is (gathers .drawing)))
 
   pub readied : Readied s plan initial

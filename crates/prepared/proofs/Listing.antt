@@ -16,7 +16,7 @@ use Rattle.net.specs.internal.ReaderEnums.{bits, member}
 use Rattle.net_file.specs.Limits.{Limits}
 use Rattle.net_file.specs.Formed.{Formed}
 use Rattle.net_transitions.proofs.Spaces.{past, keep-bits, below-next, count-grows}
-use Rattle.prepared.specs.internal.TransitionVariables.{ownOf, Owned, Cleared, Put, Listed}
+use Rattle.prepared.specs.internal.TransitionVariables.{ownOf, Owned, Cleared, SlotPut, SlotsListed}
 use Rattle.reading.proofs.Clash.{clash}
 use Rattle.prepared.proofs.Used.{used-below}
 
@@ -134,7 +134,7 @@ set-at l base k a j lt = go (eqb j k) refl
     go true q = let s = eqb-true j k q in rw s (getD-set-same l (base + k) a 0 lt)
     go false q = getD-set-other l (base + k) (base + j) a 0 (λ e. let s : j ≡ k = omega arith in clash refl (eq-eqb j k s) q)
 
-module _ {uses rest base k v r : ℕ} {f : ℕ → ℕ} {own after : List ℕ} (put : Put (rest % 2) (f v) base k own after r) (is : rest ≡ uses / 2 ^ v) (room : base ≤ 124) where
+module _ {uses rest base k v r : ℕ} {f : ℕ → ℕ} {own after : List ℕ} (put : SlotPut (rest % 2) (f v) base k own after r) (is : rest ≡ uses / 2 ^ v) (room : base ≤ 124) where
   pub list-goes : Listing uses f base own k v → v < 32 → length (entries f (member uses) 32) ≤ 4 → Listing uses f base after r (v + 1)
   list-goes here inside few = go (ltb (rest % 2) 1) refl
     where
@@ -191,7 +191,7 @@ abbrev pub Rows : Net → List ℕ → ℕ → Type 0
 Rows n own t = (s k : ℕ) → s < t → k < 4 → getD own (s * 4 + k) 0 ≡ getD (ownOf n (transitionAt n s)) k 0
 
 module _ (n : Net) {sizes vars : List ℕ} (uses : List ℕ) (es : n .sets ≡ sizes) (ev : n .variables ≡ vars) (l : Limits n) (formed : Formed n) (used : Used n uses) where
-  row-listed : {u : ℕ} {own after : List ℕ} (t : ℕ) → t < length (n .transitions) → u ≡ getD uses t 0 → Listed u sizes vars (t * 4) own after
+  row-listed : {u : ℕ} {own after : List ℕ} (t : ℕ) → t < length (n .transitions) → u ≡ getD uses t 0 → SlotsListed u sizes vars (t * 4) own after
       → (k : ℕ) → k < 4 → getD after (t * 4 + k) 0 ≡ getD (ownOf n (transitionAt n t)) k 0
   unfolding variablesOf
   row-listed t lt e listed k less =
@@ -199,7 +199,7 @@ module _ (n : Net) {sizes vars : List ℕ} (uses : List ℕ) (es : n .sets ≡ s
       let at : In (transitionAt n t) (n .transitions) = subst (λ u. In u (n .transitions)) (sym (getD-in (n .transitions) t noTransition (it .1))) (at-in (n .transitions) t (it .1)) in
       rw (es, ev) (rw ev at (listed .slots (λ v. inTransition v (transitionAt n t)) (length (n .variables)) (e ∙ used t lt) (l .variables) (used-below n formed (transitionAt n t) at) (l .few-variables t lt) k less))
 
-  pub rows-go : {u : ℕ} {own after : List ℕ} (t : ℕ) → t < length (n .transitions) → u ≡ getD uses t 0 → Listed u sizes vars (t * 4) own after → Rows n own t → Rows n after (t + 1)
+  pub rows-go : {u : ℕ} {own after : List ℕ} (t : ℕ) → t < length (n .transitions) → u ≡ getD uses t 0 → SlotsListed u sizes vars (t * 4) own after → Rows n own t → Rows n after (t + 1)
   rows-go {own = own} {after = after} t lt e listed rows s k less four = ⊎-elim
       (λ q. rw q (row-listed t lt e listed k four))
       (λ before. listed .front (s * 4 + k) (omega arith) ∙ rows s k before four)

@@ -9,7 +9,7 @@ use lib.ListN.{set, length-append, length-map, List·getD-append, List·getD-map
 use lib.Seq.{take-suc-set, take-suc, take-at, take-append-le, take-set-le, take-take, getD-at, getD-take, getD-append-add, getD-set-same, getD-set-other, length-take-le}
 use Rattle.reading.specs.Basics.{ℕ, zero, suc, _+_, _*_, _/_, _%_, Bool, true, false, List, [], _∷_, _++_, map, flatMap, length, getD, take, ltb, numbersFrom, below}
 use Rattle.reading.proofs.Lists.{of-from, flatMap-same}
-use Rattle.prepared.specs.internal.Packed.{entryOf, ifHeld, holding, entriesOf, RowFits, SlotsFit, Put, RowPacked, Packed}
+use Rattle.prepared.specs.internal.Packed.{entryOf, ifHeld, holding, entriesOf, RowFits, SlotsFit, EntryPut, RowPacked, Packed}
 use Rattle.reading.proofs.Lists.{flat-more, flat-flat}
 
 -- ---- the places that hold an arc
@@ -167,11 +167,11 @@ module _ (shape : ℕ → ℕ) (slots others : List ℕ) (base : ℕ) where
 
 -- ---- packing
 -- a place's entry, stored or none
-pub put-none : (slot shape : ℕ) (packed : List ℕ) (end : ℕ) → slot < 1 → Put slot shape packed end packed end
+pub put-none : (slot shape : ℕ) (packed : List ℕ) (end : ℕ) → slot < 1 → EntryPut slot shape packed end packed end
 put-none slot shape packed end h =
     let e = held-none slot (entryOf 32 slot shape) h in record { is = rw e (sym (append-nil (take end packed))); next = rw e (omega arith); back = λ j lt. refl }
 
-pub put-one : (slot shape : ℕ) (packed : List ℕ) (end : ℕ) → 1 ≤ slot → end < length packed → Put slot shape packed end (set packed end (entryOf 32 slot shape)) (end + 1)
+pub put-one : (slot shape : ℕ) (packed : List ℕ) (end : ℕ) → 1 ≤ slot → end < length packed → EntryPut slot shape packed end (set packed end (entryOf 32 slot shape)) (end + 1)
 put-one slot shape packed end h lt =
     let e = held-some slot (entryOf 32 slot shape) (omega arith) in
     record {
@@ -220,7 +220,7 @@ module _ {shape : ℕ → ℕ} {slots : List ℕ} {base : ℕ} where
     pub row-fits : {places : ℕ} → RowFits slots places base → p < places → getD packed (base + p) 0 < 134217728
     row-fits fit h = omega (arith, fit p h, l .rest (base + p) (omega arith))
 
-    pub row-goes : {packed' : List ℕ} {slot end' : ℕ} → slot ≡ getD packed (base + p) 0 → Put slot (shape p) packed end packed' end' → RowPacking shape slots base packed' end' (p + 1)
+    pub row-goes : {packed' : List ℕ} {slot end' : ℕ} → slot ≡ getD packed (base + p) 0 → EntryPut slot (shape p) packed end packed' end' → RowPacking shape slots base packed' end' (p + 1)
     row-goes {packed'} {slot} {end'} is stored = record {
       here = omega (arith, put .next, l .here, many, entries-many slots base 32 shape (p + 1), entries-many slots base 32 shape p);
       stand = put .is ∙ ap (λ k. k ++ x) (l .stand) ∙ append-assoc (take base slots) (entriesOf 32 shape slots base p) x
@@ -228,8 +228,8 @@ module _ {shape : ℕ → ℕ} {slots : List ℕ} {base : ℕ} where
       rest = λ j le. put .back j (omega (arith, row-behind)) ∙ l .rest j (omega arith);
     }
       where
-        put : Put (getD slots (base + p) 0) (shape p) packed end packed' end'
-        put = subst (λ x. Put x (shape p) packed end packed' end') (is ∙ l .rest (base + p) (omega arith)) stored
+        put : EntryPut (getD slots (base + p) 0) (shape p) packed end packed' end'
+        put = subst (λ x. EntryPut x (shape p) packed end packed' end') (is ∙ l .rest (base + p) (omega arith)) stored
 
         x : List ℕ
         x = ifHeld (getD slots (base + p) 0) (entryOf 32 (getD slots (base + p) 0) (shape p))

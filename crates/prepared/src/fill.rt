@@ -12,7 +12,7 @@ ghost use mathlib.Core.List.{[], _∷_, map};
 ghost use Prim.Native.Nat.{_≤_, _<_};
 ghost use lib.ListN.{length, drop};
 ghost use Rattle.reading.specs.Basics.{below};
-ghost use Rattle.plan.specs.internal.Layout.{Kept, Placed};
+ghost use Rattle.plan.specs.internal.Layout.{OthersKept, Placed};
 ghost use Rattle.prepared.specs.internal.Packed.{shapeIn, Packed, SlotsFit};
 ghost use Rattle.prepared.specs.internal.Filled.{ListsPlaced, PreparedTold};
 
@@ -82,7 +82,7 @@ fn place_shapes(kinds: &[u16; 32], starts: &[usize; 33], places: usize, plan: &m
 fn pack_part(places: usize, transitions: usize, plan: &mut [u32])
     requires { ⌜ (places ≤ 32) × (transitions ≤ 32) × (length (now plan) ≡ 3584) × SlotsFit (drop 512 (now plan)) places transitions ⌝ }
     ensures packed { λ _. ⌜ Packed 32 (λ p. p) (drop 512 (now (plan .entry))) (drop 512 (now (plan .exit))) places transitions ⌝ }
-    ensures kept { λ _. ⌜ Kept 512 3072 (now (plan .entry)) (now (plan .exit)) ⌝ }
+    ensures kept { λ _. ⌜ OthersKept 512 3072 (now (plan .entry)) (now (plan .exit)) ⌝ }
 {
     pack_arcs(places, transitions, &mut plan[512..3584]);
 }

@@ -7,7 +7,7 @@ ghost use Rattle.net.specs.Net.{Net, inTransition, transitionAt};
 ghost use Rattle.net.specs.internal.ReaderEnums.{bits, sizeIn};
 ghost use Rattle.net_file.specs.Limits.{Limits};
 ghost use Rattle.net_file.specs.Formed.{Formed};
-ghost use Rattle.prepared.specs.internal.TransitionVariables.{Owned, entryOf, Cleared, Put, Listed};
+ghost use Rattle.prepared.specs.internal.TransitionVariables.{Owned, slotOf, Cleared, SlotPut, SlotsListed};
 
 // The size of a variable's set.
 pub fn size_of(sizes: &[u8], vars: &[u8], v: usize) -> usize
@@ -48,7 +48,7 @@ fn put_slot(
     own: &mut [u16; 128],
 ) -> usize
     requires { ⌜ (v < 32) × (base ≤ 124) × (k ≤ 4) ⌝ }
-    ensures { λ r. ⌜ Put (rest % 2) (entryOf (now (sizes .entry)) (now (vars .entry)) v) base k (now (own .entry)) (now (own .exit)) r ⌝ }
+    ensures { λ r. ⌜ SlotPut (rest % 2) (slotOf (now (sizes .entry)) (now (vars .entry)) v) base k (now (own .entry)) (now (own .exit)) r ⌝ }
 {
     lend_table(own);
     if rest % 2 < 1 {
@@ -64,7 +64,7 @@ fn put_slot(
 // Lists the variables of a set of bits in four slots, by rising number, 0 in those that are not used.
 fn list_slots(uses: u32, sizes: &[u8], vars: &[u8], base: usize, own: &mut [u16; 128])
     requires { ⌜ base ≤ 124 ⌝ }
-    ensures { λ _. ⌜ Listed uses (now (sizes .entry)) (now (vars .entry)) base (now (own .entry)) (now (own .exit)) ⌝ }
+    ensures { λ _. ⌜ SlotsListed uses (now (sizes .entry)) (now (vars .entry)) base (now (own .entry)) (now (own .exit)) ⌝ }
 {
     clear_slots(base, own);
     let mut rest = uses;

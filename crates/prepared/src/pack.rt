@@ -4,7 +4,7 @@ ghost use Prim.Native.Nat.{ℕ, _≤_, _<_, _+_, _-_, _/_};
 ghost use lib.ListN.{length, getD, take};
 ghost use lib.Dec.{eqb};
 ghost use Rattle.reading.specs.Basics.{not, if_then_else_};
-ghost use Rattle.prepared.specs.internal.Packed.{shapeIn, Packed, RowPacked, RowFits, SlotsFit, Put};
+ghost use Rattle.prepared.specs.internal.Packed.{shapeIn, Packed, RowPacked, RowFits, SlotsFit, EntryPut};
 
 // A number less another, or 0.
 fn less(a: usize, b: usize) -> usize
@@ -35,7 +35,7 @@ pub fn shape_of(kinds: &[u16; 32], starts: &[usize; 33], p: usize) -> u32
 // Puts the entry of a place at `end`, if its slot holds an arc: where the next one goes.
 fn pack_place(slot: u32, p: usize, arcs: &mut [u32], end: usize) -> usize
     requires { ⌜ (slot < 134217728) × (p < 32) × (end < length (now arcs)) ⌝ }
-    ensures is { λ r. ⌜ Put slot p (now (arcs .entry)) end (now (arcs .exit)) r ⌝ }
+    ensures is { λ r. ⌜ EntryPut slot p (now (arcs .entry)) end (now (arcs .exit)) r ⌝ }
     ensures small { λ r. ⌜ r ≤ end + 1 ⌝ }
 {
     if slot < 1 {

@@ -4,7 +4,7 @@ use native.Mathlib.Omega.{arith}
 use Rattle.reading.specs.Basics.{ℕ, Bool, true, false, _&&_, List, Option, some, none, given}
 use Rattle.reading.specs.Reading.{Answer, fine, fault, _andThen_, under, accepted, outcome, Check, checked, Command, standing, needed, Part, repeat, file}
 use Rattle.reading.proofs.Lists.{All, end, also}
-use Rattle.reading.proofs.Keeps.{Held, Went, checked-went, standing-went, needed-went, repeat-keeps, file-went}
+use Rattle.reading.proofs.Keeps.{ChecksHold, Went, checked-went, standing-went, needed-went, repeat-keeps, file-went}
 
 -- each of two tests that both hold
 pub both-first : (a b : Bool) → a && b ≡ true → a ≡ true
@@ -26,7 +26,7 @@ pub data GivesIf {A : Type 0} (P : A → Type 0) : Option (Answer A) → Type 0 
 
 -- what a command goes on to, its checks passed, keeps to P
 abbrev pub Leads : {A : Type 0} → (A → Type 0) → Command A → Type 0
-Leads P c = Held (c .checks) → (next : ℕ) → Gives P (c .goes next)
+Leads P c = ChecksHold (c .checks) → (next : ℕ) → Gives P (c .goes next)
 
 -- of any value there is nothing to keep
 pub anything : {A : Type 0} (x : Answer A) → Gives (λ a. Unit {0}) x
@@ -56,7 +56,7 @@ module _ {A : Type 0} {P : A → Type 0} where
   of-outcome stops e = let z : _≡_ {A = ℕ} 0 1 = cc in absurd (omega arith)
 
   -- checks, then a value
-  pub checked-gives : (at : ℕ) (checks : List Check) (a : A) (next : ℕ) → (Held checks → P a) → Gives P (checked at checks a next)
+  pub checked-gives : (at : ℕ) (checks : List Check) (a : A) (next : ℕ) → (ChecksHold checks → P a) → Gives P (checked at checks a next)
   checked-gives at checks a next h = to-gives (checked at checks a next) (λ b last e. let (holds, is) = checked-went at checks a next e in rw is at (h holds))
 
   -- a part: what each step keeps, the whole keeps

@@ -18,22 +18,22 @@ both-true true b e = (refl, e)
 both-true false b e = (e, cc)
 
 -- every condition holds
-abbrev pub Held : List Check → Type 0
-Held [] = Unit {0}
-Held ((k unless condition) ∷ checks) = (condition ≡ true) × Held checks
+abbrev pub ChecksHold : List Check → Type 0
+ChecksHold [] = Unit {0}
+ChecksHold ((k unless condition) ∷ checks) = (condition ≡ true) × ChecksHold checks
 
 -- no check fails: all hold
-pub held : (checks : List Check) → failing checks ≡ none → Held checks
+pub held : (checks : List Check) → failing checks ≡ none → ChecksHold checks
 unfolding failing
 held [] e = tt
 held ((k unless true) ∷ checks) e = (refl, held checks e)
 held ((k unless false) ∷ checks) e = let z : _≡_ {A = ℕ} 0 1 = cc in absurd (omega arith)
 
 -- a value after checks: they hold, and it is the value
-pub checked-went : {A : Type 0} (at : ℕ) (checks : List Check) (a : A) (next : ℕ) {b : A} {last : ℕ} → checked at checks a next ≡ fine b last → Held checks × (a ≡ b)
+pub checked-went : {A : Type 0} (at : ℕ) (checks : List Check) (a : A) (next : ℕ) {b : A} {last : ℕ} → checked at checks a next ≡ fine b last → ChecksHold checks × (a ≡ b)
 checked-went at checks a next {b} {last} e = go (failing checks) refl e
   where
-    go : (o : Option ℕ) → failing checks ≡ o → (given o (fine a next) λ number. fault number at) ≡ fine b last → Held checks × (a ≡ b)
+    go : (o : Option ℕ) → failing checks ≡ o → (given o (fine a next) λ number. fault number at) ≡ fine b last → ChecksHold checks × (a ≡ b)
     go none f q = (held checks f, cc)
     go (some k) f q = no-value q
 
@@ -52,11 +52,11 @@ module _ {A B P : Type 0} where
 -- ---- commands
 -- what follows where a command stands whole at a place, its checks hold and it goes on to a value
 abbrev pub Stood : {A : Type 0} → List ℕ → ℕ → A → ℕ → Type 0 → Command A → Type 0
-Stood s at b last P c = byteAt s at ≡ c .byte → at + (1 + c .width) ≤ length s → Held (c .checks) → c .goes (at + (1 + c .width)) ≡ fine b last → P
+Stood s at b last P c = byteAt s at ≡ c .byte → at + (1 + c .width) ≤ length s → ChecksHold (c .checks) → c .goes (at + (1 + c .width)) ≡ fine b last → P
 
 -- what follows of its checks and its value alone
 abbrev pub Went : {A : Type 0} → A → ℕ → Type 0 → Command A → Type 0
-Went b last P c = Held (c .checks) → (next : ℕ) → c .goes next ≡ fine b last → P
+Went b last P c = ChecksHold (c .checks) → (next : ℕ) → c .goes next ≡ fine b last → P
 
 module _ {A : Type 0} (s : List ℕ) (at : ℕ) {b : A} {last : ℕ} where
   -- a command that gave a value was whole and its checks hold; so was the one of a list that stood there

@@ -1,3 +1,2 @@
 pub mod RowBytes
-pub mod RowLengths
 pub mod Bounded

@@ -1,8 +1,5 @@
 pub mod Ranges
 pub mod Values
-pub mod Lengths
 pub mod MostRead
 pub mod MostArcs
 pub mod MostRows
-pub mod SteadyRead
-pub mod SteadyRows

@@ -3,35 +3,78 @@ use mathlib.Core.Path.{_≡_, refl, sym, ap, _∙_, subst}
 use Prim.Native.Nat.{_≤_, _<_}
 use Rattle.reading.specs.Basics.{ℕ, _+_, _-_, Bool, true, false, List, length, eqb, if_then_else_, byteAt, wordAt}
 use Rattle.reading.specs.Reading.{Answer, fine, fault, under}
-use Rattle.net.specs.Net.{Colour, Expression, times, Place, single, pair, Net}
+use Rattle.net.specs.Net.{Colour, Expression, plus, minus, times, Place, single, pair, Net}
 use Rattle.net.specs.Reader.{readColour, readExpression, twoOf, amount, capped}
 use Rattle.arc_expressions.specs.internal.ReaderEnums.{joins}
 use Rattle.plan.specs.internal.Layout.{expressionIn, ranksIn, pairIn}
 use Rattle.evaluation.specs.internal.Evaluated.{Ranks, scopeIn, placeBy}
 use Rattle.evaluation.specs.declared.evaluate.Ranked.{Ranked}
 use Rattle.net.proofs.Shut.{commands}
-use Rattle.evaluation.proofs.Values.{needed-by}
-use Rattle.arc_expressions.proofs.Expressions.{expression-step, expression-in}
+use Rattle.net.proofs.Colours.{deeper}
+use Rattle.evaluation.proofs.Values.{obey-by, needed-by, needed-each}
+use Rattle.arc_expressions.proofs.Expressions.{deeperExpression, expression-step, expression-in}
 use Rattle.evaluation.proofs.Weights.{joined-by, times-by, one-by, two-by, expression-past, expression-shut, expression-stray}
-use Rattle.row_lengths.specs.internal.MostArcs.{most, mostJoined, MostTold, MostArc}
+use Rattle.row_lengths.specs.internal.MostArcs.{lesser, ofEvery, ofOne, mostLess, most, numberAt, MostTold, MostArc}
 use Rattle.row_lengths.specs.declared.arcs.Most.{Most}
 use Rattle.sums.proofs.Listing.{either-byte}
 
+-- ---- what the byte at a place tells of the expression that stands there: the number of a count
+abbrev Numbered : List ℕ → ℕ → Answer Expression → Type 0
+Numbered s at (fine e next) = (numberAt s 0x41 at ≡ ofEvery e) × (numberAt s 0x40 at ≡ ofOne e)
+Numbered s at (fault number place) = Unit {0}
+
+module _ (s : List ℕ) (n : Net) (at : ℕ) where
+  amount-numbered : byteAt s at ≡ 0x40 → (inner : ℕ → Answer Colour) (place : Place) (next : ℕ) → Numbered s at (amount n inner place (wordAt s (at + 1)) at next)
+  amount-numbered b inner (single set) next = one-by (Numbered s at) (λ k p. tt) at n inner (wordAt s (at + 1)) next set (λ k end e. rw b (refl, refl))
+  amount-numbered b inner (pair set other) next = two-by (Numbered s at) (λ k p. tt) at n inner (wordAt s (at + 1)) next set other (λ k l more end e f. rw b (refl, refl))
+
+  pub numbered : (place : Place) (left : ℕ) → Numbered s at (readExpression s n place left at)
+  unfolding commands
+  numbered place left =
+      let by = obey-by (Numbered s at) (λ k p. tt) s at in
+      let two = joined-by (Numbered s at) (λ k p. tt) at (deeperExpression s n place left) (at + 1) in
+      rw (expression-step s n place left at) (needed-each (Numbered s at) (λ k p. tt) s at _ (
+        λ e. by _ (amount-numbered e (deeper s n left) place (at + 3)),
+        (
+          λ e. by _ (rw e (refl, refl)),
+          (
+            λ e. by _ (two plus (λ a b more end f g small. rw e (refl, refl))),
+            (
+              λ e. by _ (two minus (λ a b more end f g small. rw e (refl, refl))),
+              (λ e. by _ (times-by (Numbered s at) (λ k p. tt) at (deeperExpression s n place left) (at + 3) (wordAt s (at + 1)) (λ a end f small. rw e (refl, refl))), tt),
+            ),
+          ),
+        ),
+      ))
+
 -- ---- two expressions one after the other, and a factor times one
 module _ (count : ℕ) (inner : ℕ → Answer Expression) (at next : ℕ) (p : Most) (first : MostTold count p (inner next)) where
-  joins-most : (less : Bool) (a b : Expression) → mostJoined count less (most count a) (most count b) ≡ most count (joins less a b)
+  -- a sum
+  pub sum-most : (q : Most) → MostTold count q (inner (p .next))
+      → MostTold count (record { arcs = lesser count (p .arcs + q .arcs); next = q .next }) (capped at (twoOf inner (joins false) next))
   unfolding most
-  joins-most true a b = refl
-  joins-most false a b = refl
-
-  pub joined-most : (q : Most) → MostTold count q (inner (p .next)) → (less : Bool)
-      → MostTold count (record { arcs = mostJoined count less (p .arcs) (q .arcs); next = q .next }) (capped at (twoOf inner (joins less) next))
-  joined-most q second less =
-      joined-by (MostTold count (record { arcs = mostJoined count less (p .arcs) (q .arcs); next = q .next })) (λ k i. tt) at inner next (joins less)
+  sum-most q second =
+      joined-by (MostTold count (record { arcs = lesser count (p .arcs + q .arcs); next = q .next })) (λ k i. tt) at inner next (joins false)
       (λ a b mid end e f small.
       let g : MostTold count p (fine a mid) = subst (MostTold count p) e first in
       let h : MostTold count q (fine b end) = subst (MostTold count q) (ap inner (g .1) ∙ f) second in
-      (ap (λ x. mostJoined count less x (q .arcs)) (g .0) ∙ ap (mostJoined count less (most count a)) (h .0) ∙ joins-most less a b, h .1))
+      (ap (λ x. lesser count (x + q .arcs)) (g .0) ∙ ap (λ x. lesser count (most count a + x)) (h .0), h .1))
+
+  -- a difference
+  pub less-most : (s : List ℕ) → ((place : ℕ) → Numbered s place (inner place)) → (q : Most) → MostTold count q (inner (p .next))
+      → MostTold count (record { arcs = mostLess count (p .arcs) (numberAt s 0x41 next) (numberAt s 0x40 (p .next)); next = q .next }) (capped at (twoOf inner (joins true) next))
+  unfolding most
+  less-most s numbers q second =
+      joined-by (MostTold count (record { arcs = mostLess count (p .arcs) (numberAt s 0x41 next) (numberAt s 0x40 (p .next)); next = q .next })) (λ k i. tt) at inner next (joins true)
+      (λ a b mid end e f small.
+      let g : MostTold count p (fine a mid) = subst (MostTold count p) e first in
+      let h : MostTold count q (fine b end) = subst (MostTold count q) (ap inner (g .1) ∙ f) second in
+      let x : Numbered s next (fine a mid) = subst (Numbered s next) e (numbers next) in
+      let y : Numbered s (p .next) (fine b end) = subst (Numbered s (p .next)) (ap inner (g .1) ∙ f) (numbers (p .next)) in (
+        ap (λ m. mostLess count m (numberAt s 0x41 next) (numberAt s 0x40 (p .next))) (g .0)
+            ∙ ap (λ o. mostLess count (most count a) o (numberAt s 0x40 (p .next))) (x .0) ∙ ap (mostLess count (most count a) (ofEvery a)) (y .1),
+        h .1,
+      ))
 
   times-most : (factor : ℕ) → MostTold count p (capped at (under (times factor) (inner next)))
   unfolding most

@@ -1,26 +1,15 @@
--- Values stay in their ranges: colours in their sets, ranks in their places, weights under their ceilings. Assumes nothing.
+-- Values stay in their ranges: colours in their sets, ranks in their places. Assumes nothing.
 use mathlib.Core.Path.{_≡_, refl, ap}
 use Prim.Native.Nat.{_≤_, _<_}
 use native.Mathlib.Omega.{arith}
 use mathlib.Core.Logic.{⊎-elim}
 use native.Mathlib.Nat.{mul-le-mul-right, mul-one, suc-mul, eq-or-lt-of-le}
-use borrow.Author.Tests.{ltb-true, leb-true, eqb-true, eqb-false}
-use Rattle.reading.specs.Basics.{ℕ, _+_, _-_, _*_, Bool, true, false, _&&_, length, ltb, leb, eqb, every, if_then_else_}
-use Rattle.reading.proofs.Lists.{In, all-in, every-in}
+use borrow.Author.Tests.{ltb-true, eqb-true, eqb-false}
+use Rattle.reading.specs.Basics.{ℕ, _+_, _-_, _*_, Bool, true, false, _&&_, length, ltb, eqb, if_then_else_}
 use Rattle.reading.proofs.Gives.{both-first, both-second}
-use Rattle.evaluation.proofs.Weights.{weight-le}
-use Rattle.net.specs.Net.{Colour, variable, constant, successor, predecessor, one, two, Place, single, pair, Arc, Transition, Net, sizeOf, coloursOf, setOf, ceiling}
-use Rattle.net.specs.Values.{colour, pairRank, weight}
-use Rattle.net_file.specs.Limits.{Limits}
-use Rattle.net_file.specs.Formed.{Fitting, colourFormed, ofSets, expressionFormed, Words}
-
--- the set of a formed colour is there
-pub set-known : (n : Net) → Limits n → (k : Colour) → colourFormed n k ≡ true → setOf n k < length (n .sets)
-unfolding colourFormed setOf
-set-known n l (variable v) e = l .variable-sets v (ltb-true v (length (n .variables)) e)
-set-known n l (constant set c) e = ltb-true set (length (n .sets)) (both-first (ltb set (length (n .sets))) (ltb c (sizeOf n set)) e)
-set-known n l (successor k) e = set-known n l k e
-set-known n l (predecessor k) e = set-known n l k e
+use Rattle.net.specs.Net.{Colour, variable, constant, successor, predecessor, one, two, Place, single, pair, Net, sizeOf, coloursOf, setOf}
+use Rattle.net.specs.Values.{colour, pairRank}
+use Rattle.net_file.specs.Formed.{Fitting, colourFormed, ofSets, expressionFormed}
 
 -- going round a set stays in it
 after-fits : (size c : ℕ) → c < size → (if eqb (c + 1) size then 0 else c + 1) < size
@@ -75,13 +64,3 @@ module _ (n : Net) (env : ℕ → ℕ) (fits : Fitting n env) where
       let x = colour-of a k (both-first first (second && true) e) in
       let y = colour-of b l (both-first second true (both-second first (second && true) e)) in
       rw (y .0, mul-one (sizeOf n b)) (pair-below (colour n env k) (colour n env l) (sizeOf n a) (sizeOf n b) (x .1) (y .1))
-
--- ---- no weight passes the ceiling
--- of a file of bytes, weights of arcs are u16
-pub weight-word : (n : Net) → Words n → (env : ℕ → ℕ) (rank : ℕ) {t : Transition} {a : Arc} → In t (n .transitions) → In a (t .arcs) → weight n env rank (a .expression) ≤ 65535
-weight-word n w env rank {t} {a} i j =
-    let l = every-in (λ u. every (λ b. leb (ceiling (b .expression)) 65535) (u .arcs)) (n .transitions) (w .ceilings) in
-    let m = every-in (λ b. leb (ceiling (b .expression)) 65535) (t .arcs) (all-in l i) in
-    let c = leb-true (ceiling (a .expression)) 65535 (all-in m j) in
-    let h = weight-le n env rank (a .expression) in
-    omega arith

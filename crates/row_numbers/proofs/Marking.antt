@@ -22,7 +22,7 @@ use Rattle.prepared.proofs.Known.{its-limits}
 use Rattle.bindings.specs.internal.Legal.{everyRow}
 use Rattle.net_transitions.proofs.Spaces.{count-next, count-takes}
 use Rattle.row_numbers.specs.internal.Walked.{takesEffect, entries}
-use Rattle.row_numbers.specs.internal.Marks.{markAt, hasRow, Blank, effects, Marking, Marked, Counted}
+use Rattle.row_numbers.specs.internal.Marks.{markAt, hasRow, Blank, effects, BindingsMarked, Marked, RowsCounted}
 use Rattle.row_numbers.proofs.Tabled.{every-takes, number-small, entries-begin, entries-next, entries-rise, entries-few, entries-most, entries-without, entries-with}
 
 -- ---- bits
@@ -132,12 +132,12 @@ other a b j k h = ap (λ x. a || (x && b)) (ne-eqb j k h) ∙ or-false a
 
 module _ (n : Net) (t : ℕ) where
   -- no binding yet
-  pub marking-none : {marks : List ℕ} {base : ℕ} → Blank marks base → Marking n t marks marks base 0
+  pub marking-none : {marks : List ℕ} {base : ℕ} → Blank marks base → BindingsMarked n t marks marks base 0
   marking-none blank = record { told = λ i lt. absurd (omega arith); same = λ j lt. refl; blank = λ j le lt. blank j (omega arith) lt }
 
   -- one binding more
-  pub marking-goes : {was marks after : List ℕ} {base i : ℕ} → base + i < 65536 → Marking n t was marks base i
-      → ((j : ℕ) → j < 65536 → markAt after j ≡ (markAt marks j || (eqb j (base + i) && takesEffect n t i))) → Marking n t was after base (i + 1)
+  pub marking-goes : {was marks after : List ℕ} {base i : ℕ} → base + i < 65536 → BindingsMarked n t was marks base i
+      → ((j : ℕ) → j < 65536 → markAt after j ≡ (markAt marks j || (eqb j (base + i) && takesEffect n t i))) → BindingsMarked n t was after base (i + 1)
   marking-goes {was} {marks} {after} {base} {i} few here set = record {
     told = λ j below. ⊎-elim
         (λ e. rw e (set (base + i) few ∙ ap (λ x. x || (eqb (base + i) (base + i) && takesEffect n t i)) (here .blank (base + i) (omega arith) few)
@@ -179,7 +179,7 @@ module _ (n : Net) (t : ℕ) where
 pub record Reached (n : Net) (plan marks rows : List ℕ) (t base : ℕ) : Type 0 where
   pub used : base ≡ entries n plan t
   pub marked : Marked n plan marks t
-  pub counted : Counted n rows t
+  pub counted : RowsCounted n rows t
   pub blank : Blank marks base
 
 module _ (n : Net) (plan : List ℕ) where
@@ -192,7 +192,7 @@ module _ (n : Net) (plan : List ℕ) where
   }
 
   -- one row count more
-  counted-more : {rows : List ℕ} {t count : ℕ} → Counted n rows t → t < length rows → count ≡ effects n t (product (sizesOf n (transitionAt n t))) → Counted n (set rows t count) (t + 1)
+  counted-more : {rows : List ℕ} {t count : ℕ} → RowsCounted n rows t → t < length rows → count ≡ effects n t (product (sizesOf n (transitionAt n t))) → RowsCounted n (set rows t count) (t + 1)
   counted-more {rows} {t} {count} was room is = record {
     row = λ u lt. ⊎-elim
         (λ e. rw e (getD-set-same rows t count 0 room ∙ is))
@@ -216,7 +216,7 @@ module _ (n : Net) (plan : List ℕ) where
     }
 
     -- one more with marks
-    pub reach-goes : {after : List ℕ} {count : ℕ} → everyRow plan t ≡ false → (count ≡ effects n t many) × Marking n t marks after base many
+    pub reach-goes : {after : List ℕ} {count : ℕ} → everyRow plan t ≡ false → (count ≡ effects n t many) × BindingsMarked n t marks after base many
         → Reached n plan after (set rows t count) (t + 1) (base + many)
     reach-goes {after} guarded (counts, marking) = record {
       used = omega (arith, was .used, entries-next n plan t, entries-with (everyRow plan t) (product (sizesOf n (transitionAt n t))) guarded);
@@ -239,8 +239,8 @@ module _ (n : Net) (plan : List ℕ) where
             (λ less. let q : entries n plan t + i ≡ base + i = omega (arith, was .used) in ap (markAt after) q ∙ marking .told i (omega arith)) inside
 
   -- all of them
-  pub reach-ends : {marks rows : List ℕ} {t base transitions : ℕ} → Reached n plan marks rows t base → t ≡ transitions → Marked n plan marks transitions × Counted n rows transitions
-  reach-ends {marks} {rows} was e = subst (λ k. Marked n plan marks k × Counted n rows k) e (was .marked, was .counted)
+  pub reach-ends : {marks rows : List ℕ} {t base transitions : ℕ} → Reached n plan marks rows t base → t ≡ transitions → Marked n plan marks transitions × RowsCounted n rows transitions
+  reach-ends {marks} {rows} was e = subst (λ k. Marked n plan marks k × RowsCounted n rows k) e (was .marked, was .counted)
 
 -- ---- reading the marks of a transition
 module _ {s plan : List ℕ} {n : Net} (p : Prepared s n plan) {t many base : ℕ} (lt : t < length (n .transitions))

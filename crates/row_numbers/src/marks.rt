@@ -15,7 +15,7 @@ ghost use Rattle.prepared.specs.internal.Prepared.{Prepared};
 ghost use Rattle.bindings.specs.internal.Bindings.{Binds, numbered};
 ghost use Rattle.bindings.specs.internal.Legal.{everyRow};
 ghost use Rattle.row_numbers.specs.internal.Walked.{takesEffect};
-ghost use Rattle.row_numbers.specs.internal.Marks.{markAt, hasRow, Blank, effects, Marking, Marked, Counted};
+ghost use Rattle.row_numbers.specs.internal.Marks.{markAt, hasRow, Blank, effects, BindingsMarked, Marked, RowsCounted};
 
 // Sets a mark; past the end it sets none.
 pub fn set_mark(marks: &mut [u32; 2048], k: usize)
@@ -71,7 +71,7 @@ pub fn has_none(plan: &[u32; 3584], t: usize, marks: &[u32; 2048], k: usize, lef
 
 // Sets the mark of a binding, if it has an effect: how many have one, after so many.
 fn mark_one(
-    s: &[u8],
+    file: &[u8],
     plan: &[u32; 3584],
     env: &[u8; 32],
     t: usize,
@@ -80,14 +80,14 @@ fn mark_one(
     marks: &mut [u32; 2048],
 ) -> usize
     requires { ⌜ (t < 32) × (count ≤ 4228250625) × (length (now marks) ≡ 2048) ⌝ }
-    ensures is { λ r. ⌜ ((n : Net) (i : ℕ) → Prepared (now (s .entry)) n (now (plan .entry)) → t < length (n .transitions)
+    ensures is { λ r. ⌜ ((n : Net) (i : ℕ) → Prepared (now (file .entry)) n (now (plan .entry)) → t < length (n .transitions)
         → Binds n (numbered n t i) (now (env .entry))
         → (r ≡ count + (if takesEffect n t i then 1 else 0))
         × ((j : ℕ) → j < 65536 → markAt (now (marks .exit)) j ≡ (markAt (now (marks .entry)) j || (eqb j k && takesEffect n t i)))) ⌝ }
     ensures high { λ r. ⌜ r ≤ count + 1 ⌝ }
     ensures kept { λ _. ⌜ length (now (marks .exit)) ≡ 2048 ⌝ }
 {
-    if has_effect(s, plan, env, t) {
+    if has_effect(file, plan, env, t) {
         set_mark(marks, k);
         return count + 1;
     }
@@ -96,7 +96,7 @@ fn mark_one(
 
 // Sets the marks of the bindings of a transition, from base on: how many have an effect.
 fn mark_those(
-    s: &[u8],
+    file: &[u8],
     plan: &[u32; 3584],
     t: usize,
     many: usize,
@@ -104,16 +104,16 @@ fn mark_those(
     marks: &mut [u32; 2048],
 ) -> usize
     requires { ⌜ (t < 32) × (many ≤ 4228250625) × (base ≤ 135304020000) × (length (now marks) ≡ 2048) ⌝ }
-    ensures is { λ r. ⌜ ((n : Net) → Prepared (now (s .entry)) n (now (plan .entry)) → t < length (n .transitions)
+    ensures is { λ r. ⌜ ((n : Net) → Prepared (now (file .entry)) n (now (plan .entry)) → t < length (n .transitions)
         → many ≡ product (sizesOf n (transitionAt n t)) → base + many ≤ 65536 → Blank (now (marks .entry)) base
-        → (r ≡ effects n t many) × Marking n t (now (marks .entry)) (now (marks .exit)) base many) ⌝ }
+        → (r ≡ effects n t many) × BindingsMarked n t (now (marks .entry)) (now (marks .exit)) base many) ⌝ }
     ensures kept { λ _. ⌜ length (now (marks .exit)) ≡ 2048 ⌝ }
 {
     let mut env = [0u8; 32];
     let mut count: usize = 0;
     let mut i: usize = 0;
     while i < many {
-        count = mark_one(s, plan, &env, t, base + i, count, marks);
+        count = mark_one(file, plan, &env, t, base + i, count, marks);
         next_binding(plan, t, &mut env);
         i += 1;
     }
@@ -121,10 +121,10 @@ fn mark_those(
 }
 
 // Sets the marks of all bindings that need one, and tells how many rows each transition has: where every binding has a row, as many as bindings.
-pub fn mark_all(s: &[u8], plan: &[u32; 3584], marks: &mut [u32; 2048], counts: &mut [usize; 32])
+pub fn mark_all(file: &[u8], plan: &[u32; 3584], marks: &mut [u32; 2048], counts: &mut [usize; 32])
     requires { ⌜ (length (now marks) ≡ 2048) × (length (now counts) ≡ 32) ⌝ }
-    ensures { λ _. ⌜ ((n : Net) → Prepared (now (s .entry)) n (now (plan .entry)) → Blank (now (marks .entry)) 0
-        → Marked n (now (plan .entry)) (now (marks .exit)) (length (n .transitions)) × Counted n (now (counts .exit)) (length (n .transitions))) ⌝ }
+    ensures { λ _. ⌜ ((n : Net) → Prepared (now (file .entry)) n (now (plan .entry)) → Blank (now (marks .entry)) 0
+        → Marked n (now (plan .entry)) (now (marks .exit)) (length (n .transitions)) × RowsCounted n (now (counts .exit)) (length (n .transitions))) ⌝ }
 {
     let transitions = transitions_of(plan);
     let mut base: usize = 0;
@@ -134,7 +134,7 @@ pub fn mark_all(s: &[u8], plan: &[u32; 3584], marks: &mut [u32; 2048], counts: &
         if every_binding_has_row(plan, t) {
             counts[t] = many;
         } else {
-            counts[t] = mark_those(s, plan, t, many, base, marks);
+            counts[t] = mark_those(file, plan, t, many, base, marks);
             base += many;
         }
         t += 1;

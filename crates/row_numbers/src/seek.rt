@@ -21,7 +21,7 @@ pub enum Sought {
 
 // Seeks a row among the bindings of a transition one by one, after so many rows.
 fn seek_guarded(
-    s: &[u8],
+    file: &[u8],
     plan: &[u32; 3584],
     t: usize,
     size: usize,
@@ -31,7 +31,7 @@ fn seek_guarded(
     requires { ⌜ t < 32 ⌝ }
     requires { ⌜ count ≤ row ⌝ }
     requires { ⌜ count + size ≤ 1000000000000 ⌝ }
-    ensures is { λ r. ⌜ ((n : Net) → Prepared (now (s .entry)) n (now (plan .entry)) → t < length (n .transitions)
+    ensures is { λ r. ⌜ ((n : Net) → Prepared (now (file .entry)) n (now (plan .entry)) → t < length (n .transitions)
         → size ≡ product (sizesOf n (transitionAt n t)) → count ≡ passed n (before n t) → SoughtTold n t size row r) ⌝ }
     ensures room { λ r. ⌜ SoughtRoom size row count r ⌝ }
 {
@@ -39,7 +39,7 @@ fn seek_guarded(
     let mut total = count;
     let mut i: usize = 0;
     while i < size {
-        let next = count_one(s, plan, &env, t, total);
+        let next = count_one(file, plan, &env, t, total);
         if row < next {
             return Sought::At { index: i };
         }
@@ -51,16 +51,23 @@ fn seek_guarded(
 }
 
 // Seeks a row among the bindings of one transition, after so many rows. Where every binding has a row, they follow each other.
-fn seek_in(s: &[u8], plan: &[u32; 3584], t: usize, size: usize, row: usize, count: usize) -> Sought
+fn seek_in(
+    file: &[u8],
+    plan: &[u32; 3584],
+    t: usize,
+    size: usize,
+    row: usize,
+    count: usize,
+) -> Sought
     requires { ⌜ t < 32 ⌝ }
     requires { ⌜ count ≤ row ⌝ }
     requires { ⌜ count + size ≤ 1000000000000 ⌝ }
-    ensures is { λ r. ⌜ ((n : Net) → Prepared (now (s .entry)) n (now (plan .entry)) → t < length (n .transitions)
+    ensures is { λ r. ⌜ ((n : Net) → Prepared (now (file .entry)) n (now (plan .entry)) → t < length (n .transitions)
         → size ≡ product (sizesOf n (transitionAt n t)) → count ≡ passed n (before n t) → SoughtTold n t size row r) ⌝ }
     ensures room { λ r. ⌜ SoughtRoom size row count r ⌝ }
 {
     if !every_binding_has_row(plan, t) {
-        return seek_guarded(s, plan, t, size, row, count);
+        return seek_guarded(file, plan, t, size, row, count);
     }
     if row - count < size {
         return Sought::At { index: row - count };
@@ -77,8 +84,8 @@ pub enum Located {
 }
 
 // The binding of a row.
-pub fn seek_row(s: &[u8], plan: &[u32; 3584], row: usize) -> Located
-    ensures is { λ r. ⌜ ((n : Net) → Prepared (now (s .entry)) n (now (plan .entry)) → LocatedTold n row r) ⌝ }
+pub fn seek_row(file: &[u8], plan: &[u32; 3584], row: usize) -> Located
+    ensures is { λ r. ⌜ ((n : Net) → Prepared (now (file .entry)) n (now (plan .entry)) → LocatedTold n row r) ⌝ }
     ensures room { λ r. ⌜ LocatedRoom r ⌝ }
 {
     let transitions = transitions_of(plan);
@@ -86,7 +93,7 @@ pub fn seek_row(s: &[u8], plan: &[u32; 3584], row: usize) -> Located
     let mut t: usize = 0;
     while t < transitions {
         let size = space_of(plan, t);
-        match seek_in(s, plan, t, size, row, count) {
+        match seek_in(file, plan, t, size, row, count) {
             Sought::At { index } => return Located::At {
                 transition: t,
                 index,

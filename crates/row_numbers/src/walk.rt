@@ -17,15 +17,15 @@ ghost use Rattle.bindings.specs.internal.Numbers.{before};
 ghost use Rattle.row_numbers.specs.internal.Walked.{passed, entriesAt, entries, Numbers, Starts};
 
 // How many rows there are with a binding, after so many.
-pub fn count_one(s: &[u8], plan: &[u32; 3584], env: &[u8; 32], t: usize, count: usize) -> usize
+pub fn count_one(file: &[u8], plan: &[u32; 3584], env: &[u8; 32], t: usize, count: usize) -> usize
     requires { ⌜ t < 32 ⌝ }
     requires { ⌜ count ≤ 1000000000000 ⌝ }
-    ensures is { λ r. ⌜ ((n : Net) (i : ℕ) → Prepared (now (s .entry)) n (now (plan .entry)) → t < length (n .transitions)
+    ensures is { λ r. ⌜ ((n : Net) (i : ℕ) → Prepared (now (file .entry)) n (now (plan .entry)) → t < length (n .transitions)
         → Binds n (numbered n t i) (now (env .entry)) → i < product (sizesOf n (transitionAt n t)) → count ≡ passed n (before n t + i) → r ≡ passed n (before n t + i + 1)) ⌝ }
     ensures low { λ r. ⌜ count ≤ r ⌝ }
     ensures high { λ r. ⌜ r ≤ count + 1 ⌝ }
 {
-    if has_effect(s, plan, env, t) {
+    if has_effect(file, plan, env, t) {
         return count + 1;
     }
     count
@@ -53,7 +53,7 @@ fn store(numbers: &mut [u32], at: usize, number: u32)
 
 // Numbers the bindings of a transition, in the table from base on; it tells how many rows there are with them.
 fn number_those(
-    s: &[u8],
+    file: &[u8],
     plan: &[u32; 3584],
     t: usize,
     size: usize,
@@ -64,7 +64,7 @@ fn number_those(
     requires { ⌜ t < 32 ⌝ }
     requires { ⌜ base + size ≤ 1000000000000 ⌝ }
     requires { ⌜ count + size ≤ 1000000000000 ⌝ }
-    ensures is { λ r. ⌜ ((n : Net) → Prepared (now (s .entry)) n (now (plan .entry)) → t < length (n .transitions)
+    ensures is { λ r. ⌜ ((n : Net) → Prepared (now (file .entry)) n (now (plan .entry)) → t < length (n .transitions)
         → size ≡ product (sizesOf n (transitionAt n t)) → count ≡ passed n (before n t) → base + size ≤ length (now (numbers .entry))
         → (r ≡ passed n (before n t + size)) × Numbers n t (now (numbers .exit)) base size) ⌝ }
     ensures high { λ r. ⌜ r ≤ count + size ⌝ }
@@ -74,7 +74,7 @@ fn number_those(
     let mut total = count;
     let mut i: usize = 0;
     while i < size {
-        let next = count_one(s, plan, &env, t, total);
+        let next = count_one(file, plan, &env, t, total);
         store(numbers, base + i, number_of(total, next));
         total = next;
         next_binding(plan, t, &mut env);
@@ -97,7 +97,7 @@ pub fn entries_of(plan: &[u32; 3584], t: usize, size: usize) -> usize
 
 // How many entries the table needs.
 pub fn count_entries(plan: &[u32; 3584]) -> usize
-    ensures { λ r. ⌜ ((s : List ℕ) (n : Net) → Prepared s n (now (plan .entry)) → r ≡ entries n (now (plan .entry)) (length (n .transitions))) ⌝ }
+    ensures { λ r. ⌜ ((file : List ℕ) (n : Net) → Prepared file n (now (plan .entry)) → r ≡ entries n (now (plan .entry)) (length (n .transitions))) ⌝ }
 {
     let transitions = transitions_of(plan);
     let mut total: usize = 0;
@@ -110,9 +110,9 @@ pub fn count_entries(plan: &[u32; 3584]) -> usize
 }
 
 // Numbers the bindings of all transitions that have entries, and tells where each transition starts: in the table, or where every binding has a row its first row.
-pub fn number_all(s: &[u8], plan: &[u32; 3584], starts: &mut [usize], numbers: &mut [u32])
+pub fn number_all(file: &[u8], plan: &[u32; 3584], starts: &mut [usize], numbers: &mut [u32])
     requires { ⌜ length (now starts) ≡ 32 ⌝ }
-    ensures { λ _. ⌜ ((n : Net) → Prepared (now (s .entry)) n (now (plan .entry))
+    ensures { λ _. ⌜ ((n : Net) → Prepared (now (file .entry)) n (now (plan .entry))
         → entries n (now (plan .entry)) (length (n .transitions)) ≤ length (now (numbers .entry))
         → Starts n (now (plan .entry)) (now (starts .exit)) (now (numbers .exit)) (length (n .transitions))) ⌝ }
 {
@@ -127,7 +127,7 @@ pub fn number_all(s: &[u8], plan: &[u32; 3584], starts: &mut [usize], numbers: &
             count += size;
         } else {
             starts[t] = base;
-            count = number_those(s, plan, t, size, base, count, numbers);
+            count = number_those(file, plan, t, size, base, count, numbers);
             base += size;
         }
         t += 1;

@@ -17,12 +17,12 @@ use Rattle.net_transitions.specs.internal.TransitionTables.{Slot}
 use Rattle.net.proofs.Alike.{weight-alike}
 use Rattle.bindings.specs.Effect.{arcWeight}
 use Rattle.prepared.specs.internal.Packed.{shapeOf, entryOf, holding, entriesOf, RowPacked}
-use Rattle.runs.specs.internal.Terms.{Appended}
+use Rattle.runs.specs.internal.Terms.{ArcsAppended}
 use Rattle.sums.specs.internal.Loaded.{rankArcs, ArcLoaded}
 use Rattle.sums.specs.internal.Slots.{expressionSlots, slotsFor}
 use Rattle.multiset.proofs.Slots.{slots-told}
 use Rattle.runs.proofs.Appending.{append-none, append-join}
-use Rattle.plan.specs.internal.Layout.{setsIn, variablesIn, guardsIn, arcsIn}
+use Rattle.plan.specs.internal.Layout.{setsIn, variablesIn, guardsIn, packedIn}
 use Rattle.prepared.specs.internal.Drawing.{startOf, Drawing}
 use Rattle.prepared.specs.internal.Prepared.{Prepared}
 use Rattle.rows.specs.internal.Effects.{placeSlots, slotsBelow, kindSlots, placeArcs, kindArcs}
@@ -167,7 +167,7 @@ module _ {s : List ℕ} {n : Net} {sizes vars guards arcs : List ℕ} (value : �
 module _ {s : List ℕ} {n : Net} {plan : List ℕ} (env : List ℕ) (prepared : Prepared s n plan)
     {t k base : ℕ} (ht : t < length (n .transitions)) (hk : k < 3) (hb : base ≡ t * 96 + k * 32) where
   -- the tables that the plan holds, and what expressions are read over
-  abbrev d : Drawing s n (setsIn plan) (variablesIn plan) (guardsIn plan) (arcsIn plan)
+  abbrev d : Drawing s n (setsIn plan) (variablesIn plan) (guardsIn plan) (packedIn plan)
   d = prepared .drawing
 
   abbrev over : Net
@@ -179,10 +179,10 @@ module _ {s : List ℕ} {n : Net} {plan : List ℕ} (env : List ℕ) (prepared :
       → ArcLoaded s plan env entry places amounts used places' amounts' r
       → readExpression s over (placeAt n p) 16 (entry / 134217728) ≡ fine e next
       → used + expressionSlots (coloursOf n (placeAt n p)) e + length s / 2 ≤ length places → used + expressionSlots (coloursOf n (placeAt n p)) e + length s / 2 ≤ length amounts
-      → Appended (rankArcs (startOf n p) (coloursOf n (placeAt n p)) (λ rank. weight n (bound env) rank e)) places amounts used places' amounts' r
+      → ArcsAppended (rankArcs (startOf n p) (coloursOf n (placeAt n p)) (λ rank. weight n (bound env) rank e)) places amounts used places' amounts' r
   place-loads entry p e {places} {amounts} {places'} {amounts'} {used} {r} {next} begins many paired loaded reads x y =
       let by = place-by (placeAt n p) in
-      subst (λ l. Appended l places amounts used places' amounts' r)
+      subst (λ l. ArcsAppended l places amounts used places' amounts' r)
       (rank-same (entry / 16384 % 8192) (startOf n p) (entry / 2 % 8192) (coloursOf n (placeAt n p)) (λ rank. weight over (bound env) rank e) (λ rank. weight n (bound env) rank e) begins many
       (λ rank. weight-alike over n (sym (d .sets)) (sym (d .variables)) (bound env) rank e))
       (loaded (n .places) (by .0) (by .1) next e
@@ -192,14 +192,14 @@ module _ {s : List ℕ} {n : Net} {plan : List ℕ} (env : List ℕ) (prepared :
       few : slotsFor s (entry / 134217728) (entry / 2 % 8192) ≡ expressionSlots (coloursOf n (placeAt n p)) e
       few = slots-told s over (placeAt n p) (entry / 134217728) (entry / 2 % 8192) reads ∙ ap (λ c. expressionSlots c e) many
 
-  pub row-loads : (i entry : ℕ) → i < 32 → i ≤ length (holding (d .slots) base (length (n .places))) → entry ≡ getD (arcsIn plan) (base + i) 0 → 1 ≤ entry
+  pub row-loads : (i entry : ℕ) → i < 32 → i ≤ length (holding (d .slots) base (length (n .places))) → entry ≡ getD (packedIn plan) (base + i) 0 → 1 ≤ entry
       → {places₀ amounts₀ places amounts places' amounts' : List ℕ} {used end end' : ℕ}
-      → Appended (flatMap (placeArcs n (transitionAt n t) (bound env) (0x16 + k)) (take i (holding (d .slots) base (length (n .places))))) places₀ amounts₀ used places amounts end
+      → ArcsAppended (flatMap (placeArcs n (transitionAt n t) (bound env) (0x16 + k)) (take i (holding (d .slots) base (length (n .places))))) places₀ amounts₀ used places amounts end
       → ArcLoaded s plan env entry places amounts end places' amounts' end'
       → used + kindSlots n (transitionAt n t) (0x16 + k) + length s / 2 ≤ length places₀ → used + kindSlots n (transitionAt n t) (0x16 + k) + length s / 2 ≤ length amounts₀
-      → Appended (flatMap (placeArcs n (transitionAt n t) (bound env) (0x16 + k)) (take (i + 1) (holding (d .slots) base (length (n .places))))) places₀ amounts₀ used places' amounts' end'
+      → ArcsAppended (flatMap (placeArcs n (transitionAt n t) (bound env) (0x16 + k)) (take (i + 1) (holding (d .slots) base (length (n .places))))) places₀ amounts₀ used places' amounts' end'
   row-loads i entry h far e has {places₀} {amounts₀} {places} {amounts} {places'} {amounts'} {used} {end} {end'} so-far loaded x y =
-      subst (λ l. Appended l places₀ amounts₀ used places' amounts' end') (sym (en .with-it)) (append-join before (here (arcOn (transitionAt n t .arcs) (0x16 + k) p) refl (slot (bound env) d ht hk hb p (en .inside))))
+      subst (λ l. ArcsAppended l places₀ amounts₀ used places' amounts' end') (sym (en .with-it)) (append-join before (here (arcOn (transitionAt n t .arcs) (0x16 + k) p) refl (slot (bound env) d ht hk hb p (en .inside))))
     where
       en : Entered (bound env) d ht hk hb i entry
       en = entered (bound env) d ht hk hb i entry h far e has
@@ -207,8 +207,8 @@ module _ {s : List ℕ} {n : Net} {plan : List ℕ} (env : List ℕ) (prepared :
       p : ℕ
       p = en .place
 
-      before : Appended (kindArcs n (transitionAt n t) (bound env) (0x16 + k) p) places₀ amounts₀ used places amounts end
-      before = subst (λ l. Appended l places₀ amounts₀ used places amounts end) (en .before) so-far
+      before : ArcsAppended (kindArcs n (transitionAt n t) (bound env) (0x16 + k) p) places₀ amounts₀ used places amounts end
+      before = subst (λ l. ArcsAppended l places₀ amounts₀ used places amounts end) (en .before) so-far
 
       room : end + placeSlots n (transitionAt n t) (0x16 + k) p ≤ used + kindSlots n (transitionAt n t) (0x16 + k)
       room =
@@ -218,53 +218,80 @@ module _ {s : List ℕ} {n : Net} {plan : List ℕ} (env : List ℕ) (prepared :
 
       here : (o : Option net.Arc) → arcOn (transitionAt n t .arcs) (0x16 + k) p ≡ o
           → Slot (readExpression s over (placeAt n p) 16) (Option·map (λ a. a .expression) o) (getD (d .slots) (base + p) 0)
-          → Appended (placeArcs n (transitionAt n t) (bound env) (0x16 + k) p) places amounts end places' amounts' end'
+          → ArcsAppended (placeArcs n (transitionAt n t) (bound env) (0x16 + k) p) places amounts end places' amounts' end'
       here none q sl = absurd (omega (arith, en .held))
       here (some a) q sl =
           let needs : placeSlots n (transitionAt n t) (0x16 + k) p ≡ expressionSlots (coloursOf n (placeAt n p)) (a .expression) = rw q refl in
-          subst (λ l. Appended l places amounts end places' amounts' end') (arcs-given (bound env) d ht hk hb p a q)
+          subst (λ l. ArcsAppended l places amounts end places' amounts' end') (arcs-given (bound env) d ht hk hb p a q)
           (place-loads entry p (a .expression) (en .starts-at) (en .ranks) (en .paired) loaded (ap (readExpression s over (placeAt n p) 16) (en .stands-at) ∙ sl .1 .reads) (omega (arith, needs, room, before .size)) (omega (arith, needs, room, before .sizes)))
 
--- ---- one kind, entry after entry
--- so many entries of a row were loaded
-pub record KindTo (n : Net) (t k : ℕ) (env slots : List ℕ) (base : ℕ) (places₀ amounts₀ : List ℕ) (used : ℕ) (places amounts : List ℕ) (end i : ℕ) : Type 0 where
-  pub far : i ≤ length (holding slots base (length (n .places)))
-  pub so-far : Appended (flatMap (placeArcs n (transitionAt n t) (bound env) (0x16 + k)) (take i (holding slots base (length (n .places))))) places₀ amounts₀ used places amounts end
+-- ---- the entries of a row, one after the other up to the first 0
+-- so many are there, and a property holds of the places that they stand for
+pub record Entries {s plan : List ℕ} (base : ℕ) (P : (n : Net) (t k : ℕ) → Prepared s n plan → List ℕ → Type 0) (i : ℕ) : Type 0 where
+  pub each : (n : Net) (t k : ℕ) (p : Prepared s n plan) → t < length (n .transitions) → k < 3 → base ≡ t * 96 + k * 32
+      → (i ≤ length (holding (p .drawing .slots) base (length (n .places)))) × P n t k p (take i (holding (p .drawing .slots) base (length (n .places))))
+
+module _ {s plan : List ℕ} {base : ℕ} {P : (n : Net) (t k : ℕ) → Prepared s n plan → List ℕ → Type 0} where
+  -- of none
+  pub entries-begin : ((n : Net) (t k : ℕ) (p : Prepared s n plan) → P n t k p []) → Entries base P 0
+  entries-begin none-yet = record { each = λ n t k p ht hk hb. (omega arith, none-yet n t k p) }
+
+  module _ {i : ℕ} (l : Entries base P i) where
+    -- of one more
+    pub entries-go : {Q : (n : Net) (t k : ℕ) → Prepared s n plan → List ℕ → Type 0} (entry : ℕ) → i < 32 → entry ≡ getD (packedIn plan) (base + i) 0 → 1 ≤ entry
+        → ((n : Net) (t k : ℕ) (p : Prepared s n plan) → t < length (n .transitions) → k < 3 → base ≡ t * 96 + k * 32 → i ≤ length (holding (p .drawing .slots) base (length (n .places)))
+        → P n t k p (take i (holding (p .drawing .slots) base (length (n .places)))) → Q n t k p (take (i + 1) (holding (p .drawing .slots) base (length (n .places)))))
+        → Entries base Q (i + 1)
+    entries-go entry h e has step = record {
+      each = λ n t k p ht hk hb.
+          let before = l .each n t k p ht hk hb in
+          let there = entry-there (λ v. 0) (p .drawing) ht hk hb i entry h (before .0) e has in
+          (omega arith, step n t k p ht hk hb (before .0) (before .1));
+    }
+
+    -- of all: none is left where one is 0, nor behind the 32nd
+    all-entries : (n : Net) (t k : ℕ) (p : Prepared s n plan) → t < length (n .transitions) → k < 3 → base ≡ t * 96 + k * 32 → length (holding (p .drawing .slots) base (length (n .places))) ≤ i
+        → P n t k p (holding (p .drawing .slots) base (length (n .places)))
+    all-entries n t k p ht hk hb past = subst (P n t k p) (take-all i (holding (p .drawing .slots) base (length (n .places))) past) (l .each n t k p ht hk hb .1)
+
+    pub entries-stop : (entry : ℕ) → i < 32 → entry ≡ getD (packedIn plan) (base + i) 0 → entry < 1
+        → (n : Net) (t k : ℕ) (p : Prepared s n plan) → t < length (n .transitions) → k < 3 → base ≡ t * 96 + k * 32 → P n t k p (holding (p .drawing .slots) base (length (n .places)))
+    entries-stop entry h e free n t k p ht hk hb = all-entries n t k p ht hk hb (entry-past (λ v. 0) (p .drawing) ht hk hb i entry h (l .each n t k p ht hk hb .0) e free)
+
+    pub entries-end : 32 ≤ i → (n : Net) (t k : ℕ) (p : Prepared s n plan) → t < length (n .transitions) → k < 3 → base ≡ t * 96 + k * 32 → P n t k p (holding (p .drawing .slots) base (length (n .places)))
+    entries-end g n t k p ht hk hb = all-entries n t k p ht hk hb (omega (arith, row-few (λ v. 0) (p .drawing) ht hk hb))
+
+-- ---- one kind loaded, entry after entry
+-- where the lists have the room, the arcs of these places were appended
+abbrev pub PlacesLoaded : {s plan : List ℕ} (env places₀ amounts₀ : List ℕ) (used : ℕ) (places amounts : List ℕ) (end : ℕ) (n : Net) (t k : ℕ) → Prepared s n plan → List ℕ → Type 0
+PlacesLoaded {s} env places₀ amounts₀ used places amounts end n t k p l =
+    used + kindSlots n (transitionAt n t) (0x16 + k) + length s / 2 ≤ length places₀ → used + kindSlots n (transitionAt n t) (0x16 + k) + length s / 2 ≤ length amounts₀
+    → ArcsAppended (flatMap (placeArcs n (transitionAt n t) (bound env) (0x16 + k)) l) places₀ amounts₀ used places amounts end
 
 pub record KindLoading (s plan env : List ℕ) (base : ℕ) (places₀ amounts₀ : List ℕ) (used : ℕ) (places amounts : List ℕ) (end i : ℕ) : Type 0 where
-  pub each : (n : Net) (t k : ℕ) (p : Prepared s n plan) → t < length (n .transitions) → k < 3 → base ≡ t * 96 + k * 32
-      → used + kindSlots n (transitionAt n t) (0x16 + k) + length s / 2 ≤ length places₀ → used + kindSlots n (transitionAt n t) (0x16 + k) + length s / 2 ≤ length amounts₀
-      → KindTo n t k env (p .drawing .slots) base places₀ amounts₀ used places amounts end i
+  pub entries : Entries {s = s} {plan = plan} base (PlacesLoaded env places₀ amounts₀ used places amounts end) i
 
 module _ {s plan env : List ℕ} {base : ℕ} {places₀ amounts₀ : List ℕ} {used : ℕ} where
-  -- no entry, one more entry, all entries
   pub kind-begins : KindLoading s plan env base places₀ amounts₀ used places₀ amounts₀ used 0
   unfolding flatMap
-  kind-begins = record { each = λ n t k p ht hk hb x y. record { far = omega arith; so-far = append-none places₀ amounts₀ used } }
+  kind-begins = record { entries = entries-begin (λ n t k p x y. append-none places₀ amounts₀ used) }
 
   module _ {places amounts : List ℕ} {end i : ℕ} (l : KindLoading s plan env base places₀ amounts₀ used places amounts end i) where
-    pub kind-goes : {places' amounts' : List ℕ} {entry end' : ℕ} → i < 32 → entry ≡ getD (arcsIn plan) (base + i) 0 → 1 ≤ entry
+    pub kind-goes : {places' amounts' : List ℕ} {entry end' : ℕ} → i < 32 → entry ≡ getD (packedIn plan) (base + i) 0 → 1 ≤ entry
         → ArcLoaded s plan env entry places amounts end places' amounts' end'
         → KindLoading s plan env base places₀ amounts₀ used places' amounts' end' (i + 1)
     kind-goes {entry = entry} h e has loaded = record {
-      each = λ n t k p ht hk hb x y.
-          let before = l .each n t k p ht hk hb x y in
-          let there = entry-there (bound env) (p .drawing) ht hk hb i entry h (before .far) e has in
-          record { far = omega arith; so-far = row-loads env p ht hk hb i entry h (before .far) e has (before .so-far) loaded x y };
+      entries = entries-go (l .entries) entry h e has (λ n t k p ht hk hb far so-far x y. row-loads env p ht hk hb i entry h far e has (so-far x y) loaded x y);
     }
 
-    -- none is left
-    all : {n : Net} {t k : ℕ} (p : Prepared s n plan) → t < length (n .transitions) → k < 3 → base ≡ t * 96 + k * 32
-        → KindTo n t k env (p .drawing .slots) base places₀ amounts₀ used places amounts end i → length (holding (p .drawing .slots) base (length (n .places))) ≤ i
-        → Appended (kindArcs n (transitionAt n t) (bound env) (0x16 + k) (length (n .places))) places₀ amounts₀ used places amounts end
-    all {n} {t = t} {k = k} p ht hk hb to past =
-        subst (λ l. Appended l places₀ amounts₀ used places amounts end)
-        (ap (flatMap (placeArcs n (transitionAt n t) (bound env) (0x16 + k))) (take-all i (holding (p .drawing .slots) base (length (n .places))) past) ∙ row-gives (bound env) (p .drawing) ht hk hb (length (n .places)) (omega arith)) (to .so-far)
+    -- the arcs of its places are the kind's
+    loaded-all : ((n : Net) (t k : ℕ) (p : Prepared s n plan) → t < length (n .transitions) → k < 3 → base ≡ t * 96 + k * 32
+        → PlacesLoaded env places₀ amounts₀ used places amounts end n t k p (holding (p .drawing .slots) base (length (n .places)))) → KindLoaded s plan env base places₀ amounts₀ used places amounts end
+    loaded-all all n t k p ht hk hb x y =
+        subst (λ arcs. ArcsAppended arcs places₀ amounts₀ used places amounts end) (row-gives (bound env) (p .drawing) ht hk hb (length (n .places)) (omega arith)) (all n t k p ht hk hb x y)
 
-    pub kind-stops : {entry : ℕ} → i < 32 → entry ≡ getD (arcsIn plan) (base + i) 0 → entry < 1 → KindLoaded s plan env base places₀ amounts₀ used places amounts end
-    kind-stops {entry} h e free n t k p ht hk hb x y =
-        let to = l .each n t k p ht hk hb x y in
-        all p ht hk hb to (entry-past (bound env) (p .drawing) ht hk hb i entry h (to .far) e free)
+    pub kind-stops : {entry : ℕ} → i < 32 → entry ≡ getD (packedIn plan) (base + i) 0 → entry < 1 → KindLoaded s plan env base places₀ amounts₀ used places amounts end
+    kind-stops {entry} h e free = loaded-all (entries-stop (l .entries) entry h e free)
 
     pub kind-ends : 32 ≤ i → KindLoaded s plan env base places₀ amounts₀ used places amounts end
-    kind-ends g n t k p ht hk hb x y = all p ht hk hb (l .each n t k p ht hk hb x y) (omega (arith, row-few (bound env) (p .drawing) ht hk hb))
+    kind-ends g = loaded-all (entries-end (l .entries) g)

@@ -4,7 +4,7 @@ use mathlib.Core.List.{List·Memᴰ·not-nil}
 use Prim.Native.Nat.{_≤_, _<_}
 use native.Mathlib.Omega.{arith}
 use lib.Seq.{take-take}
-use Rattle.reading.specs.Basics.{ℕ, _+_, _/_, _*_, Bool, true, false, not, _||_, List, [], _∷_, Option, none, some, length, take, getElem?, if_then_else_, given, any, find}
+use Rattle.reading.specs.Basics.{ℕ, _+_, _/_, _*_, Bool, true, false, _||_, List, [], _∷_, Option, none, some, length, take, getElem?, if_then_else_, given, any, find}
 use Rattle.reading.proofs.Lists.{In, here, there, in-cases}
 use Rattle.firing.specs.Firing.{Weights, fired, fire}
 use Rattle.firing.specs.internal.Steps.{lacking}
@@ -18,18 +18,17 @@ use Rattle.net.specs.Net.{Transition, Net, net, flatPlaceCount, arcOn, variable
 use Rattle.net.specs.Values.{weight}
 use Rattle.evaluation.specs.internal.Evaluated.{bound}
 use Rattle.net.proofs.Alike.{weight-bound}
-use Rattle.runs.specs.internal.Terms.{Appended}
+use Rattle.runs.specs.internal.Terms.{ArcsAppended}
 use Rattle.runs.proofs.Appending.{arcs-kept}
-use Rattle.bindings.specs.Effect.{legal, Binding, FlatPlace, standsFor, flatPlaces, arcWeight, weightsOf, effect, flatRow}
+use Rattle.bindings.specs.Effect.{Binding, FlatPlace, standsFor, flatPlaces, arcWeight, effect, flatRow}
 use Rattle.prepared.specs.internal.Prepared.{Prepared}
 use Rattle.rows.specs.internal.Effects.{kindSlots, rowSlots, room, kindArcs, TakesLoaded, RowLoaded}
 use Rattle.bindings.specs.internal.Bindings.{Binds, binding}
 use Rattle.rows.specs.internal.Loading.{KindLoaded}
-use Rattle.reading.proofs.Clash.{not-true, not-false}
 use Rattle.rows.proofs.Needing.{kind-low, kind-arcs, row-room}
 use Rattle.prepared.proofs.Starts.{start-low}
 use Rattle.rows.proofs.Split.{split, kind-few}
-use Rattle.bindings.proofs.Legal.{effect-legal, effect-none, effect-weighs}
+use Rattle.bindings.proofs.Legal.{effect-weighs}
 
 -- ---- what stands somewhere
 or-left : (a b : Bool) → a ≡ true → a || b ≡ true
@@ -95,10 +94,6 @@ module _ {s : List ℕ} {n : Net} {plan : List ℕ} (env : List ℕ) (prepared :
   rows-of : (kind : ℕ) → arcs-of kind ≡ arcsOf (flatPlaceCount n) (λ p. given (getElem? (flatPlaces n) p) 0 (arcWeight n (transitionAt n t) other kind))
   rows-of kind = kind-row n (transitionAt n t) (bound env) other binds kind
 
-  -- it has no effect
-  pub effect-nothing : {r : Bool} → r ≡ legal n (binding t colours) → not r ≡ true → effect n (binding t colours) ≡ none
-  effect-nothing {r} told e = effect-none n (binding t colours) (sym told ∙ not-true r e)
-
   -- the takes were appended
   pub takes-loaded : {places amounts p1 a1 : List ℕ} {end : ℕ} → room s n ≤ length places → room s n ≤ length amounts
       → KindLoaded s plan env (t * 96) places amounts 0 p1 a1 end → TakesLoaded n (binding t colours) p1 a1 end
@@ -108,12 +103,6 @@ module _ {s : List ℕ} {n : Net} {plan : List ℕ} (env : List ℕ) (prepared :
         takes = λ w is. first .are ∙ rows-of 0x16 ∙ ap (λ w. arcsOf (flatPlaceCount n) (w .take)) (effect-weighs n (binding t colours) is);
         few = omega (arith, low 0x16, first .end);
       }
-
-  -- and it has an effect
-  pub effect-takes : {r : Bool} {places amounts p1 a1 : List ℕ} {end : ℕ} → r ≡ legal n (binding t colours) → not r ≡ false → room s n ≤ length places → room s n ≤ length amounts
-      → KindLoaded s plan env (t * 96) places amounts 0 p1 a1 end → (w : Weights) × (effect n (binding t colours) ≡ some w) × TakesLoaded n (binding t colours) p1 a1 end
-  effect-takes {r} told e x y k1 =
-      (weightsOf n (transitionAt n t) other, effect-legal n (binding t colours) (sym told ∙ not-false r e), takes-loaded x y k1)
 
   -- the puts and hinders were appended to the takes, one after the other
   pub effect-rest : {p1 a1 p2 a2 p3 a3 : List ℕ} {takes puts hinders : ℕ} → room s n ≤ length p1 → room s n ≤ length a1
@@ -134,10 +123,10 @@ module _ {s : List ℕ} {n : Net} {plan : List ℕ} (env : List ℕ) (prepared :
         inside = omega (arith, k .few, low 0x17, low 0x18, second .end, third .end);
       }
     where
-      second : Appended (arcs-of 0x17) p1 a1 takes p2 a2 puts
+      second : ArcsAppended (arcs-of 0x17) p1 a1 takes p2 a2 puts
       second = k2 n t 1 prepared ht (omega arith) (omega arith) (omega (arith, wide, k .few)) (omega (arith, wide, k .few))
 
-      third : Appended (arcs-of 0x18) p2 a2 puts p3 a3 hinders
+      third : ArcsAppended (arcs-of 0x18) p2 a2 puts p3 a3 hinders
       third = k3 n t 2 prepared ht (omega arith) (omega arith) (omega (arith, wide, k .few, low 0x17, second .end, second .size)) (omega (arith, wide, k .few, low 0x17, second .end, second .sizes))
 
       shorter : (l l' : List ℕ) → take puts l' ≡ take puts l → take takes l' ≡ take takes l
@@ -156,13 +145,6 @@ module _ {n : Net} {b : Binding} {places amounts : List ℕ} {takes puts hinders
   -- the row's weights fire as the effect's
   pub loaded-fires : (caps : List ℕ) → fire caps (weights (rowIn places amounts takes puts hinders)) m ≡ fire caps w m
   loaded-fires caps = ap (λ r. fire caps (weights r) m) (l .row w is) ∙ fire-same caps (weights (flatRow n w)) w m (rw sized (row-agrees (flatPlaceCount n) w))
-
-  -- the answer alone, and the firing
-  pub loaded-answer : (caps : List ℕ) (r : ℕ) → (Proper (length m) (rowIn places amounts takes puts hinders) → r ≡ fire caps (weights (rowIn places amounts takes puts hinders)) m .answer) → r ≡ fire caps w m .answer
-  loaded-answer caps r h = h loaded-proper ∙ ap (λ f. f .answer) (loaded-fires caps)
-
-  pub loaded-fired : (caps : List ℕ) (r : ℕ) (m' : List ℕ) → (Proper (length m) (rowIn places amounts takes puts hinders) → fired r m' ≡ fire caps (weights (rowIn places amounts takes puts hinders)) m) → fired r m' ≡ fire caps w m
-  loaded-fired caps r m' h = h loaded-proper ∙ loaded-fires caps
 
 -- the takes alone
 module _ {n : Net} {b : Binding} {places amounts : List ℕ} {end : ℕ} (k : TakesLoaded n b places amounts end) {w : Weights} (is : effect n b ≡ some w) (m : List ℕ) where

@@ -1,29 +1,28 @@
--- What follows from the tables of an accepted net, for the calls. Assumes nothing.
-use mathlib.Core.Path.{_≡_, sym, ap, subst, _∙_}
-use Prim.Native.Nat.{_≤_}
+-- What follows from the tables of an accepted net, for the calls, and from a row that was loaded to be fired. Assumes nothing.
+use mathlib.Core.Path.{_≡_, sym, _∙_}
+use Prim.Native.Nat.{_≤_, _<_}
 use native.Mathlib.Omega.{arith}
 use borrow.Author.Tests.{leb-true}
-use Rattle.reading.specs.Basics.{ℕ, _+_, _/_, Bool, true, false, List, [], none, some, map, length, leb, eqb, any}
+use Rattle.reading.specs.Basics.{ℕ, _+_, _*_, _/_, Bool, true, false, not, List, [], none, some, map, length, leb, any}
 use Rattle.reading.specs.Reading.{accepted}
-use Rattle.firing.specs.Firing.{Weights, fired, fire}
-use Rattle.firing.specs.Arcs.{Proper, weights}
-use Rattle.firing.specs.internal.RowLists.{arcsIn, rowIn}
-use Rattle.firing.specs.internal.Steps.{lacking, Within, EndsWithin}
+use Rattle.reading.proofs.Clash.{not-true, not-false}
+use Rattle.firing.specs.Firing.{fired}
+use Rattle.firing.specs.internal.RowLists.{arcsIn}
+use Rattle.firing.specs.internal.Steps.{lacking, Within}
 use Rattle.firing.specs.declared.Ends.{Ends}
-use Rattle.net.specs.Net.{Net, flatPlaceCount, transitionAt}
+use Rattle.net.specs.Net.{Net, flatPlaceCount, variablesOf, transitionAt}
 use Rattle.net_file.specs.NetFile.{readNet}
 use Rattle.net_file.proofs.Limits.{limits, short}
-use Rattle.bindings.specs.Effect.{Binding, effect}
+use Rattle.bindings.specs.Effect.{legal, Binding, standsFor, weightsOf, effect}
 use Rattle.bindings.specs.Orders.{named, fireOrder}
-use Rattle.rows.specs.internal.Effects.{rowSlots, greatest, room, TakesLoaded, RowLoaded}
-use Rattle.rows.specs.internal.Loading.{TakesTold}
+use Rattle.bindings.specs.internal.Bindings.{Binds, binding, fireBinding}
+use Rattle.bindings.proofs.Legal.{effect-legal, effect-none}
 use Rattle.plan.specs.internal.Layout.{flatPlacesIn}
 use Rattle.prepared.specs.internal.Prepared.{Prepared}
-use Rattle.bindings.specs.internal.Bindings.{fireBinding}
-use Rattle.rows.specs.declared.effect.Takes.{Takes}
-use Rattle.rows.specs.declared.effect.Takes.the-variants as takes
-use Rattle.rows.proofs.Needing.{room-low}
-use Rattle.rows.proofs.Effects.{loaded-answer, loaded-fired, takes-lack, none-lacks}
+use Rattle.rows.specs.internal.Effects.{rowSlots, greatest, room, TakesLoaded}
+use Rattle.rows.specs.internal.Loading.{KindLoaded, LoadsRest, RowReady}
+use Rattle.rows.proofs.Needing.{row-room, room-low}
+use Rattle.rows.proofs.Effects.{takes-loaded, loaded-proper, loaded-fires, takes-lack, none-lacks}
 
 -- lists of 20,480 slots have the room for every net
 pub most-room : (s : List ℕ) (n : Net) → readNet s ≡ accepted n → room s n ≤ 20480
@@ -44,46 +43,39 @@ module _ {s plan : List ℕ} {n : Net} (p : Prepared s n plan) (m : List ℕ) wh
   pub wrong : (length m ≡ flatPlacesIn plan → ⊥) → length m ≡ flatPlaceCount n → ⊥
   wrong h e = h (e ∙ p .flat-places-are)
 
--- a binding's effect, loaded and fired; the lists have the room
-module _ (n : Net) (b : Binding) (m : List ℕ) (sized : length m ≡ flatPlaceCount n) (ps ws : List ℕ) (wide : rowSlots n (transitionAt n (b .transition)) ≤ length ps) (wide' : rowSlots n (transitionAt n (b .transition)) ≤ length ws)
-    {r : Takes} (told : TakesTold n b ps ws r) where
-  -- it has none
-  pub none-fires : r ≡ takes.Nothing → fired 2 m ≡ fireBinding n b m
-  none-fires e = rw (subst (TakesTold n b ps ws) e told)
+-- ---- a binding's row loaded as far as firing it needs; whether the binding has an effect is told
+-- it has none
+pub none-fires : (n : Net) (b : Binding) (m : List ℕ) {r : Bool} → r ≡ legal n b → not r ≡ true → fired 2 m ≡ fireBinding n b m
+none-fires n b m {r} told e = rw (effect-none n b (sym told ∙ not-true r e))
 
-  -- it has takes, of which the code tells whether one is lacking
-  module _ {end : ℕ} (e : r ≡ takes.Upto end) {lacks : Bool} (says : Within ps ws end → lacks ≡ any (lacking m) (arcsIn ps ws 0 end)) where
-    pub the-takes : (w : Weights) × (effect n b ≡ some w) × TakesLoaded n b ps ws end
-    the-takes = subst (TakesTold n b ps ws) e told
+-- it has one, and its takes were loaded, of which the code tells whether one is lacking
+module _ {s plan : List ℕ} {n : Net} (env : List ℕ) (p : Prepared s n plan) (t : ℕ) (ht : t < length (n .transitions)) (colours : List ℕ) (binds : Binds n (binding t colours) env)
+    (m : List ℕ) (sized : length m ≡ flatPlaceCount n) {r : Bool} (told : r ≡ legal n (binding t colours)) (has : not r ≡ false)
+    {places amounts ps ws : List ℕ} {end : ℕ} (x : room s n ≤ length places) (y : room s n ≤ length amounts)
+    (kind : KindLoaded s plan env (t * 96) places amounts 0 ps ws end) (kept : length ps ≡ length places) (kept' : length ws ≡ length amounts)
+    {lacks : Bool} (says : Within ps ws end → lacks ≡ any (lacking m) (arcsIn ps ws 0 end)) where
+  takes : TakesLoaded n (binding t colours) ps ws end
+  takes = takes-loaded env p t ht colours binds x y kind
 
-    lacks-is : lacks ≡ any (lacking m) (arcsIn ps ws 0 end)
-    lacks-is = says (omega (arith, the-takes .2 .few), omega (arith, the-takes .2 .few))
+  is : effect n (binding t colours) ≡ some (weightsOf n (transitionAt n t) (standsFor (variablesOf n (transitionAt n t)) colours))
+  is = effect-legal n (binding t colours) (sym told ∙ not-false r has)
 
-    pub lack-fires : lacks ≡ true → fired 3 m ≡ fireBinding n b m
-    lack-fires h = rw (the-takes .1) (takes-lack (the-takes .2) (the-takes .1) m [] sized (sym lacks-is ∙ h))
+  lacks-is : lacks ≡ any (lacking m) (arcsIn ps ws 0 end)
+  lacks-is = says (omega (arith, takes .few, row-room s n t ht), omega (arith, takes .few, row-room s n t ht))
 
-    -- none is, and the row was loaded
-    module _ (passes : lacks ≡ false) (p' a' : List ℕ) (long : rowSlots n (transitionAt n (b .transition)) ≤ length p') (long' : rowSlots n (transitionAt n (b .transition)) ≤ length a') (ends : Ends)
-        (l : RowLoaded n b p' a' (ends .takes) (ends .puts) (ends .hinders)) where
-      within : EndsWithin p' a' (ends .takes) (ends .puts) (ends .hinders)
-      within = (l .puts-after, l .hinders-after, (omega (arith, l .inside), omega (arith, l .inside)))
+  pub lack-fires : lacks ≡ true → fired 3 m ≡ fireBinding n (binding t colours) m
+  lack-fires e = rw is (takes-lack takes is m [] sized (sym lacks-is ∙ e))
 
-      all-there : any (lacking m) (arcsIn p' a' 0 (ends .takes)) ≡ false
-      all-there = none-lacks (the-takes .2) (the-takes .1) m l (sym lacks-is ∙ passes)
-
-      pub row-fires : (a : ℕ) (m' : List ℕ)
-          → (EndsWithin p' a' (ends .takes) (ends .puts) (ends .hinders) → Proper (length m) (rowIn p' a' (ends .takes) (ends .puts) (ends .hinders))
-          → any (lacking m) (arcsIn p' a' 0 (ends .takes)) ≡ false
-          → fired a m' ≡ fire [] (weights (rowIn p' a' (ends .takes) (ends .puts) (ends .hinders))) m)
-          → fired a m' ≡ fireBinding n b m
-      row-fires a m' h = rw (the-takes .1) (loaded-fired l (the-takes .1) m sized [] a m' (λ proper. h within proper all-there))
-
-      pub row-answers : (a : ℕ)
-          → (EndsWithin p' a' (ends .takes) (ends .puts) (ends .hinders) → Proper (length m) (rowIn p' a' (ends .takes) (ends .puts) (ends .hinders))
-          → any (lacking m) (arcsIn p' a' 0 (ends .takes)) ≡ false
-          → a ≡ fire [] (weights (rowIn p' a' (ends .takes) (ends .puts) (ends .hinders))) m .answer)
-          → eqb a 0 ≡ eqb (fireBinding n b m .answer) 0
-      row-answers a h = rw (the-takes .1) (ap (λ x. eqb x 0) (loaded-answer l (the-takes .1) m sized [] a (λ proper. h within proper all-there)))
+  -- none is, and the rest was loaded
+  pub row-ready : lacks ≡ false → {p' a' : List ℕ} {ends : Ends} → LoadsRest s plan env t end ps ws p' a' ends → length p' ≡ length ps → length a' ≡ length ws → RowReady n (binding t colours) m p' a' ends
+  row-ready e rest size size' =
+      let l = rest n colours p ht binds (omega arith) (omega arith) takes in
+      record {
+        within = (l .puts-after, l .hinders-after, (omega (arith, l .inside, row-room s n t ht), omega (arith, l .inside, row-room s n t ht)));
+        proper = loaded-proper l is m sized;
+        there = none-lacks takes is m l (sym lacks-is ∙ e);
+        fires = rw is (loaded-fires l is m sized []);
+      }
 
 -- ---- an order fired, by what it names
 pub no-name : (n : Net) (order m : List ℕ) → named n order ≡ none → fired 1 m ≡ fireOrder n order m

@@ -5,7 +5,6 @@ use Prim.Native.Nat.{_≤_, _<_}
 use native.Mathlib.Omega.{arith}
 use borrow.Author.Tests.{ltb-true, ltb-false}
 use lib.ListN.{length-map}
-use lib.Seq.{take-all}
 use Rattle.reading.specs.Basics.{ℕ, zero, suc, _+_, _*_, _/_, _%_, Bool, true, false, List, [], _∷_, _++_, map, flatMap, Option, none, some, Option·map, length, getD, take, sum, ltb, numbersFrom}
 use Rattle.net.specs.Net as net
 use Rattle.net.specs.Net.{Net, net, placeAt, arcOn, noTransition, scope, transitionAt}
@@ -14,14 +13,14 @@ use Rattle.net_transitions.specs.internal.TransitionTables.{Slot}
 use Rattle.sums.specs.internal.Slots.{expressionSlots, slotsFor}
 use Rattle.multiset.proofs.Slots.{slots-told}
 use Rattle.prepared.specs.internal.Packed.{ifHeld, holding}
-use Rattle.plan.specs.internal.Layout.{transitionsIn, arcsIn}
+use Rattle.plan.specs.internal.Layout.{transitionsIn, packedIn}
 use Rattle.prepared.specs.internal.Drawing.{Drawing}
 use Rattle.prepared.specs.internal.Prepared.{Prepared}
-use Rattle.rows.specs.internal.Effects.{placeSlots, slotsBelow, kindSlots, rowSlots}
+use Rattle.rows.specs.internal.Effects.{placeSlots, slotsBelow, rowSlots}
 use Rattle.rows.specs.internal.Slots.{KindSlotted, RowSlotted, NetSlotted}
 use Rattle.prepared.proofs.Packing.{by-slot, held-none, held-some, holding-more}
 use Rattle.rows.proofs.Needing.{greatest-least, map-at}
-use Rattle.rows.proofs.Drawn.{slot, row-few, entry-past, entry-there, Entered, entered}
+use Rattle.rows.proofs.Drawn.{slot, Entered, entered, Entries, entries-begin, entries-go, entries-stop, entries-end}
 
 -- ---- sums over the places of a row that hold an arc
 snoc-sum : (f : ℕ → ℕ) (l : List ℕ) (x : ℕ) → sum (map f (l ++ (x ∷ []))) ≡ sum (map f l) + f x
@@ -83,40 +82,32 @@ module _ {s : List ℕ} {n : Net} {sizes vars guards arcs : List ℕ} (d : Drawi
           let reads = ap (readExpression s (scope sizes vars (n .places)) (placeAt n p) 16) (en .stands-at) ∙ sl .1 .reads in
           rw q (sym (slots-told s (scope sizes vars (n .places)) (placeAt n p) (entry / 134217728) (entry / 2 % 8192) reads ∙ ap (λ c. expressionSlots c (a .expression)) (en .ranks)))
 
-  -- no entry is left
-  all-slots : (i total : ℕ) → length row ≤ i → sum (map slots (take i row)) ≤ total → kindSlots n (transitionAt n t) (0x16 + k) ≤ total
-  all-slots i total past so-far =
-      omega (arith, so-far, ap (λ x. sum (map slots x)) (take-all i row past), held-slots (length (n .places)) (omega arith))
-
 -- ---- one kind, entry after entry
-pub record SlotsTo (s plan : List ℕ) (base total i : ℕ) : Type 0 where
-  pub each : (n : Net) (t k : ℕ) (p : Prepared s n plan) → t < length (n .transitions) → k < 3 → base ≡ t * 96 + k * 32
-      → (i ≤ length (holding (p .drawing .slots) base (length (n .places))))
-      × (sum (map (placeSlots n (transitionAt n t) (0x16 + k)) (take i (holding (p .drawing .slots) base (length (n .places))))) ≤ total)
+-- the arcs on these places need so many slots at most
+abbrev pub SlotsUpto : {s plan : List ℕ} (total : ℕ) (n : Net) (t k : ℕ) → Prepared s n plan → List ℕ → Type 0
+SlotsUpto total n t k p l = sum (map (placeSlots n (transitionAt n t) (0x16 + k)) l) ≤ total
+
+abbrev pub SlotsTo : List ℕ → List ℕ → ℕ → ℕ → ℕ → Type 0
+SlotsTo s plan base total = Entries {s = s} {plan = plan} base (SlotsUpto total)
 
 module _ {s plan : List ℕ} {base : ℕ} where
-  -- no entry, one more entry, all entries
   pub slots-begin : SlotsTo s plan base 0 0
-  slots-begin = record { each = λ n t k p ht hk hb. (omega arith, omega arith) }
+  slots-begin = entries-begin (λ n t k p. omega arith)
 
   module _ {total i : ℕ} (l : SlotsTo s plan base total i) where
-    pub slots-go : (entry more : ℕ) → i < 32 → entry ≡ getD (arcsIn plan) (base + i) 0 → 1 ≤ entry → more ≡ slotsFor s (entry / 134217728) (entry / 2 % 8192) → SlotsTo s plan base (total + more) (i + 1)
-    slots-go entry more h e has told = record {
-      each = λ n t k p ht hk hb.
-          let so-far = l .each n t k p ht hk hb in
-          let there = entry-there (λ v. 0) (p .drawing) ht hk hb i entry h (so-far .0) e has in
-          (omega arith, entry-slots (p .drawing) ht hk hb i entry total more h (so-far .0) e has (so-far .1) told);
-    }
+    pub slots-go : (entry more : ℕ) → i < 32 → entry ≡ getD (packedIn plan) (base + i) 0 → 1 ≤ entry → more ≡ slotsFor s (entry / 134217728) (entry / 2 % 8192) → SlotsTo s plan base (total + more) (i + 1)
+    slots-go entry more h e has told = entries-go l entry h e has (λ n t k p ht hk hb far so-far. entry-slots (p .drawing) ht hk hb i entry total more h far e has so-far told)
 
-    pub slots-stop : (entry : ℕ) → i < 32 → entry ≡ getD (arcsIn plan) (base + i) 0 → entry < 1 → KindSlotted s plan base total
-    slots-stop entry h e free n t k p ht hk hb =
-        let so-far = l .each n t k p ht hk hb in
-        all-slots (p .drawing) ht hk hb i total (entry-past (λ v. 0) (p .drawing) ht hk hb i entry h (so-far .0) e free) (so-far .1)
+    -- what its places need is what the kind needs
+    slotted-all : ((n : Net) (t k : ℕ) (p : Prepared s n plan) → t < length (n .transitions) → k < 3 → base ≡ t * 96 + k * 32
+        → SlotsUpto total n t k p (holding (p .drawing .slots) base (length (n .places)))) → KindSlotted s plan base total
+    slotted-all all n t k p ht hk hb = omega (arith, all n t k p ht hk hb, held-slots (p .drawing) ht hk hb (length (n .places)) (omega arith))
+
+    pub slots-stop : (entry : ℕ) → i < 32 → entry ≡ getD (packedIn plan) (base + i) 0 → entry < 1 → KindSlotted s plan base total
+    slots-stop entry h e free = slotted-all (entries-stop l entry h e free)
 
     pub slots-end : 32 ≤ i → KindSlotted s plan base total
-    slots-end g n t k p ht hk hb =
-        let so-far = l .each n t k p ht hk hb in
-        all-slots (p .drawing) ht hk hb i total (omega (arith, row-few (λ v. 0) (p .drawing) ht hk hb)) (so-far .1)
+    slots-end g = slotted-all (entries-end l g)
 
 -- the rows of a transition
 pub row-slotted : {s plan : List ℕ} {t takes puts hinders : ℕ} → KindSlotted s plan (t * 96) takes → KindSlotted s plan (t * 96 + 32) puts → KindSlotted s plan (t * 96 + 64) hinders

@@ -1,14 +1,15 @@
 // Loads the effect of a binding as a row, into two lent lists, one of places and one of weights.
 use bindings::has_effect;
 use firing::Ends;
+use firing::some_lacks;
 use multiset::load_arc;
 use plan::arc_of;
 ghost use Prim.Native.Nat.{_≤_, _<_};
-ghost use Rattle.rows.specs.internal.Loading.{KindLoaded, LoadsTakes, LoadsRest, LoadsRow};
+ghost use Rattle.rows.specs.internal.Loading.{KindLoaded, LoadsRest, LoadsRow, LoadsBound};
 
 // Appends the arcs of a kind, entry after entry of its row in the packed table, up to the first 0.
 fn load_kind(
-    s: &[u8],
+    file: &[u8],
     plan: &[u32; 3584],
     env: &[u8; 32],
     base: usize,
@@ -17,7 +18,7 @@ fn load_kind(
     used: usize,
 ) -> usize
     requires { ⌜ base ≤ 3040 ⌝ }
-    ensures { λ r. ⌜ KindLoaded (now (s .entry)) (now (plan .entry)) (now (env .entry)) base (now (places .entry)) (now (amounts .entry)) used (now (places .exit)) (now (amounts .exit)) r ⌝ }
+    ensures { λ r. ⌜ KindLoaded (now (file .entry)) (now (plan .entry)) (now (env .entry)) base (now (places .entry)) (now (amounts .entry)) used (now (places .exit)) (now (amounts .exit)) r ⌝ }
 {
     let mut end = used;
     let mut i: usize = 0;
@@ -26,39 +27,15 @@ fn load_kind(
         if entry < 1 {
             return end;
         }
-        end = load_arc(s, plan, env, entry, places, amounts, end);
+        end = load_arc(file, plan, env, entry, places, amounts, end);
         i += 1;
     }
     end
 }
 
-// The takes of a binding: nothing where it has no effect, or where they end in the lent lists.
-pub enum Takes {
-    Nothing,
-    Upto { end: usize },
-}
-
-pub fn load_takes(
-    s: &[u8],
-    plan: &[u32; 3584],
-    env: &[u8; 32],
-    t: usize,
-    places: &mut [u16],
-    amounts: &mut [u16],
-) -> Takes
-    requires { ⌜ t < 32 ⌝ }
-    ensures { λ r. ⌜ LoadsTakes (now (s .entry)) (now (plan .entry)) (now (env .entry)) t (now (places .entry)) (now (amounts .entry)) (now (places .exit)) (now (amounts .exit)) r ⌝ }
-{
-    if !has_effect(s, plan, env, t) {
-        return Takes::Nothing;
-    }
-    let end = load_kind(s, plan, env, t * 96, places, amounts, 0);
-    Takes::Upto { end }
-}
-
-// Appends its puts and hinders to its takes: where each kind ends.
-pub fn load_rest(
-    s: &[u8],
+// Appends the puts and hinders of a binding to its takes: where each kind ends.
+fn load_rest(
+    file: &[u8],
     plan: &[u32; 3584],
     env: &[u8; 32],
     t: usize,
@@ -67,11 +44,11 @@ pub fn load_rest(
     amounts: &mut [u16],
 ) -> Ends
     requires { ⌜ t < 32 ⌝ }
-    ensures { λ r. ⌜ LoadsRest (now (s .entry)) (now (plan .entry)) (now (env .entry)) t takes (now (places .entry)) (now (amounts .entry)) (now (places .exit)) (now (amounts .exit)) r ⌝ }
+    ensures { λ r. ⌜ LoadsRest (now (file .entry)) (now (plan .entry)) (now (env .entry)) t takes (now (places .entry)) (now (amounts .entry)) (now (places .exit)) (now (amounts .exit)) r ⌝ }
 {
     let base = t * 96;
-    let puts = load_kind(s, plan, env, base + 32, places, amounts, takes);
-    let hinders = load_kind(s, plan, env, base + 64, places, amounts, puts);
+    let puts = load_kind(file, plan, env, base + 32, places, amounts, takes);
+    let hinders = load_kind(file, plan, env, base + 64, places, amounts, puts);
     Ends {
         takes,
         puts,
@@ -81,7 +58,7 @@ pub fn load_rest(
 
 // Its whole row, without asking whether it has an effect: where each kind ends.
 pub fn load_row(
-    s: &[u8],
+    file: &[u8],
     plan: &[u32; 3584],
     env: &[u8; 32],
     t: usize,
@@ -89,8 +66,40 @@ pub fn load_row(
     amounts: &mut [u16],
 ) -> Ends
     requires { ⌜ t < 32 ⌝ }
-    ensures { λ r. ⌜ LoadsRow (now (s .entry)) (now (plan .entry)) (now (env .entry)) t (now (places .entry)) (now (amounts .entry)) (now (places .exit)) (now (amounts .exit)) r ⌝ }
+    ensures { λ r. ⌜ LoadsRow (now (file .entry)) (now (plan .entry)) (now (env .entry)) t (now (places .entry)) (now (amounts .entry)) (now (places .exit)) (now (amounts .exit)) r ⌝ }
 {
-    let takes = load_kind(s, plan, env, t * 96, places, amounts, 0);
-    load_rest(s, plan, env, t, takes, places, amounts)
+    let takes = load_kind(file, plan, env, t * 96, places, amounts, 0);
+    load_rest(file, plan, env, t, takes, places, amounts)
+}
+
+// A binding on a marking: it has no row; a take of its row is lacking; or none is, and its row stands in the lent lists.
+pub enum Loaded {
+    NoRow,
+    Lacking,
+    Row { ends: Ends },
+}
+
+// Loads a binding's row as far as firing it needs: its takes tell that one is lacking before its puts and hinders are loaded.
+pub fn load_bound(
+    file: &[u8],
+    plan: &[u32; 3584],
+    env: &[u8; 32],
+    t: usize,
+    m: &[u16],
+    places: &mut [u16],
+    amounts: &mut [u16],
+) -> Loaded
+    requires { ⌜ t < 32 ⌝ }
+    ensures { λ r. ⌜ LoadsBound (now (file .entry)) (now (plan .entry)) (now (env .entry)) t (now (m .entry)) (now (places .entry)) (now (amounts .entry)) (now (places .exit)) (now (amounts .exit)) r ⌝ }
+{
+    if !has_effect(file, plan, env, t) {
+        return Loaded::NoRow;
+    }
+    let end = load_kind(file, plan, env, t * 96, places, amounts, 0);
+    if some_lacks(places, amounts, end, m) {
+        return Loaded::Lacking;
+    }
+    Loaded::Row {
+        ends: load_rest(file, plan, env, t, end, places, amounts),
+    }
 }

@@ -11,20 +11,20 @@ ghost use Rattle.sums.specs.internal.Slots.{slotsFor};
 ghost use Rattle.rows.specs.internal.Slots.{KindSlotted, RowSlotted, NetSlotted};
 
 // The slots for the expression at a place of the file, over so many ranks.
-fn slots_for(s: &[u8], at: usize, count: usize) -> usize
-    ensures is { λ r. ⌜ r ≡ slotsFor (now (s .entry)) at count ⌝ }
+fn slots_for(file: &[u8], at: usize, count: usize) -> usize
+    ensures is { λ r. ⌜ r ≡ slotsFor (now (file .entry)) at count ⌝ }
     ensures small { λ r. ⌜ r ≤ count ⌝ }
 {
-    if byte_at(s, at) == 0x40 {
+    if byte_at(file, at) == 0x40 {
         return if 1 <= count { 1 } else { count };
     }
     count
 }
 
 // For the arcs of a kind, entry after entry of its row in the packed table, up to the first 0.
-fn kind_slots(s: &[u8], plan: &[u32; 3584], base: usize) -> usize
+fn kind_slots(file: &[u8], plan: &[u32; 3584], base: usize) -> usize
     requires { ⌜ base ≤ 3040 ⌝ }
-    ensures is { λ r. ⌜ KindSlotted (now (s .entry)) (now (plan .entry)) base r ⌝ }
+    ensures is { λ r. ⌜ KindSlotted (now (file .entry)) (now (plan .entry)) base r ⌝ }
     ensures small { λ r. ⌜ r ≤ 262144 ⌝ }
 {
     let mut total: usize = 0;
@@ -34,22 +34,22 @@ fn kind_slots(s: &[u8], plan: &[u32; 3584], base: usize) -> usize
         if entry < 1 {
             return total;
         }
-        total += slots_for(s, expression_of(entry), ranks_of(entry));
+        total += slots_for(file, expression_of(entry), ranks_of(entry));
         i += 1;
     }
     total
 }
 
 // For the rows of a transition.
-fn row_slots(s: &[u8], plan: &[u32; 3584], t: usize) -> usize
+fn row_slots(file: &[u8], plan: &[u32; 3584], t: usize) -> usize
     requires { ⌜ t < 32 ⌝ }
-    ensures is { λ r. ⌜ RowSlotted (now (s .entry)) (now (plan .entry)) t r ⌝ }
+    ensures is { λ r. ⌜ RowSlotted (now (file .entry)) (now (plan .entry)) t r ⌝ }
     ensures small { λ r. ⌜ r ≤ 786432 ⌝ }
 {
     let base = t * 96;
-    let takes = kind_slots(s, plan, base);
-    let puts = kind_slots(s, plan, base + 32);
-    let hinders = kind_slots(s, plan, base + 64);
+    let takes = kind_slots(file, plan, base);
+    let puts = kind_slots(file, plan, base + 32);
+    let hinders = kind_slots(file, plan, base + 64);
     takes + puts + hinders
 }
 
@@ -63,15 +63,15 @@ fn greater(a: usize, b: usize) -> usize
 }
 
 // For the rows of any transition.
-pub fn most_slots(s: &[u8], plan: &[u32; 3584]) -> usize
-    ensures is { λ r. ⌜ NetSlotted (now (s .entry)) (now (plan .entry)) r ⌝ }
+pub fn most_slots(file: &[u8], plan: &[u32; 3584]) -> usize
+    ensures is { λ r. ⌜ NetSlotted (now (file .entry)) (now (plan .entry)) r ⌝ }
     ensures small { λ r. ⌜ r ≤ 786432 ⌝ }
 {
     let transitions = transitions_of(plan);
     let mut most: usize = 0;
     let mut t: usize = 0;
     while t < transitions {
-        most = greater(most, row_slots(s, plan, t));
+        most = greater(most, row_slots(file, plan, t));
         t += 1;
     }
     most

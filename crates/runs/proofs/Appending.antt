@@ -8,7 +8,7 @@ use Rattle.reading.specs.Basics.{ℕ, zero, suc, _+_, _-_, List, [], _∷_, _++
 use Rattle.reading.proofs.Lists.{of-from, map-same}
 use Rattle.firing.specs.Arcs.{Arc}
 use Rattle.firing.specs.internal.RowLists.{arcsIn}
-use Rattle.runs.specs.internal.Terms.{Appended}
+use Rattle.runs.specs.internal.Terms.{ArcsAppended}
 
 -- ---- arcs in lent lists
 from-join : (a m n : ℕ) → numbersFrom a (m + n) ≡ numbersFrom a m ++ numbersFrom (a + m) n
@@ -45,7 +45,7 @@ arcs-kept places amounts places' amounts' a b p q =
 
 -- ---- appending
 -- nothing
-pub append-none : (places amounts : List ℕ) (used : ℕ) → Appended [] places amounts used places amounts used
+pub append-none : (places amounts : List ℕ) (used : ℕ) → ArcsAppended [] places amounts used places amounts used
 unfolding arcsIn numbersFrom
 append-none places amounts used =
     let e : used - used ≡ 0 = omega arith in
@@ -53,7 +53,7 @@ append-none places amounts used =
 
 -- one arc, stored in both lists
 pub append-one : (places amounts : List ℕ) (used p w : ℕ) → used < length places → used < length amounts
-    → Appended (record { place = p; weight = w } ∷ []) places amounts used (set places used p) (set amounts used w) (used + 1)
+    → ArcsAppended (record { place = p; weight = w } ∷ []) places amounts used (set places used p) (set amounts used w) (used + 1)
 unfolding arcsIn numbersFrom
 append-one places amounts used p w h k =
     let e : used + 1 - used ≡ 1 = omega arith in
@@ -68,8 +68,8 @@ append-one places amounts used p w h k =
 
 -- one append after another
 pub append-join : {xs ys : List Arc} {places amounts places' amounts' places'' amounts'' : List ℕ} {used used' used'' : ℕ}
-    → Appended xs places amounts used places' amounts' used' → Appended ys places' amounts' used' places'' amounts'' used''
-    → Appended (xs ++ ys) places amounts used places'' amounts'' used''
+    → ArcsAppended xs places amounts used places' amounts' used' → ArcsAppended ys places' amounts' used' places'' amounts'' used''
+    → ArcsAppended (xs ++ ys) places amounts used places'' amounts'' used''
 append-join {xs} {ys} {places} {amounts} {places'} {amounts'} {places''} {amounts''} {used} {used'} {used''} f g =
     let u : used ≤ used' = omega (arith, f .end) in
     let v : used' ≤ used'' = omega (arith, g .end) in
@@ -84,6 +84,6 @@ append-join {xs} {ys} {places} {amounts} {places'} {amounts'} {places''} {amount
 
 -- two lists changed behind a number first, and then appended to from a lower one on
 pub behind : {arcs : List Arc} {places amounts places' amounts' places'' amounts'' : List ℕ} (used base r : ℕ) → used ≤ base → take base places' ≡ take base places → take base amounts' ≡ take base amounts
-    → length places' ≡ length places → length amounts' ≡ length amounts → Appended arcs places' amounts' used places'' amounts'' r → Appended arcs places amounts used places'' amounts'' r
+    → length places' ≡ length places → length amounts' ≡ length amounts → ArcsAppended arcs places' amounts' used places'' amounts'' r → ArcsAppended arcs places amounts used places'' amounts'' r
 behind {arcs} {places} {amounts} {places'} {amounts'} used base r le p a size sizes g =
     record { front = g .front ∙ kept-shorter used base places' places le p; fronts = g .fronts ∙ kept-shorter used base amounts' amounts le a; are = g .are; end = g .end; size = g .size ∙ size; sizes = g .sizes ∙ sizes }

@@ -7,7 +7,7 @@ use lib.Seq.{take-set-le, getD-set-same, getD-set-other}
 use Rattle.reading.specs.Basics.{ℕ, _+_, _-_, false, List, [], _∷_, _++_, length, getD, take}
 use Rattle.firing.specs.Arcs.{Arc}
 use Rattle.firing.specs.internal.RowLists.{arcsIn}
-use Rattle.runs.specs.internal.Terms.{limit, term, Terms, none, more, joined, joinBy, Appended, MovedUp}
+use Rattle.runs.specs.internal.Terms.{limit, term, Terms, none, more, joined, joinBy, ArcsAppended, MovedUp}
 use Rattle.runs.proofs.Appending.{kept-at, kept-shorter, arcs-join, arcs-kept}
 use Rattle.runs.proofs.Joining.{terms-before, terms-front, joined-pass, Under, add-under, add-same}
 use Rattle.runs.proofs.Merging.{by-less, arcs-none, arcs-more, arcs-one, arcs-next, arcs-moved, run-small, run-below}
@@ -61,7 +61,7 @@ module _ (ranks counts : List ℕ) (small : (i : ℕ) → getD counts i 0 ≤ 65
       (ex : getD ranks' i 0 ≡ x) (ew : getD counts' i 0 ≡ w)
       (back : (n : ℕ) → n < end - k → (getD ranks' (i + 1 + n) 0 ≡ getD ranks (k + n) 0) × (getD counts' (i + 1 + n) 0 ≡ getD counts (k + n) 0))
       (size : length ranks' ≡ length ranks) (sizes : length counts' ≡ length counts) where
-    seated : Appended (run start i ++ (term x w ∷ run k end)) ranks counts start ranks' counts' r
+    seated : ArcsAppended (run start i ++ (term x w ∷ run k end)) ranks counts start ranks' counts' r
     seated =
         let a = length-arcs ranks counts start i in
         let b = length-arcs ranks counts k end in
@@ -78,9 +78,9 @@ module _ (ranks counts : List ℕ) (small : (i : ℕ) → getD counts i 0 ≤ 65
 
   -- to the term of its rank
   pub insert-adds : (i w : ℕ) → start ≤ i → i < end → end < length counts → getD ranks i 0 ≡ getD ranks end 0 → w ≡ limit (getD counts i 0 + getD counts end 0)
-      → Appended added ranks counts start ranks (set counts i w) end
+      → ArcsAppended added ranks counts start ranks (set counts i w) end
   insert-adds i w h lt long e ew =
-      subst (λ l. Appended l ranks counts start ranks (set counts i w) end) (sym all)
+      subst (λ l. ArcsAppended l ranks counts start ranks (set counts i w) end) (sym all)
       (seated i (i + 1) end (getD ranks i 0) w ranks (set counts i w) h lt (omega arith) (omega arith) refl (take-set-le i counts i w (omega arith)) refl (getD-set-same counts i w 0 (omega arith))
       (λ n k. (refl, getD-set-other counts i (i + 1 + n) w 0 (λ q. omega arith))) refl (length-set counts i w))
     where
@@ -96,10 +96,10 @@ module _ (ranks counts : List ℕ) (small : (i : ℕ) → getD counts i 0 ≤ 65
   -- between those below its rank and those above
   pub insert-puts : (i : ℕ) (ranks' counts' : List ℕ) → start ≤ i → i ≤ end → end < length ranks → end < length counts
       → (start < i → getD ranks (i - 1) 0 < getD ranks end 0) → Above ranks (getD ranks end 0) i end → MovedUp ranks i end ranks' → MovedUp counts i end counts'
-      → Appended added ranks counts start (set ranks' i (getD ranks end 0)) (set counts' i (getD counts end 0)) (end + 1)
+      → ArcsAppended added ranks counts start (set ranks' i (getD ranks end 0)) (set counts' i (getD counts end 0)) (end + 1)
   insert-puts i ranks' counts' h le long longs before above r c =
       let rs = r .size in let cs = c .size in
-      subst (λ l. Appended l ranks counts start (set ranks' i (getD ranks end 0)) (set counts' i (getD counts end 0)) (end + 1)) (sym all)
+      subst (λ l. ArcsAppended l ranks counts start (set ranks' i (getD ranks end 0)) (set counts' i (getD counts end 0)) (end + 1)) (sym all)
       (seated i i (end + 1) (getD ranks end 0) (getD counts end 0) (set ranks' i (getD ranks end 0)) (set counts' i (getD counts end 0)) h (omega arith) le (omega arith)
       (take-set-le i ranks' i (getD ranks end 0) (omega arith) ∙ r .front) (take-set-le i counts' i (getD counts end 0) (omega arith) ∙ c .front)
       (getD-set-same ranks' i (getD ranks end 0) 0 (omega arith)) (getD-set-same counts' i (getD counts end 0) 0 (omega arith))

@@ -10,7 +10,7 @@ use Rattle.reading.specs.Basics.{ℕ, zero, suc, _+_, _-_, _*_, Bool, true, fal
 use Rattle.reading.proofs.Lists.{of-from, map-same, map-map}
 use Rattle.firing.specs.Arcs.{Arc}
 use Rattle.firing.specs.internal.RowLists.{arcsIn}
-use Rattle.runs.specs.internal.Terms.{limit, term, Terms, none, more, joined, joinBy, timesAll, Appended, MergedFirst, Apart}
+use Rattle.runs.specs.internal.Terms.{limit, term, Terms, none, more, joined, joinBy, timesAll, ArcsAppended, MergedFirst, Apart}
 use Rattle.runs.specs.declared.Merged.{Merged}
 use Rattle.runs.proofs.Appending.{map-join, kept-at, kept-shorter, arcs-join, arcs-kept, append-none, append-join}
 use Rattle.runs.proofs.Joining.{terms-split, terms-below, times-few, Small, joined-apart, joined-last, joined-first, joined-second, joined-both}
@@ -72,8 +72,8 @@ module _ (factor : ℕ) (counts₀ : List ℕ) (start : ℕ) where
       (λ i m. let b = of-from start (end - start) m in ap (term (getD ranks i 0)) (h i (omega arith) (omega arith)))
       ∙ sym (map-map (λ i. term (getD ranks i 0) (getD counts₀ i 0)) (λ a. term (a .place) (limit (factor * a .weight))) (numbersFrom start (end - start)))
 
-  pub scaling-ends : (counts : List ℕ) (i end : ℕ) → Scaling factor counts₀ start counts i → end ≤ i → (ranks₀ counts₁ ranks : List ℕ) (l : List Arc) → Appended l ranks₀ counts₁ start ranks counts₀ end
-      → Appended (timesAll factor l) ranks₀ counts₁ start ranks counts end
+  pub scaling-ends : (counts : List ℕ) (i end : ℕ) → Scaling factor counts₀ start counts i → end ≤ i → (ranks₀ counts₁ ranks : List ℕ) (l : List Arc) → ArcsAppended l ranks₀ counts₁ start ranks counts₀ end
+      → ArcsAppended (timesAll factor l) ranks₀ counts₁ start ranks counts end
   scaling-ends counts i end s h ranks₀ counts₁ ranks l a = record {
     front = a .front;
     fronts = s .front ∙ a .fronts;
@@ -120,7 +120,7 @@ arcs-moved ranks counts ranks' counts' a a' b b' e h =
     rw e (map-shift {A = Arc} (λ i. term (getD ranks' i 0) (getD counts' i 0)) (λ i. term (getD ranks i 0) (getD counts i 0)) a b (b' - b) (λ i k. ap₂ term (h i k .0) (h i k .1)))
 
 pub moving-ends : {ranks₀ counts₀ ranks counts : List ℕ} {from to i k end : ℕ} → Moving ranks₀ from to ranks i k → Moving counts₀ from to counts i k → i + to ≡ k + from → to ≤ k → from ≤ i → i ≡ end
-    → Appended (arcsIn ranks₀ counts₀ from end) ranks₀ counts₀ to ranks counts k
+    → ArcsAppended (arcsIn ranks₀ counts₀ from end) ranks₀ counts₀ to ranks counts k
 moving-ends {ranks₀} {counts₀} {ranks} {counts} {from} {to} {i} {k} {end} r c e a b d =
     record {
       front = r .front;
@@ -135,7 +135,7 @@ moving-ends {ranks₀} {counts₀} {ranks} {counts} {from} {to} {i} {k} {end} r 
 pub record Resting (f : ℕ → ℕ → ℕ) (p : ℕ) (ranks₀ counts₀ : List ℕ) (from end used : ℕ) (ranks counts : List ℕ) (j k : ℕ) : Type 0 where
   pub low : from ≤ j
   pub high : j ≤ end
-  pub lie : Appended (joined f p 0 [] (arcsIn ranks₀ counts₀ from j)) ranks₀ counts₀ used ranks counts k
+  pub lie : ArcsAppended (joined f p 0 [] (arcsIn ranks₀ counts₀ from j)) ranks₀ counts₀ used ranks counts k
 
 module _ (f : ℕ → ℕ → ℕ) (p : ℕ) (ranks₀ counts₀ : List ℕ) (from end used : ℕ) where
   pub resting-begins : from ≤ end → Resting f p ranks₀ counts₀ from end used ranks₀ counts₀ from used
@@ -154,7 +154,7 @@ module _ (f : ℕ → ℕ → ℕ) (p : ℕ) (ranks₀ counts₀ : List ℕ) (fr
   pub resting-goes : {ranks counts ranks' counts' : List ℕ} {j k k' : ℕ} (x c w : ℕ) → Resting f p ranks₀ counts₀ from end used ranks counts j k
       → j < end → end ≤ used → used + (end - from) ≤ length ranks₀ → used + (end - from) ≤ length counts₀
       → x ≡ getD ranks j 0 → c ≡ getD counts j 0 → w ≡ f p c
-      → (k < length ranks → k < length counts → Appended (term x w ∷ []) ranks counts k ranks' counts' k')
+      → (k < length ranks → k < length counts → ArcsAppended (term x w ∷ []) ranks counts k ranks' counts' k')
       → Resting f p ranks₀ counts₀ from end used ranks' counts' (j + 1) k'
   resting-goes {ranks} {counts} {ranks'} {counts'} {j} {k} {k'} x c w r h u a b ex ec ew app =
       let low = r .low in
@@ -166,17 +166,17 @@ module _ (f : ℕ → ℕ → ℕ) (p : ℕ) (ranks₀ counts₀ : List ℕ) (fr
       record {
         low = omega arith;
         high = omega arith;
-        lie = subst (λ m. Appended m ranks₀ counts₀ used ranks' counts' k')
+        lie = subst (λ m. ArcsAppended m ranks₀ counts₀ used ranks' counts' k')
             (ap₂ (λ y v. joined f p 0 [] (arcsIn ranks₀ counts₀ from j) ++ (term y v ∷ [])) tx tw ∙ rest-next j low)
             (append-join l (app (omega arith) (omega arith)));
       }
 
   pub resting-ends : {ranks counts : List ℕ} {j k : ℕ} → Resting f p ranks₀ counts₀ from end used ranks counts j k → end ≤ j
-      → Appended (joined f p 0 [] (arcsIn ranks₀ counts₀ from end)) ranks₀ counts₀ used ranks counts k
+      → ArcsAppended (joined f p 0 [] (arcsIn ranks₀ counts₀ from end)) ranks₀ counts₀ used ranks counts k
   resting-ends {ranks} {counts} {j} {k} r h =
       let high = r .high in
       let e : j ≡ end = omega arith in
-      subst (λ n. Appended (joined f p 0 [] (arcsIn ranks₀ counts₀ from n)) ranks₀ counts₀ used ranks counts k) e (r .lie)
+      subst (λ n. ArcsAppended (joined f p 0 [] (arcsIn ranks₀ counts₀ from n)) ranks₀ counts₀ used ranks counts k) e (r .lie)
 
 -- ---- both runs
 -- of two ranks the first is lower, the second is lower, or they are the same
@@ -203,7 +203,7 @@ steps-on i j middle end x y i' j' h k s past ei ej =
 -- the terms of the first run up to i and of the second up to j were joined, as a front of both joined
 pub record Merging (f : ℕ → ℕ → ℕ) (p q : ℕ) (ranks₀ counts₀ : List ℕ) (start middle end : ℕ) (ranks counts : List ℕ) (i j k : ℕ) : Type 0 where
   pub list : List Arc
-  pub lie : Appended list ranks₀ counts₀ end ranks counts k
+  pub lie : ArcsAppended list ranks₀ counts₀ end ranks counts k
   pub left : list ++ joined f p q (arcsIn ranks₀ counts₀ i middle) (arcsIn ranks₀ counts₀ j end) ≡ joined f p q (arcsIn ranks₀ counts₀ start middle) (arcsIn ranks₀ counts₀ middle end)
   pub room : length list + (middle - i) + (end - j) ≤ end - start
 
@@ -245,7 +245,7 @@ module _ (f : ℕ → ℕ → ℕ) (p q : ℕ) (ranks₀ counts₀ : List ℕ) (
       → end + (end - start) ≤ length ranks₀ → end + (end - start) ≤ length counts₀ → i < middle → middle ≤ end → j ≤ end
       → x ≡ getD ranks i 0 → x ≤ 65535 → (j < end → y ≡ getD ranks j 0) → (end ≤ j → y ≡ 65536)
       → a ≡ (if leb x y then getD counts i 0 else p) → b ≡ (if leb y x then getD counts j 0 else q) → (x ≤ y → z ≡ x) → (y < x → z ≡ y) → w ≡ f a b
-      → (k < length ranks → k < length counts → Appended (term z w ∷ []) ranks counts k ranks' counts' k')
+      → (k < length ranks → k < length counts → ArcsAppended (term z w ∷ []) ranks counts k ranks' counts' k')
       → i' ≡ (if leb x y then i + 1 else i) → j' ≡ (if leb y x then j + 1 else j)
       → Merging f p q ranks₀ counts₀ start middle end ranks' counts' i' j' k'
   merging-goes {ranks} {counts} {ranks'} {counts'} {i} {j} {k} {k'} x y z a b w i' j' m r c h g n ex s here past ea eb zx zy ew app ei ej =
@@ -277,16 +277,16 @@ module _ (f : ℕ → ℕ → ℕ) (p q : ℕ) (ranks₀ counts₀ : List ℕ) (
       → end + (end - start) ≤ length ranks₀ → end + (end - start) ≤ length counts₀
       → MergedFirst f p q ranks₀ counts₀ start middle end ranks₁ counts₁ m
       → (m .second ≤ end → end ≤ m .end → m .end + (end - m .second) ≤ length ranks₁ → m .end + (end - m .second) ≤ length counts₁
-      → Appended (joined f p 0 [] (arcsIn ranks₁ counts₁ (m .second) end)) ranks₁ counts₁ (m .end) ranks₂ counts₂ stop)
-      → (end ≤ stop → stop ≤ length ranks₂ → stop ≤ length counts₂ → Appended (arcsIn ranks₂ counts₂ end stop) ranks₂ counts₂ start ranks₃ counts₃ r)
-      → Appended (joined f p q (arcsIn ranks₀ counts₀ start middle) (arcsIn ranks₀ counts₀ middle end)) ranks₀ counts₀ start ranks₃ counts₃ r
+      → ArcsAppended (joined f p 0 [] (arcsIn ranks₁ counts₁ (m .second) end)) ranks₁ counts₁ (m .end) ranks₂ counts₂ stop)
+      → (end ≤ stop → stop ≤ length ranks₂ → stop ≤ length counts₂ → ArcsAppended (arcsIn ranks₂ counts₂ end stop) ranks₂ counts₂ start ranks₃ counts₃ r)
+      → ArcsAppended (joined f p q (arcsIn ranks₀ counts₀ start middle) (arcsIn ranks₀ counts₀ middle end)) ranks₀ counts₀ start ranks₃ counts₃ r
   unfolding joined
   merged {ranks₁} {counts₁} {ranks₂} {counts₂} {ranks₃} {counts₃} m stop r h g e a b first rest down =
       let l = first .lie in
       let le = l .end in let ls = l .size in let lc = l .sizes in
       let room = first .room in
       let t = rest g e (omega arith) (omega arith) in
-      let u = subst (λ v. Appended v ranks₀ counts₀ end ranks₂ counts₂ stop)
+      let u = subst (λ v. ArcsAppended v ranks₀ counts₀ end ranks₂ counts₂ stop)
       (ap (λ v. first .list ++ joined f p q [] v) (arcs-kept ranks₀ counts₀ ranks₁ counts₁ (m .second) end (l .front) (l .fronts)) ∙ first .left) (append-join l t) in
       let n = length-map (arcsIn ranks₁ counts₁ (m .second) end) (λ b. term (b .place) (f p (b .weight))) ∙ length-arcs ranks₁ counts₁ (m .second) end in
       let te = t .end in let ts = t .size in let tc = t .sizes in
@@ -336,7 +336,7 @@ module _ (ranks counts : List ℕ) (small : (i : ℕ) → getD counts i 0 ≤ 65
       let (x, y, t) = terms-split (subst (Terms below 0) (arcs-more ranks counts middle end e) second) in
       apart-by low (subst (Terms below (getD ranks middle 0)) (sym (arcs-more ranks counts middle end e)) (more {a = term (getD ranks middle 0) (getD counts middle 0)} (omega arith) y t))
 
-  pub apart-joined : Appended (joined (joinBy less) p q (arcsIn ranks counts start middle) (arcsIn ranks counts middle end)) ranks counts start ranks counts end
+  pub apart-joined : ArcsAppended (joined (joinBy less) p q (arcsIn ranks counts start middle) (arcsIn ranks counts middle end)) ranks counts start ranks counts end
   apart-joined = rw all (record { front = refl; fronts = refl; are = refl; end = omega (arith, length-arcs ranks counts start end); size = refl; sizes = refl })
     where
       all : joined (joinBy less) p q (arcsIn ranks counts start middle) (arcsIn ranks counts middle end) ≡ arcsIn ranks counts start end

@@ -7,7 +7,7 @@ ghost use lib.ListN.{length, getD};
 ghost use Rattle.reading.specs.Basics.{if_then_else_};
 ghost use Rattle.firing.specs.Arcs.{Arc};
 ghost use Rattle.firing.specs.internal.RowLists.{arcsIn};
-ghost use Rattle.runs.specs.internal.Terms.{limit, term, Terms, joined, joinBy, timesAll, Appended, MergedFirst, Apart, MovedUp};
+ghost use Rattle.runs.specs.internal.Terms.{limit, term, Terms, joined, joinBy, timesAll, ArcsAppended, MergedFirst, Apart, MovedUp};
 
 // An element, or 0 past the end.
 pub fn slot(l: &[u16], i: usize) -> u16
@@ -38,7 +38,7 @@ pub fn scaled(factor: u16, count: u16) -> u16
 // Stores a term after so many, and tells how many there are then. Past the end it stores nothing.
 pub fn store(ranks: &mut [u16], counts: &mut [u16], used: usize, rank: u16, count: u16) -> usize
     ensures is { λ r. ⌜ (used < length (now (ranks .entry)) → used < length (now (counts .entry))
-        → Appended (term rank count ∷ []) (now (ranks .entry)) (now (counts .entry)) used (now (ranks .exit)) (now (counts .exit)) r) ⌝ }
+        → ArcsAppended (term rank count ∷ []) (now (ranks .entry)) (now (counts .entry)) used (now (ranks .exit)) (now (counts .exit)) r) ⌝ }
     ensures low { λ r. ⌜ used ≤ r ⌝ }
 {
     if ranks.len() <= used {
@@ -54,8 +54,8 @@ pub fn store(ranks: &mut [u16], counts: &mut [u16], used: usize, rank: u16, coun
 
 // Every count from a number up to an end times a factor.
 pub fn scale(counts: &mut [u16], start: usize, end: usize, factor: u16)
-    ensures { λ _. ⌜ ((ranks₀ counts₀ ranks : List ℕ) (l : List Arc) → Appended l ranks₀ counts₀ start ranks (now (counts .entry)) end → end ≤ length (now (counts .entry))
-        → Appended (timesAll factor l) ranks₀ counts₀ start ranks (now (counts .exit)) end) ⌝ }
+    ensures { λ _. ⌜ ((ranks₀ counts₀ ranks : List ℕ) (l : List Arc) → ArcsAppended l ranks₀ counts₀ start ranks (now (counts .entry)) end → end ≤ length (now (counts .entry))
+        → ArcsAppended (timesAll factor l) ranks₀ counts₀ start ranks (now (counts .exit)) end) ⌝ }
 {
     if counts.len() < end {
         return;
@@ -153,7 +153,7 @@ fn merge_rest(
     used: usize,
 ) -> usize
     ensures is { λ r. ⌜ (from ≤ end → end ≤ used → used + (end - from) ≤ length (now (ranks .entry)) → used + (end - from) ≤ length (now (counts .entry))
-        → Appended (joined (joinBy less) p 0 [] (arcsIn (now (ranks .entry)) (now (counts .entry)) from end)) (now (ranks .entry)) (now (counts .entry)) used (now (ranks .exit)) (now (counts .exit)) r) ⌝ }
+        → ArcsAppended (joined (joinBy less) p 0 [] (arcsIn (now (ranks .entry)) (now (counts .entry)) from end)) (now (ranks .entry)) (now (counts .entry)) used (now (ranks .exit)) (now (counts .exit)) r) ⌝ }
     ensures low { λ r. ⌜ used ≤ r ⌝ }
 {
     let mut j = from;
@@ -171,7 +171,7 @@ fn merge_rest(
 fn move_down(ranks: &mut [u16], counts: &mut [u16], from: usize, end: usize, to: usize) -> usize
     requires { ⌜ to ≤ from ⌝ }
     ensures is { λ r. ⌜ (from ≤ end → end ≤ length (now (ranks .entry)) → end ≤ length (now (counts .entry))
-        → Appended (arcsIn (now (ranks .entry)) (now (counts .entry)) from end) (now (ranks .entry)) (now (counts .entry)) to (now (ranks .exit)) (now (counts .exit)) r) ⌝ }
+        → ArcsAppended (arcsIn (now (ranks .entry)) (now (counts .entry)) from end) (now (ranks .entry)) (now (counts .entry)) to (now (ranks .exit)) (now (counts .exit)) r) ⌝ }
     ensures low { λ r. ⌜ to ≤ r ⌝ }
 {
     if ranks.len() < end {
@@ -255,7 +255,7 @@ pub fn insert(ranks: &mut [u16], counts: &mut [u16], start: usize, end: usize) -
     requires { ⌜ start ≤ end ⌝ }
     ensures is { λ r. ⌜ ((below : ℕ) → Terms below 0 (arcsIn (now (ranks .entry)) (now (counts .entry)) start end)
         → end < length (now (ranks .entry)) → end < length (now (counts .entry))
-        → Appended (joined (joinBy false) 0 0 (arcsIn (now (ranks .entry)) (now (counts .entry)) start end) (arcsIn (now (ranks .entry)) (now (counts .entry)) end (end + 1)))
+        → ArcsAppended (joined (joinBy false) 0 0 (arcsIn (now (ranks .entry)) (now (counts .entry)) start end) (arcsIn (now (ranks .entry)) (now (counts .entry)) end (end + 1)))
         (now (ranks .entry)) (now (counts .entry)) start (now (ranks .exit)) (now (counts .exit)) r) ⌝ }
     ensures low { λ r. ⌜ start ≤ r ⌝ }
 {
@@ -294,7 +294,7 @@ pub fn merge(
     requires { ⌜ (start ≤ middle) × (middle ≤ end) ⌝ }
     ensures is { λ r. ⌜ ((below : ℕ) → Terms below 0 (arcsIn (now (ranks .entry)) (now (counts .entry)) start middle) → Terms below 0 (arcsIn (now (ranks .entry)) (now (counts .entry)) middle end)
         → end + (end - start) ≤ length (now (ranks .entry)) → end + (end - start) ≤ length (now (counts .entry))
-        → Appended (joined (joinBy less) p q (arcsIn (now (ranks .entry)) (now (counts .entry)) start middle) (arcsIn (now (ranks .entry)) (now (counts .entry)) middle end))
+        → ArcsAppended (joined (joinBy less) p q (arcsIn (now (ranks .entry)) (now (counts .entry)) start middle) (arcsIn (now (ranks .entry)) (now (counts .entry)) middle end))
         (now (ranks .entry)) (now (counts .entry)) start (now (ranks .exit)) (now (counts .exit)) r) ⌝ }
     ensures low { λ r. ⌜ start ≤ r ⌝ }
 {

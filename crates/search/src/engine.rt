@@ -2,11 +2,9 @@
 use bindings::next_binding;
 use bindings::space_of;
 use firing::answer_rest;
-use firing::some_lacks;
 use plan::transitions_of;
-use rows::Takes;
-use rows::load_rest;
-use rows::load_takes;
+use rows::Loaded;
+use rows::load_bound;
 ghost use mathlib.Core.Path.{_≡_};
 ghost use Prim.Native.Nat.{ℕ, _<_, _≤_};
 ghost use mathlib.Core.List.{List, map};
@@ -26,7 +24,7 @@ ghost use Rattle.search.specs.internal.Searched.{searchTold, SearchWithi
 
 // Whether a binding of a transition, whose colours env has, would fire.
 fn fires_bound(
-    s: &[u8],
+    file: &[u8],
     plan: &[u32; 3584],
     env: &[u8; 32],
     t: usize,
@@ -35,25 +33,20 @@ fn fires_bound(
     amounts: &mut [u16],
 ) -> bool
     requires { ⌜ t < 32 ⌝ }
-    ensures { λ r. ⌜ ((n : Net) (colours : List ℕ) → Prepared (now (s .entry)) n (now (plan .entry))
-        → t < length (n .transitions) → Binds n (binding t colours) (now (env .entry)) → room (now (s .entry)) n ≤ length (now (places .entry)) → room (now (s .entry)) n ≤ length (now (amounts .entry))
+    ensures { λ r. ⌜ ((n : Net) (colours : List ℕ) → Prepared (now (file .entry)) n (now (plan .entry))
+        → t < length (n .transitions) → Binds n (binding t colours) (now (env .entry)) → room (now (file .entry)) n ≤ length (now (places .entry)) → room (now (file .entry)) n ≤ length (now (amounts .entry))
         → length (now (m .entry)) ≡ flatPlaceCount n → r ≡ eqb (fireBinding n (binding t colours) (now (m .entry)) .answer) 0) ⌝ }
 {
-    match load_takes(s, plan, env, t, places, amounts) {
-        Takes::Nothing => false,
-        Takes::Upto { end } => {
-            if some_lacks(places, amounts, end, m) {
-                return false;
-            }
-            let ends = load_rest(s, plan, env, t, end, places, amounts);
-            answer_rest(places, amounts, ends, m) == 0
-        }
+    match load_bound(file, plan, env, t, m, places, amounts) {
+        Loaded::NoRow => false,
+        Loaded::Lacking => false,
+        Loaded::Row { ends } => answer_rest(places, amounts, ends, m) == 0,
     }
 }
 
 // The number of a transition's first binding that would fire, among so many, all that it has; how many where none would.
 fn search_bindings(
-    s: &[u8],
+    file: &[u8],
     plan: &[u32; 3584],
     t: usize,
     many: usize,
@@ -62,14 +55,14 @@ fn search_bindings(
     amounts: &mut [u16],
 ) -> usize
     requires { ⌜ t < 32 ⌝ }
-    ensures { λ r. ⌜ ((n : Net) → Prepared (now (s .entry)) n (now (plan .entry))
-        → t < length (n .transitions) → many ≡ product (sizesOf n (transitionAt n t)) → room (now (s .entry)) n ≤ length (now (places .entry)) → room (now (s .entry)) n ≤ length (now (amounts .entry)) → length (now (m .entry)) ≡ flatPlaceCount n
+    ensures { λ r. ⌜ ((n : Net) → Prepared (now (file .entry)) n (now (plan .entry))
+        → t < length (n .transitions) → many ≡ product (sizesOf n (transitionAt n t)) → room (now (file .entry)) n ≤ length (now (places .entry)) → room (now (file .entry)) n ≤ length (now (amounts .entry)) → length (now (m .entry)) ≡ flatPlaceCount n
         → first (λ i. eqb (fireBinding n (numbered n t i) (now (m .entry)) .answer) 0) (below many) ≡ stoppedAt many r) ⌝ }
 {
     let mut env = [0u8; 32];
     let mut i: usize = 0;
     while i < many {
-        if fires_bound(s, plan, &env, t, m, places, amounts) {
+        if fires_bound(file, plan, &env, t, m, places, amounts) {
             return i;
         }
         next_binding(plan, t, &mut env);
@@ -92,14 +85,14 @@ pub enum Searched {
 
 // The first binding that would fire.
 pub fn search_all(
-    s: &[u8],
+    file: &[u8],
     plan: &[u32; 3584],
     m: &[u16],
     places: &mut [u16],
     amounts: &mut [u16],
 ) -> Searched
-    ensures is { λ r. ⌜ ((n : Net) → Prepared (now (s .entry)) n (now (plan .entry))
-        → room (now (s .entry)) n ≤ length (now (places .entry)) → room (now (s .entry)) n ≤ length (now (amounts .entry)) → length (now (m .entry)) ≡ flatPlaceCount n
+    ensures is { λ r. ⌜ ((n : Net) → Prepared (now (file .entry)) n (now (plan .entry))
+        → room (now (file .entry)) n ≤ length (now (places .entry)) → room (now (file .entry)) n ≤ length (now (amounts .entry)) → length (now (m .entry)) ≡ flatPlaceCount n
         → (first (λ order. eqb (fireOrder n order (now (m .entry)) .answer) 0) (map orderOf (bindings n)) ≡ searchTold n r) × SearchWithin n r) ⌝ }
     ensures room { λ r. ⌜ SearchRoom r ⌝ }
 {
@@ -108,7 +101,7 @@ pub fn search_all(
     let mut t: usize = 0;
     while t < transitions {
         let many = space_of(plan, t);
-        let i = search_bindings(s, plan, t, many, m, places, amounts);
+        let i = search_bindings(file, plan, t, many, m, places, amounts);
         if i < many {
             return Searched::At {
                 t,

@@ -8,6 +8,7 @@ use engine::search_all;
 use plan::flat_places_of;
 use prepared::Preparing;
 use prepared::prepare;
+use reading::once_more;
 use rows::is_small;
 use rows::most_slots;
 ghost use mathlib.Core.Path.{_≡_};
@@ -28,15 +29,15 @@ pub enum FirstReply {
 
 // The first order that would fire on a net that has been read, with lists lent for a row's arcs.
 fn first_with(
-    s: &[u8],
+    file: &[u8],
     plan: &[u32; 3584],
     marking: &[u16],
     places: &mut [u16],
     amounts: &mut [u16],
 ) -> FirstReply
-    ensures { λ r. ⌜ ((n : Net) → Prepared (now (s .entry)) n (now (plan .entry))
-        → room (now (s .entry)) n ≤ length (now (places .entry)) → room (now (s .entry)) n ≤ length (now (amounts .entry))
-        → firstReply r ≡ firstOrder (now (s .entry)) (now (marking .entry))) ⌝ }
+    ensures { λ r. ⌜ ((n : Net) → Prepared (now (file .entry)) n (now (plan .entry))
+        → room (now (file .entry)) n ≤ length (now (places .entry)) → room (now (file .entry)) n ≤ length (now (amounts .entry))
+        → firstReply r ≡ firstOrder (now (file .entry)) (now (marking .entry))) ⌝ }
 {
     if marking.len() != flat_places_of(plan) {
         return FirstReply::Refused {
@@ -44,7 +45,7 @@ fn first_with(
             place: 0,
         };
     }
-    match search_all(s, plan, marking, places, amounts) {
+    match search_all(file, plan, marking, places, amounts) {
         Searched::Nothing { tried } => FirstReply::Nothing { tried },
         Searched::At { t, index, tried } => FirstReply::Found {
             order: order_at(plan, t, index),
@@ -54,41 +55,38 @@ fn first_with(
 }
 
 // With small lists, where the rows have room in them.
-fn first_small(s: &[u8], plan: &[u32; 3584], marking: &[u16]) -> FirstReply
-    ensures { λ r. ⌜ ((n : Net) → Prepared (now (s .entry)) n (now (plan .entry))
-        → room (now (s .entry)) n ≤ 1024
-        → firstReply r ≡ firstOrder (now (s .entry)) (now (marking .entry))) ⌝ }
+fn first_small(file: &[u8], plan: &[u32; 3584], marking: &[u16]) -> FirstReply
+    ensures { λ r. ⌜ ((n : Net) → Prepared (now (file .entry)) n (now (plan .entry))
+        → room (now (file .entry)) n ≤ 1024
+        → firstReply r ≡ firstOrder (now (file .entry)) (now (marking .entry))) ⌝ }
 {
     let mut places = [0u16; 1024];
     let mut amounts = [0u16; 1024];
-    first_with(s, plan, marking, &mut places, &mut amounts)
+    first_with(file, plan, marking, &mut places, &mut amounts)
 }
 
-// With lists that have room for every net. It can call itself, once, on an empty file, whose rows need none: so the compiler keeps it
-// apart, and its lists lie in no other function's frame.
-fn first_large(s: &[u8], plan: &[u32; 3584], marking: &[u16], again: bool) -> FirstReply
-    ensures { λ r. ⌜ ((n : Net) → Prepared (now (s .entry)) n (now (plan .entry))
-        → firstReply r ≡ firstOrder (now (s .entry)) (now (marking .entry))) ⌝ }
+// With lists that have room for every net. Kept apart (once_more).
+fn first_large(file: &[u8], plan: &[u32; 3584], marking: &[u16], again: bool) -> FirstReply
+    ensures { λ r. ⌜ ((n : Net) → Prepared (now (file .entry)) n (now (plan .entry))
+        → firstReply r ≡ firstOrder (now (file .entry)) (now (marking .entry))) ⌝ }
 {
-    if s.len() < 1 {
-        if again {
-            return first_large(s, plan, marking, false);
-        }
+    if once_more(file, again) {
+        return first_large(file, plan, marking, false);
     }
     let mut places = [0u16; 20480];
     let mut amounts = [0u16; 20480];
-    first_with(s, plan, marking, &mut places, &mut amounts)
+    first_with(file, plan, marking, &mut places, &mut amounts)
 }
 
 // The first order that would fire on a net that has been read.
-fn first_on(s: &[u8], plan: &[u32; 3584], marking: &[u16]) -> FirstReply
-    ensures { λ r. ⌜ ((n : Net) → Prepared (now (s .entry)) n (now (plan .entry))
-        → firstReply r ≡ firstOrder (now (s .entry)) (now (marking .entry))) ⌝ }
+fn first_on(file: &[u8], plan: &[u32; 3584], marking: &[u16]) -> FirstReply
+    ensures { λ r. ⌜ ((n : Net) → Prepared (now (file .entry)) n (now (plan .entry))
+        → firstReply r ≡ firstOrder (now (file .entry)) (now (marking .entry))) ⌝ }
 {
-    if is_small(most_slots(s, plan), s.len()) {
-        return first_small(s, plan, marking);
+    if is_small(most_slots(file, plan), file.len()) {
+        return first_small(file, plan, marking);
     }
-    first_large(s, plan, marking, true)
+    first_large(file, plan, marking, true)
 }
 
 // The first order that would be answered 0 on a net file and a marking.

@@ -13,7 +13,7 @@ use Rattle.net.specs.Net.{Colour, Expression, all, times, Place, single, pair, 
 use Rattle.net.specs.Reader.{readColour, readExpression, twoOf, amount, capped}
 use Rattle.net.specs.Values.{weight}
 use Rattle.evaluation.specs.internal.Evaluated.{bound, Ranks}
-use Rattle.runs.specs.internal.Terms.{limit, term, countIn, Terms, none, more, joined, joinBy, timesAll, Appended}
+use Rattle.runs.specs.internal.Terms.{limit, term, countIn, Terms, none, more, joined, joinBy, timesAll, ArcsAppended}
 use Rattle.arc_expressions.specs.internal.ReaderEnums.{joins}
 use Rattle.evaluation.specs.declared.evaluate.Ranked.{Ranked}
 use Rattle.net.proofs.Shut.{commands}
@@ -80,7 +80,7 @@ module _ (n : Net) (env : List ℕ) (count : ℕ) where
 
 -- ---- terms that take the place of others
 pub append-over : {xs ys : List Arc} {ranks counts ranks' counts' ranks'' counts'' : List ℕ} {used end end' : ℕ}
-    → Appended xs ranks counts used ranks' counts' end → Appended ys ranks' counts' used ranks'' counts'' end' → Appended ys ranks counts used ranks'' counts'' end'
+    → ArcsAppended xs ranks counts used ranks' counts' end → ArcsAppended ys ranks' counts' used ranks'' counts'' end' → ArcsAppended ys ranks counts used ranks'' counts'' end'
 append-over f g =
     record {
       front = g .front ∙ f .front;
@@ -95,7 +95,7 @@ append-over f g =
 module _ (n : Net) (env : List ℕ) (count : ℕ) (ranks counts : List ℕ) (used : ℕ) (inner : ℕ → Answer Expression) (at next : ℕ) (ranks₁ counts₁ : List ℕ) (p : Multiset)
     (first : ListedTold n env count ranks counts used ranks₁ counts₁ p (inner next)) where
   pub times-listed : (factor : ℕ) (counts₂ : List ℕ)
-      → ((ranks₀ counts₀ ranks : List ℕ) (l : List Arc) → Appended l ranks₀ counts₀ used ranks counts₁ (p .end) → p .end ≤ length counts₁ → Appended (timesAll factor l) ranks₀ counts₀ used ranks counts₂ (p .end))
+      → ((ranks₀ counts₀ ranks : List ℕ) (l : List Arc) → ArcsAppended l ranks₀ counts₀ used ranks counts₁ (p .end) → p .end ≤ length counts₁ → ArcsAppended (timesAll factor l) ranks₀ counts₀ used ranks counts₂ (p .end))
       → ListedTold n env count ranks counts used ranks₁ counts₂ (record { end = p .end; rest = limit (factor * p .rest); next = p .next }) (capped at (under (times factor) (inner next)))
   unfolding terms
   times-listed factor counts₂ scaled =
@@ -114,7 +114,7 @@ module _ (n : Net) (env : List ℕ) (count : ℕ) (ranks counts : List ℕ) (use
   module _ (ranks₂ counts₂ : List ℕ) (q : Multiset) (second : ListedTold n env count ranks₁ counts₁ (p .end) ranks₂ counts₂ q (inner (p .next))) (less : Bool) (ranks₃ counts₃ : List ℕ) (r : ℕ)
       (merged : (below : ℕ) → Terms below 0 (arcsIn ranks₂ counts₂ used (p .end)) → Terms below 0 (arcsIn ranks₂ counts₂ (p .end) (q .end))
       → q .end + (q .end - used) ≤ length ranks₂ → q .end + (q .end - used) ≤ length counts₂
-      → Appended (joined (joinBy less) (p .rest) (q .rest) (arcsIn ranks₂ counts₂ used (p .end)) (arcsIn ranks₂ counts₂ (p .end) (q .end))) ranks₂ counts₂ used ranks₃ counts₃ r) where
+      → ArcsAppended (joined (joinBy less) (p .rest) (q .rest) (arcsIn ranks₂ counts₂ used (p .end)) (arcsIn ranks₂ counts₂ (p .end) (q .end))) ranks₂ counts₂ used ranks₃ counts₃ r) where
     abbrev whole : Multiset
     whole = record { end = r; rest = joinBy less (p .rest) (q .rest); next = q .next }
 
@@ -162,8 +162,8 @@ amount-term n inner (single set) count at next = one-by OneTerm (λ k p. tt) at 
 amount-term n inner (pair set other) count at next = two-by OneTerm (λ k p. tt) at n inner count next set other (λ a b mid end e f. refl)
 
 module _ (n : Net) (env : List ℕ) (count : ℕ) (ranks counts : List ℕ) (used : ℕ) (ranks' counts' : List ℕ) (end : ℕ) (k : Ranked) (number : ℕ)
-    (inside : k .rank < count → used < length ranks → used < length counts → Appended (term (k .rank) number ∷ []) ranks counts used ranks' counts' end)
-    (outside : count ≤ k .rank → Appended [] ranks counts used ranks' counts' end) where
+    (inside : k .rank < count → used < length ranks → used < length counts → ArcsAppended (term (k .rank) number ∷ []) ranks counts used ranks' counts' end)
+    (outside : count ≤ k .rank → ArcsAppended [] ranks counts used ranks' counts' end) where
   one-listed : (x : Answer Expression) → OneTerm x → Ranks n env number k x → ListedTold n env count ranks counts used ranks' counts' (record { end = end; rest = 0; next = k .next }) x
   one-listed (fine e next) t h = λ i j. go (ltb (k .rank) count) refl i j
     where
@@ -199,8 +199,8 @@ module _ (s : List ℕ) (n : Net) (env : List ℕ) (place : Place) (left at coun
     module _ (le : 1 ≤ left) where
       -- 0x40
       pub amount-listed : (end : ℕ) (k : Ranked)
-          → (k .rank < count → used < length ranks → used < length counts → Appended (term (k .rank) (wordAt s (at + 1)) ∷ []) ranks counts used ranks' counts' end)
-          → (count ≤ k .rank → Appended [] ranks counts used ranks' counts' end)
+          → (k .rank < count → used < length ranks → used < length counts → ArcsAppended (term (k .rank) (wordAt s (at + 1)) ∷ []) ranks counts used ranks' counts' end)
+          → (count ≤ k .rank → ArcsAppended [] ranks counts used ranks' counts' end)
           → Ranks n env (wordAt s (at + 1)) k (amount n (readColour s n (left - 1)) place (wordAt s (at + 1)) at (at + 3)) → byteAt s at ≡ 0x40
           → ListedTold n env count ranks counts used ranks' counts' (record { end = end; rest = 0; next = k .next }) (readExpression s n place left at)
       unfolding commands

@@ -22,7 +22,7 @@ use Rattle.net.proofs.Colours.{colour-step}
 use Rattle.arc_expressions.proofs.Expressions.{expression-in}
 use Rattle.evaluation.proofs.Weights.{weight-le, joined-by, expression-shut}
 use Rattle.runs.specs.internal.Terms as spec
-use Rattle.runs.specs.internal.Terms.{term, countIn, Terms, joined, joinBy, Appended}
+use Rattle.runs.specs.internal.Terms.{term, countIn, Terms, joined, joinBy, ArcsAppended}
 use Rattle.sums.specs.internal.Loaded.{terms, ListedTold}
 use Rattle.sums.specs.internal.Sums.{InTurn, together, Summing, SumTold}
 use Rattle.sums.specs.internal.Sums as sums
@@ -215,7 +215,7 @@ module _ (s : List ℕ) (n : Net) (place : Place) (env : List ℕ) where
         joins-more : {m : List Arc} {ranks' counts' : List ℕ} {next' ahead' end' : ℕ} (es others : List Expression) (stop : ℕ) (g : Summing s n place env count es stop ranks counts used ranks₁ counts₁ end next ahead)
             → together ceiling es ≤ 65535 → Terms count 0 m → InTurn s n place others next' stop → length others ≡ ahead'
             → ((rank : ℕ) → rank < count → weights rank (g .others) ≡ countIn m 0 rank + weights rank others) → length m + together terms others ≤ together terms (g .others)
-            → together ceiling others ≤ together ceiling (g .others) → Appended (joined (joinBy false) 0 0 (g .list) m) ranks counts used ranks' counts' end'
+            → together ceiling others ≤ together ceiling (g .others) → ArcsAppended (joined (joinBy false) 0 0 (g .list) m) ranks counts used ranks' counts' end'
             → Summing s n place env count es stop ranks counts used ranks' counts' end' next' ahead'
         joins-more {m} es others stop g small rise t l w f c lie =
             record {
@@ -235,8 +235,8 @@ module _ (s : List ℕ) (n : Net) (place : Place) (env : List ℕ) where
           pub sum-takes : (k : Ranked) (end' : ℕ) → 1 ≤ ahead → byteAt s next ≡ 0x40
               → Ranks n env (wordAt s (next + 1)) k (amount n (readColour s n 15) place (wordAt s (next + 1)) next (next + 3))
               → (k .rank < count → end < length ranks₁ → end < length counts₁ → Terms count 0 (arcsIn ranks₁ counts₁ used end)
-              → Appended (joined (joinBy false) 0 0 (arcsIn ranks₁ counts₁ used end) (term (k .rank) (wordAt s (next + 1)) ∷ [])) ranks₁ counts₁ used ranks₂ counts₂ end')
-              → (count ≤ k .rank → Appended [] ranks₁ counts₁ end ranks₂ counts₂ end')
+              → ArcsAppended (joined (joinBy false) 0 0 (arcsIn ranks₁ counts₁ used end) (term (k .rank) (wordAt s (next + 1)) ∷ [])) ranks₁ counts₁ used ranks₂ counts₂ end')
+              → (count ≤ k .rank → ArcsAppended [] ranks₁ counts₁ end ranks₂ counts₂ end')
               → SumTold s n place env count at many ranks counts used ranks₂ counts₂ end' (k .next) (ahead - 1)
           unfolding countIn
           sum-takes k end' lt b ranked inside outside es stop t l small i j = go (ltb (k .rank) count) refl (told es stop t l small i j)
@@ -255,7 +255,7 @@ module _ (s : List ℕ) (n : Net) (place : Place) (env : List ℕ) where
                   record {
                     list = g .list;
                     others = o .others;
-                    lie = subst (λ xs. Appended xs ranks counts used ranks₂ counts₂ end') (append-nil (g .list)) (append-join (g .lie) (outside h));
+                    lie = subst (λ xs. ArcsAppended xs ranks counts used ranks₂ counts₂ end') (append-nil (g .list)) (append-join (g .lie) (outside h));
                     rising = g .rising;
                     turn = o .turn;
                     many = omega (arith, o .many, g .many);
@@ -268,7 +268,7 @@ module _ (s : List ℕ) (n : Net) (place : Place) (env : List ℕ) where
           module _ (end₂ next₂ ahead₂ : ℕ) (follows : SumTold s n place env count next ahead ranks₁ counts₁ end ranks₂ counts₂ end₂ next₂ ahead₂) (ranks₃ counts₃ : List ℕ) (r : ℕ)
               (merged : (below : ℕ) → Terms below 0 (arcsIn ranks₂ counts₂ used end) → Terms below 0 (arcsIn ranks₂ counts₂ end end₂)
               → end₂ + (end₂ - used) ≤ length ranks₂ → end₂ + (end₂ - used) ≤ length counts₂
-              → Appended (joined (joinBy false) 0 0 (arcsIn ranks₂ counts₂ used end) (arcsIn ranks₂ counts₂ end end₂)) ranks₂ counts₂ used ranks₃ counts₃ r) where
+              → ArcsAppended (joined (joinBy false) 0 0 (arcsIn ranks₂ counts₂ used end) (arcsIn ranks₂ counts₂ end end₂)) ranks₂ counts₂ used ranks₃ counts₃ r) where
             pub sum-joins : SumTold s n place env count at many ranks counts used ranks₃ counts₃ r next₂ ahead₂
             sum-joins es stop t l small i j =
                 let g = told es stop t l small i j in
@@ -328,18 +328,18 @@ module _ (s : List ℕ) (n : Net) (place : Place) (env : List ℕ) where
 
 -- ---- one term added to those from a number up to an end, if its rank is below a number
 module _ (ranks counts ranks₁ counts₁ : List ℕ) (start end below rank number stop : ℕ) (low : start ≤ end)
-    (inside : rank < below → end < length ranks → end < length counts → Appended (term rank number ∷ []) ranks counts end ranks₁ counts₁ stop)
-    (outside : below ≤ rank → Appended [] ranks counts end ranks₁ counts₁ stop) where
+    (inside : rank < below → end < length ranks → end < length counts → ArcsAppended (term rank number ∷ []) ranks counts end ranks₁ counts₁ stop)
+    (outside : below ≤ rank → ArcsAppended [] ranks counts end ranks₁ counts₁ stop) where
   abbrev Added : List ℕ → List ℕ → ℕ → Type 0
   Added ranks' counts' r =
       (rank < below → end < length ranks → end < length counts → Terms below 0 (arcsIn ranks counts start end)
-      → Appended (joined (joinBy false) 0 0 (arcsIn ranks counts start end) (term rank number ∷ [])) ranks counts start ranks' counts' r)
-      × (below ≤ rank → Appended [] ranks counts end ranks' counts' r)
+      → ArcsAppended (joined (joinBy false) 0 0 (arcsIn ranks counts start end) (term rank number ∷ [])) ranks counts start ranks' counts' r)
+      × (below ≤ rank → ArcsAppended [] ranks counts end ranks' counts' r)
 
   -- it was stored behind them, and put in
   pub add-goes : (ranks₂ counts₂ : List ℕ) (r : ℕ) → end < stop
       → ((b : ℕ) → Terms b 0 (arcsIn ranks₁ counts₁ start end) → end < length ranks₁ → end < length counts₁
-      → Appended (joined (joinBy false) 0 0 (arcsIn ranks₁ counts₁ start end) (arcsIn ranks₁ counts₁ end (end + 1))) ranks₁ counts₁ start ranks₂ counts₂ r)
+      → ArcsAppended (joined (joinBy false) 0 0 (arcsIn ranks₁ counts₁ start end) (arcsIn ranks₁ counts₁ end (end + 1))) ranks₁ counts₁ start ranks₂ counts₂ r)
       → Added ranks₂ counts₂ r
   add-goes ranks₂ counts₂ r lt put = (
     λ h i j t.
@@ -355,7 +355,7 @@ module _ (ranks counts ranks₁ counts₁ : List ℕ) (start end below rank numb
   pub add-none : (end < stop → ⊥) → Added ranks₁ counts₁ end
   add-none not = (
     λ h i j t. absurd (not (omega (arith, inside h i j .end))),
-    λ h. let e : stop ≡ end = omega (arith, outside h .end) in subst (Appended [] ranks counts end ranks₁ counts₁) e (outside h),
+    λ h. let e : stop ≡ end = omega (arith, outside h .end) in subst (ArcsAppended [] ranks counts end ranks₁ counts₁) e (outside h),
   )
 
 -- ---- terms that were listed in lists that are the same

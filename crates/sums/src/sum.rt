@@ -18,7 +18,7 @@ ghost use Rattle.firing.specs.internal.RowLists.{arcsIn};
 ghost use Rattle.plan.specs.internal.Layout.{ranksIn, pairIn};
 ghost use Rattle.net.specs.Net.{Place};
 ghost use Rattle.evaluation.specs.internal.Evaluated.{scopeIn, placeBy};
-ghost use Rattle.runs.specs.internal.Terms.{term, Terms, joined, joinBy, Appended};
+ghost use Rattle.runs.specs.internal.Terms.{term, Terms, joined, joinBy, ArcsAppended};
 ghost use Rattle.sums.specs.internal.Sums.{SumTold};
 
 // How far a sum was gone through: where its terms end in the lent lists, the place of the next operand, and how many are still to come.
@@ -57,9 +57,9 @@ fn add_below(
 ) -> usize
     requires { ⌜ (below ≤ 65535) × (start ≤ end) ⌝ }
     ensures inside { λ r. ⌜ (rank < below → end < length (now (ranks .entry)) → end < length (now (counts .entry)) → Terms below 0 (arcsIn (now (ranks .entry)) (now (counts .entry)) start end)
-        → Appended (joined (joinBy false) 0 0 (arcsIn (now (ranks .entry)) (now (counts .entry)) start end) (term rank count ∷ []))
+        → ArcsAppended (joined (joinBy false) 0 0 (arcsIn (now (ranks .entry)) (now (counts .entry)) start end) (term rank count ∷ []))
         (now (ranks .entry)) (now (counts .entry)) start (now (ranks .exit)) (now (counts .exit)) r) ⌝ }
-    ensures outside { λ r. ⌜ (below ≤ rank → Appended [] (now (ranks .entry)) (now (counts .entry)) end (now (ranks .exit)) (now (counts .exit)) r) ⌝ }
+    ensures outside { λ r. ⌜ (below ≤ rank → ArcsAppended [] (now (ranks .entry)) (now (counts .entry)) end (now (ranks .exit)) (now (counts .exit)) r) ⌝ }
     ensures low { λ r. ⌜ start ≤ r ⌝ }
 {
     let stop = store_below(ranks, counts, end, below, rank, count);
@@ -71,7 +71,7 @@ fn add_below(
 
 // The terms of up to 16 counts. It ends before an operand that is neither a count nor a sum.
 fn sum_counts(
-    s: &&[u8],
+    file: &&[u8],
     plan: &[u32; 3584],
     env: &[u8; 32],
     entry: u64,
@@ -79,12 +79,12 @@ fn sum_counts(
     ranks: &mut [u16],
     counts: &mut [u16],
 ) -> Summed
-    requires { ⌜ length (now (now s)) < 2 ^ 63 ⌝ }
-    ensures is { λ r. ⌜ ((known : List Place) (first second : ℕ) → SumTold (now (now (s .entry))) (scopeIn (now (plan .entry)) known) (placeBy (pairIn entry) first second) (now (env .entry)) (ranksIn entry)
+    requires { ⌜ length (now (now file)) < 2 ^ 63 ⌝ }
+    ensures is { λ r. ⌜ ((known : List Place) (first second : ℕ) → SumTold (now (now (file .entry))) (scopeIn (now (plan .entry)) known) (placeBy (pairIn entry) first second) (now (env .entry)) (ranksIn entry)
         (from .next) (from .ahead) (now (ranks .entry)) (now (counts .entry)) (from .end) (now (ranks .exit)) (now (counts .exit)) (r .end) (r .next) (r .ahead)) ⌝ }
     ensures low { λ r. ⌜ from .end ≤ r .end ⌝ }
 {
-    let file = *s;
+    let bytes = *file;
     let count = ranks_of(entry);
     let paired = is_pair(entry);
     let used = from.end;
@@ -93,7 +93,7 @@ fn sum_counts(
     let mut end = used;
     let mut i: usize = 0;
     while i < 64 {
-        let b = byte_at(file, next);
+        let b = byte_at(bytes, next);
         if ends_run(b, left, end - used) {
             return Summed {
                 end,
@@ -106,8 +106,8 @@ fn sum_counts(
             left += 1;
             next += 1;
         } else {
-            let k = eval_rank(file, plan, env, paired, 15, next + 3);
-            let number = word_at(file, next + 1) as u16;
+            let k = eval_rank(bytes, plan, env, paired, 15, next + 3);
+            let number = word_at(bytes, next + 1) as u16;
             end = add_below(ranks, counts, used, end, count, k.rank, number);
             next = k.next;
             left -= 1;
@@ -121,9 +121,9 @@ fn sum_counts(
 }
 
 // Whether another run follows: an operand is to come, and a count stands next.
-fn goes_on(s: &[u8], next: usize, ahead: usize) -> bool {
+fn goes_on(file: &[u8], next: usize, ahead: usize) -> bool {
     if 0 < ahead {
-        byte_at(s, next) == 0x40
+        byte_at(file, next) == 0x40
     } else {
         false
     }
@@ -131,7 +131,7 @@ fn goes_on(s: &[u8], next: usize, ahead: usize) -> bool {
 
 // The terms of up to 16 * 2 ^ level operands: two runs of half as many, joined.
 fn sum_runs(
-    s: &&[u8],
+    file: &&[u8],
     plan: &[u32; 3584],
     env: &[u8; 32],
     entry: u64,
@@ -140,23 +140,23 @@ fn sum_runs(
     ranks: &mut [u16],
     counts: &mut [u16],
 ) -> Summed
-    requires { ⌜ length (now (now s)) < 2 ^ 63 ⌝ }
-    ensures is { λ r. ⌜ ((known : List Place) (first second : ℕ) → SumTold (now (now (s .entry))) (scopeIn (now (plan .entry)) known) (placeBy (pairIn entry) first second) (now (env .entry)) (ranksIn entry)
+    requires { ⌜ length (now (now file)) < 2 ^ 63 ⌝ }
+    ensures is { λ r. ⌜ ((known : List Place) (first second : ℕ) → SumTold (now (now (file .entry))) (scopeIn (now (plan .entry)) known) (placeBy (pairIn entry) first second) (now (env .entry)) (ranksIn entry)
         (from .next) (from .ahead) (now (ranks .entry)) (now (counts .entry)) (from .end) (now (ranks .exit)) (now (counts .exit)) (r .end) (r .next) (r .ahead)) ⌝ }
     ensures low { λ r. ⌜ from .end ≤ r .end ⌝ }
 {
     if level < 1 {
-        return sum_counts(s, plan, env, entry, from, ranks, counts);
+        return sum_counts(file, plan, env, entry, from, ranks, counts);
     }
-    let a = sum_runs(s, plan, env, entry, level - 1, from, ranks, counts);
-    if !goes_on(*s, a.next, a.ahead) {
+    let a = sum_runs(file, plan, env, entry, level - 1, from, ranks, counts);
+    if !goes_on(*file, a.next, a.ahead) {
         return Summed {
             end: a.end,
             next: a.next,
             ahead: a.ahead,
         };
     }
-    let b = sum_runs(s, plan, env, entry, level - 1, a, ranks, counts);
+    let b = sum_runs(file, plan, env, entry, level - 1, a, ranks, counts);
     Summed {
         end: merge(false, ranks, counts, from.end, a.end, b.end, 0, 0),
         next: b.next,
@@ -166,7 +166,7 @@ fn sum_runs(
 
 // The terms of the sum of counts at a place: after each run one as long, and both joined.
 pub fn sum_terms(
-    s: &&[u8],
+    file: &&[u8],
     plan: &[u32; 3584],
     env: &[u8; 32],
     entry: u64,
@@ -175,8 +175,8 @@ pub fn sum_terms(
     counts: &mut [u16],
     used: usize,
 ) -> Summed
-    requires { ⌜ length (now (now s)) < 2 ^ 63 ⌝ }
-    ensures is { λ r. ⌜ ((known : List Place) (first second : ℕ) → SumTold (now (now (s .entry))) (scopeIn (now (plan .entry)) known) (placeBy (pairIn entry) first second) (now (env .entry)) (ranksIn entry)
+    requires { ⌜ length (now (now file)) < 2 ^ 63 ⌝ }
+    ensures is { λ r. ⌜ ((known : List Place) (first second : ℕ) → SumTold (now (now (file .entry))) (scopeIn (now (plan .entry)) known) (placeBy (pairIn entry) first second) (now (env .entry)) (ranksIn entry)
         at 1 (now (ranks .entry)) (now (counts .entry)) used (now (ranks .exit)) (now (counts .exit)) (r .end) (r .next) (r .ahead)) ⌝ }
     ensures low { λ r. ⌜ used ≤ r .end ⌝ }
 {
@@ -185,17 +185,17 @@ pub fn sum_terms(
         next: at,
         ahead: 1,
     };
-    let first = sum_counts(s, plan, env, entry, start, ranks, counts);
+    let first = sum_counts(file, plan, env, entry, start, ranks, counts);
     let mut end = first.end;
     let mut next = first.next;
     let mut ahead = first.ahead;
     let mut level: u8 = 0;
     while level < 9 {
-        if !goes_on(*s, next, ahead) {
+        if !goes_on(*file, next, ahead) {
             return Summed { end, next, ahead };
         }
         let from = Summed { end, next, ahead };
-        let more = sum_runs(s, plan, env, entry, level, from, ranks, counts);
+        let more = sum_runs(file, plan, env, entry, level, from, ranks, counts);
         end = merge(false, ranks, counts, used, end, more.end, 0, 0);
         next = more.next;
         ahead = more.ahead;

@@ -18,7 +18,7 @@ ghost use Rattle.plan.specs.internal.Layout.{ranksIn, pairIn};
 ghost use Rattle.net.specs.Net.{Place};
 ghost use Rattle.net.specs.Reader.{readExpression};
 ghost use Rattle.evaluation.specs.internal.Evaluated.{scopeIn, placeBy};
-ghost use Rattle.runs.specs.internal.Terms.{term, Appended};
+ghost use Rattle.runs.specs.internal.Terms.{term, ArcsAppended};
 ghost use Rattle.sums.specs.internal.Loaded.{ListedTold};
 
 // An arc expression's multiset: where its terms end in the lent lists, the count of every other rank, and the place after the expression.
@@ -45,8 +45,8 @@ pub fn store_below(
 ) -> usize
     requires { ⌜ below ≤ 65535 ⌝ }
     ensures inside { λ r. ⌜ (rank < below → used < length (now (ranks .entry)) → used < length (now (counts .entry))
-        → Appended (term rank count ∷ []) (now (ranks .entry)) (now (counts .entry)) used (now (ranks .exit)) (now (counts .exit)) r) ⌝ }
-    ensures outside { λ r. ⌜ (below ≤ rank → Appended [] (now (ranks .entry)) (now (counts .entry)) used (now (ranks .exit)) (now (counts .exit)) r) ⌝ }
+        → ArcsAppended (term rank count ∷ []) (now (ranks .entry)) (now (counts .entry)) used (now (ranks .exit)) (now (counts .exit)) r) ⌝ }
+    ensures outside { λ r. ⌜ (below ≤ rank → ArcsAppended [] (now (ranks .entry)) (now (counts .entry)) used (now (ranks .exit)) (now (counts .exit)) r) ⌝ }
     ensures low { λ r. ⌜ used ≤ r ⌝ }
 {
     if below <= rank {
@@ -79,7 +79,7 @@ fn anew(m: Multiset) -> Multiset
 
 // Two expressions one after the other, behind 0x42 or 0x43: their sum, or the first less the second.
 fn list_joined(
-    s: &&[u8],
+    file: &&[u8],
     plan: &[u32; 3584],
     env: &[u8; 32],
     entry: u64,
@@ -88,22 +88,22 @@ fn list_joined(
     counts: &mut [u16],
     used: usize,
 ) -> Multiset
-    requires { ⌜ length (now (now s)) < 2 ^ 63 ⌝ }
-    requires inner { ⌜ (1 ≤ spot .left) × (spot .at < length (now (now s))) ⌝ }
-    requires either { ⌜ (0x42 ≤ byteAt (now (now s)) (spot .at)) × (byteAt (now (now s)) (spot .at) ≤ 0x43) ⌝ }
+    requires { ⌜ length (now (now file)) < 2 ^ 63 ⌝ }
+    requires inner { ⌜ (1 ≤ spot .left) × (spot .at < length (now (now file))) ⌝ }
+    requires either { ⌜ (0x42 ≤ byteAt (now (now file)) (spot .at)) × (byteAt (now (now file)) (spot .at) ≤ 0x43) ⌝ }
     ensures is { λ r. ⌜ ((known : List Place) (first second : ℕ) → ListedTold (scopeIn (now (plan .entry)) known) (now (env .entry)) (ranksIn entry)
         (now (ranks .entry)) (now (counts .entry)) used (now (ranks .exit)) (now (counts .exit)) r
-        (readExpression (now (now (s .entry))) (scopeIn (now (plan .entry)) known) (placeBy (pairIn entry) first second) (spot .left) (spot .at))) ⌝ }
+        (readExpression (now (now (file .entry))) (scopeIn (now (plan .entry)) known) (placeBy (pairIn entry) first second) (spot .left) (spot .at))) ⌝ }
     ensures low { λ r. ⌜ used ≤ r .end ⌝ }
 {
-    let file = *s;
+    let bytes = *file;
     let at = spot.at;
-    let less = file[at] == 0x43;
+    let less = bytes[at] == 0x43;
     let left = spot.left - 1;
     let first = Spot { left, at: at + 1 };
-    let e = list_terms(s, plan, env, entry, first, ranks, counts, used);
+    let e = list_terms(file, plan, env, entry, first, ranks, counts, used);
     let second = Spot { left, at: e.next };
-    let f = list_terms(s, plan, env, entry, second, ranks, counts, e.end);
+    let f = list_terms(file, plan, env, entry, second, ranks, counts, e.end);
     Multiset {
         end: merge(less, ranks, counts, used, e.end, f.end, e.rest, f.rest),
         rest: join(less, e.rest, f.rest),
@@ -113,7 +113,7 @@ fn list_joined(
 
 // A factor times an expression, behind 0x44.
 fn list_times(
-    s: &&[u8],
+    file: &&[u8],
     plan: &[u32; 3584],
     env: &[u8; 32],
     entry: u64,
@@ -122,21 +122,21 @@ fn list_times(
     counts: &mut [u16],
     used: usize,
 ) -> Multiset
-    requires { ⌜ length (now (now s)) < 2 ^ 63 ⌝ }
-    requires inner { ⌜ (1 ≤ spot .left) × (spot .at < length (now (now s))) ⌝ }
-    requires factor { ⌜ byteAt (now (now s)) (spot .at) ≡ 0x44 ⌝ }
+    requires { ⌜ length (now (now file)) < 2 ^ 63 ⌝ }
+    requires inner { ⌜ (1 ≤ spot .left) × (spot .at < length (now (now file))) ⌝ }
+    requires factor { ⌜ byteAt (now (now file)) (spot .at) ≡ 0x44 ⌝ }
     ensures is { λ r. ⌜ ((known : List Place) (first second : ℕ) → ListedTold (scopeIn (now (plan .entry)) known) (now (env .entry)) (ranksIn entry)
         (now (ranks .entry)) (now (counts .entry)) used (now (ranks .exit)) (now (counts .exit)) r
-        (readExpression (now (now (s .entry))) (scopeIn (now (plan .entry)) known) (placeBy (pairIn entry) first second) (spot .left) (spot .at))) ⌝ }
+        (readExpression (now (now (file .entry))) (scopeIn (now (plan .entry)) known) (placeBy (pairIn entry) first second) (spot .left) (spot .at))) ⌝ }
     ensures low { λ r. ⌜ used ≤ r .end ⌝ }
 {
     let at = spot.at;
-    let factor = word_at(*s, at + 1) as u16;
+    let factor = word_at(*file, at + 1) as u16;
     let inside = Spot {
         left: spot.left - 1,
         at: at + 3,
     };
-    let e = list_terms(s, plan, env, entry, inside, ranks, counts, used);
+    let e = list_terms(file, plan, env, entry, inside, ranks, counts, used);
     scale(counts, used, e.end, factor);
     Multiset {
         end: e.end,
@@ -147,7 +147,7 @@ fn list_times(
 
 // The terms of an expression that has others inside, 0x42 to 0x44.
 fn list_inside(
-    s: &&[u8],
+    file: &&[u8],
     plan: &[u32; 3584],
     env: &[u8; 32],
     entry: u64,
@@ -156,19 +156,19 @@ fn list_inside(
     counts: &mut [u16],
     used: usize,
 ) -> Multiset
-    requires { ⌜ length (now (now s)) < 2 ^ 63 ⌝ }
-    requires inner { ⌜ (1 ≤ spot .left) × (spot .at < length (now (now s))) ⌝ }
-    requires other { ⌜ (byteAt (now (now s)) (spot .at) ≡ 0x40 → ⊥) × (byteAt (now (now s)) (spot .at) ≡ 0x41 → ⊥) ⌝ }
+    requires { ⌜ length (now (now file)) < 2 ^ 63 ⌝ }
+    requires inner { ⌜ (1 ≤ spot .left) × (spot .at < length (now (now file))) ⌝ }
+    requires other { ⌜ (byteAt (now (now file)) (spot .at) ≡ 0x40 → ⊥) × (byteAt (now (now file)) (spot .at) ≡ 0x41 → ⊥) ⌝ }
     ensures is { λ r. ⌜ ((known : List Place) (first second : ℕ) → ListedTold (scopeIn (now (plan .entry)) known) (now (env .entry)) (ranksIn entry)
         (now (ranks .entry)) (now (counts .entry)) used (now (ranks .exit)) (now (counts .exit)) r
-        (readExpression (now (now (s .entry))) (scopeIn (now (plan .entry)) known) (placeBy (pairIn entry) first second) (spot .left) (spot .at))) ⌝ }
+        (readExpression (now (now (file .entry))) (scopeIn (now (plan .entry)) known) (placeBy (pairIn entry) first second) (spot .left) (spot .at))) ⌝ }
     ensures low { λ r. ⌜ used ≤ r .end ⌝ }
 {
-    let file = *s;
+    let bytes = *file;
     let at = spot.at;
-    let b = file[at];
+    let b = bytes[at];
     if b == 0x44 {
-        return anew(list_times(s, plan, env, entry, spot, ranks, counts, used));
+        return anew(list_times(file, plan, env, entry, spot, ranks, counts, used));
     }
     if b < 0x42 {
         return nothing(used, at);
@@ -176,12 +176,12 @@ fn list_inside(
     if 0x43 < b {
         return nothing(used, at);
     }
-    anew(list_joined(s, plan, env, entry, spot, ranks, counts, used))
+    anew(list_joined(file, plan, env, entry, spot, ranks, counts, used))
 }
 
 // The terms of the arc expression at a spot, for the ranks that an arc's entry tells; they follow those that are used.
 pub fn list_terms(
-    s: &&[u8],
+    file: &&[u8],
     plan: &[u32; 3584],
     env: &[u8; 32],
     entry: u64,
@@ -190,22 +190,22 @@ pub fn list_terms(
     counts: &mut [u16],
     used: usize,
 ) -> Multiset
-    requires { ⌜ length (now (now s)) < 2 ^ 63 ⌝ }
+    requires { ⌜ length (now (now file)) < 2 ^ 63 ⌝ }
     ensures is { λ r. ⌜ ((known : List Place) (first second : ℕ) → ListedTold (scopeIn (now (plan .entry)) known) (now (env .entry)) (ranksIn entry)
         (now (ranks .entry)) (now (counts .entry)) used (now (ranks .exit)) (now (counts .exit)) r
-        (readExpression (now (now (s .entry))) (scopeIn (now (plan .entry)) known) (placeBy (pairIn entry) first second) (spot .left) (spot .at))) ⌝ }
+        (readExpression (now (now (file .entry))) (scopeIn (now (plan .entry)) known) (placeBy (pairIn entry) first second) (spot .left) (spot .at))) ⌝ }
     ensures low { λ r. ⌜ used ≤ r .end ⌝ }
 {
-    let file = *s;
+    let bytes = *file;
     let at = spot.at;
-    if file.len() <= at {
+    if bytes.len() <= at {
         return nothing(used, at);
     }
-    let b = file[at];
+    let b = bytes[at];
     if b == 0x41 {
         return Multiset {
             end: used,
-            rest: word_at(file, at + 1) as u16,
+            rest: word_at(bytes, at + 1) as u16,
             next: at + 3,
         };
     }
@@ -213,13 +213,13 @@ pub fn list_terms(
         return nothing(used, at);
     }
     if b == 0x40 {
-        let k = eval_rank(file, plan, env, is_pair(entry), spot.left - 1, at + 3);
-        let number = word_at(file, at + 1) as u16;
+        let k = eval_rank(bytes, plan, env, is_pair(entry), spot.left - 1, at + 3);
+        let number = word_at(bytes, at + 1) as u16;
         return Multiset {
             end: store_below(ranks, counts, used, ranks_of(entry), k.rank, number),
             rest: 0,
             next: k.next,
         };
     }
-    anew(list_inside(s, plan, env, entry, spot, ranks, counts, used))
+    anew(list_inside(file, plan, env, entry, spot, ranks, counts, used))
 }

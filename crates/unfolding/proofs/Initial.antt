@@ -12,7 +12,7 @@ use Rattle.net.specs.Net.{Net, coloursOf, placeAt, flatPlaceCount, tokensOn}
 use Rattle.net_transitions.proofs.Spaces.{below-next}
 use Rattle.bindings.specs.Effect.{FlatPlace, flatPlaces}
 use Rattle.prepared.specs.internal.Drawing.{startOf}
-use Rattle.prepared.specs.internal.Prepared.{Marked}
+use Rattle.prepared.specs.internal.Prepared.{InitialCounts}
 use Rattle.prepared.proofs.Starts.{start-next, start-low}
 use Rattle.row_numbers.specs.Unfolding.{unfolded, initialAt}
 
@@ -30,7 +30,7 @@ take-on l a (suc c) h =
     ∙ append-assoc (take a l) (map f (below c)) (f c ∷ [])
     ∙ ap (λ m. take a l ++ m) (sym (map-append f (below c) (c ∷ [])) ∙ ap (map f) (sym b))
 
-module _ (n : Net) (initial : List ℕ) (marked : Marked n initial) (room : flatPlaceCount n ≤ length initial) where
+module _ (n : Net) (initial : List ℕ) (marked : InitialCounts n initial) (room : flatPlaceCount n ≤ length initial) where
   abbrev ranksOf : ℕ → List FlatPlace
   ranksOf p = map (λ rank. record { place = p; rank = rank }) (below (coloursOf n (placeAt n p)))
 

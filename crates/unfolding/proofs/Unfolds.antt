@@ -21,8 +21,8 @@ use Rattle.rows.specs.internal.Slots.{NetSlotted}
 use Rattle.reading.proofs.Clash.{not-true, not-false}
 use Rattle.rows.proofs.Fires.{small-room}
 use Rattle.row_numbers.specs.Unfolding.{flatFile, WriteCall, unfoldCall, line, program}
-use Rattle.row_bytes.specs.internal.RowBytes.{allBytes, Ruled, Small, Tabled}
-use Rattle.row_numbers.specs.internal.Marks.{Marked, Counted}
+use Rattle.row_bytes.specs.internal.RowBytes.{allBytes, Ruled, FewSlots, Tabled}
+use Rattle.row_numbers.specs.internal.Marks.{Marked, RowsCounted}
 use Rattle.flat_file.specs.internal.Output.{Appended}
 use Rattle.flat_file.proofs.Appending.{append-then, append-all, append-count}
 use Rattle.row_bytes.proofs.RowBytes.{rows-bytes}
@@ -56,7 +56,7 @@ module _ {s plan initial : List ℕ} (t : Tabled s plan initial) where
   file-is = rw (t .counts, sym (rows-bytes (t .net)))
 
   -- lists of 1,024 slots have the room for its rows, where these need few
-  pub is-small : {slots : ℕ} → NetSlotted s plan slots → leb (slots + length s / 2) 1024 ≡ true → Small s
+  pub is-small : {slots : ℕ} → NetSlotted s plan slots → leb (slots + length s / 2) 1024 ≡ true → FewSlots s
   is-small enough few n read =
       let both : accepted n ≡ accepted (t .net) = sym read ∙ t .ready .read in
       let same : n ≡ t .net = cc in
@@ -101,8 +101,8 @@ module _ {s plan initial : List ℕ} (t : Tabled s plan initial) where
 
   -- with the marks, and the number of each transition's rows
   abbrev pub ruled-marked : {marks rows : List ℕ} {A : Type 0}
-      → ((n : Net) → Prepared s n plan → A → Marked n plan marks (length (n .transitions)) × Counted n rows (length (n .transitions)))
-      → A → ((k : Ruled s plan marks) × Counted (k .net) rows (length (k .net .transitions)))
+      → ((n : Net) → Prepared s n plan → A → Marked n plan marks (length (n .transitions)) × RowsCounted n rows (length (n .transitions)))
+      → A → ((k : Ruled s plan marks) × RowsCounted (k .net) rows (length (k .net .transitions)))
   ruled-marked told a = let both = told (t .net) (t .ready) a in (record { net = t .net; ready = t .ready; marked = both .0 }, both .1)
 
 -- ---- the file as it was prepared

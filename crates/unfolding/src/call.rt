@@ -5,6 +5,7 @@ use flat_file::write_places;
 use plan::flat_places_of;
 use prepared::Preparing;
 use prepared::prepare;
+use reading::once_more;
 use row_bytes::fits;
 use row_bytes::write_all;
 use row_numbers::mark_all;
@@ -15,7 +16,7 @@ ghost use lib.ListN.{length};
 ghost use Rattle.prepared.specs.internal.Filled.{Readied};
 ghost use Rattle.row_numbers.specs.Unfolding.{unfoldCall};
 ghost use Rattle.row_numbers.specs.internal.Marks.{Blank};
-ghost use Rattle.row_bytes.specs.internal.RowBytes.{Roomy, Small, Tabled};
+ghost use Rattle.row_bytes.specs.internal.RowBytes.{Roomy, FewSlots, Tabled};
 ghost use Rattle.unfolding.specs.Replies.{unfoldCalled};
 
 // The flat file's length in bytes, or why it was not written.
@@ -26,7 +27,7 @@ pub enum UnfoldReply {
 
 // Writes the flat file of a prepared net, if there is space for it, with lists lent for marks and for a row's arcs.
 fn write_with(
-    s: &[u8],
+    file: &[u8],
     plan: &[u32; 3584],
     initial: &[u16],
     marks: &mut [u32; 2048],
@@ -34,13 +35,13 @@ fn write_with(
     amounts: &mut [u16],
     out: &mut [u8],
 ) -> UnfoldReply
-    requires { ⌜ (length (now initial) ≡ 4096) × Roomy (now s) (now places) × Roomy (now s) (now amounts) × (length (now marks) ≡ 2048) × Blank (now marks) 0 ⌝ }
-    requires { ⌜ Tabled (now s) (now plan) (now initial) ⌝ }
-    ensures { λ r. ⌜ unfoldCalled r (now (out .exit)) ≡ unfoldCall (now (s .entry)) (now (out .entry)) ⌝ }
+    requires { ⌜ (length (now initial) ≡ 4096) × Roomy (now file) (now places) × Roomy (now file) (now amounts) × (length (now marks) ≡ 2048) × Blank (now marks) 0 ⌝ }
+    requires { ⌜ Tabled (now file) (now plan) (now initial) ⌝ }
+    ensures { λ r. ⌜ unfoldCalled r (now (out .exit)) ≡ unfoldCall (now (file .entry)) (now (out .entry)) ⌝ }
 {
     let mut counts = [0usize; 32];
-    mark_all(s, plan, marks, &mut counts);
-    if !fits(s, plan, marks, &counts, places, amounts, out.len()) {
+    mark_all(file, plan, marks, &mut counts);
+    if !fits(file, plan, marks, &counts, places, amounts, out.len()) {
         return UnfoldReply::Refused {
             number: 14,
             place: 0,
@@ -48,56 +49,69 @@ fn write_with(
     }
     let mut next = write_head(out, 0);
     next = write_places(initial, flat_places_of(plan), out, next);
-    next = write_all(s, plan, marks, places, amounts, out, next);
+    next = write_all(file, plan, marks, places, amounts, out, next);
     let length = write_end(out, next);
     UnfoldReply::Written { length }
 }
 
 // With small lists, where the rows have room in them.
-fn write_small(s: &[u8], plan: &[u32; 3584], initial: &[u16], out: &mut [u8]) -> UnfoldReply
-    requires { ⌜ (length (now initial) ≡ 4096) × Small (now s) ⌝ }
-    requires { ⌜ Tabled (now s) (now plan) (now initial) ⌝ }
-    ensures { λ r. ⌜ unfoldCalled r (now (out .exit)) ≡ unfoldCall (now (s .entry)) (now (out .entry)) ⌝ }
+fn write_small(file: &[u8], plan: &[u32; 3584], initial: &[u16], out: &mut [u8]) -> UnfoldReply
+    requires { ⌜ (length (now initial) ≡ 4096) × FewSlots (now file) ⌝ }
+    requires { ⌜ Tabled (now file) (now plan) (now initial) ⌝ }
+    ensures { λ r. ⌜ unfoldCalled r (now (out .exit)) ≡ unfoldCall (now (file .entry)) (now (out .entry)) ⌝ }
 {
     let mut places = [0u16; 1024];
     let mut amounts = [0u16; 1024];
     let mut marks = [0u32; 2048];
-    write_with(s, plan, initial, &mut marks, &mut places, &mut amounts, out)
+    write_with(
+        file,
+        plan,
+        initial,
+        &mut marks,
+        &mut places,
+        &mut amounts,
+        out,
+    )
 }
 
-// With lists that have room for every net. It can call itself, once, on an empty file, whose rows need none: so the compiler keeps it
-// apart, and its lists lie in no other function's frame.
+// With lists that have room for every net. Kept apart (once_more).
 fn write_large(
-    s: &[u8],
+    file: &[u8],
     plan: &[u32; 3584],
     initial: &[u16],
     out: &mut [u8],
     again: bool,
 ) -> UnfoldReply
     requires { ⌜ length (now initial) ≡ 4096 ⌝ }
-    requires { ⌜ Tabled (now s) (now plan) (now initial) ⌝ }
-    ensures { λ r. ⌜ unfoldCalled r (now (out .exit)) ≡ unfoldCall (now (s .entry)) (now (out .entry)) ⌝ }
+    requires { ⌜ Tabled (now file) (now plan) (now initial) ⌝ }
+    ensures { λ r. ⌜ unfoldCalled r (now (out .exit)) ≡ unfoldCall (now (file .entry)) (now (out .entry)) ⌝ }
 {
-    if s.len() < 1 {
-        if again {
-            return write_large(s, plan, initial, out, false);
-        }
+    if once_more(file, again) {
+        return write_large(file, plan, initial, out, false);
     }
     let mut places = [0u16; 20480];
     let mut amounts = [0u16; 20480];
     let mut marks = [0u32; 2048];
-    write_with(s, plan, initial, &mut marks, &mut places, &mut amounts, out)
+    write_with(
+        file,
+        plan,
+        initial,
+        &mut marks,
+        &mut places,
+        &mut amounts,
+        out,
+    )
 }
 
 // Writes the flat file of a prepared net, if there is space for it.
-fn write_file(s: &[u8], plan: &[u32; 3584], initial: &[u16; 4096], out: &mut [u8]) -> UnfoldReply
-    requires { ⌜ Readied (now s) (now plan) (now initial) ⌝ }
-    ensures { λ r. ⌜ unfoldCalled r (now (out .exit)) ≡ unfoldCall (now (s .entry)) (now (out .entry)) ⌝ }
+fn write_file(file: &[u8], plan: &[u32; 3584], initial: &[u16; 4096], out: &mut [u8]) -> UnfoldReply
+    requires { ⌜ Readied (now file) (now plan) (now initial) ⌝ }
+    ensures { λ r. ⌜ unfoldCalled r (now (out .exit)) ≡ unfoldCall (now (file .entry)) (now (out .entry)) ⌝ }
 {
-    if is_small(most_slots(s, plan), s.len()) {
-        return write_small(s, plan, initial, out);
+    if is_small(most_slots(file, plan), file.len()) {
+        return write_small(file, plan, initial, out);
     }
-    write_large(s, plan, initial, out, true)
+    write_large(file, plan, initial, out, true)
 }
 
 // Unfolds a net file: the flat file over the front of `out`, and its length; a refusal changes nothing.

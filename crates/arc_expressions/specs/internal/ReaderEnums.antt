@@ -12,9 +12,9 @@ abbrev pub expressionTold : Answer Expression → Read
 expressionTold answer = told ceiling inExpression answer
 
 -- no ceiling passes 65,535
-abbrev pub Small : Read → Type 0
-Small (read.Whole next measure uses) = measure ≤ 65535
-Small (read.Fault number place) = Unit {0}
+abbrev pub SmallCeiling : Read → Type 0
+SmallCeiling (read.Whole next measure uses) = measure ≤ 65535
+SmallCeiling (read.Fault number place) = Unit {0}
 
 -- a ceiling that may not pass 65,535 (8)
 abbrev pub measured : ℕ → ℕ → ℕ → ℕ → Read

@@ -14,7 +14,7 @@ fire-on-spec =
     (λ c κs. search needs)
     (λ c. search needs)
     (λ c. search needs)
-    (λ c. λ n ready. c .before .before .before .before .fire-small .ensures n ready (small-room (now (c .before .before .before .before .before .before .before .before .before .before .before .before .before .before .args .s)) n (c .before .before .before .before .before .before .before .before .before .most-slots .ensures .0 n ready) (sym (c .before .before .before .before .before .before .before .before .is-small .ensures) ∙ c .before .before .before .before .before .before .before .if1 .taken)))
+    (λ c. λ n ready. c .before .before .before .before .fire-small .ensures n ready (small-room (now (c .before .before .before .before .before .before .before .before .before .before .before .before .before .before .args .file)) n (c .before .before .before .before .before .before .before .before .before .most-slots .ensures .0 n ready) (sym (c .before .before .before .before .before .before .before .before .is-small .ensures) ∙ c .before .before .before .before .before .before .before .if1 .taken)))
     (λ c κs. search needs)
     (λ c. search needs)
     (λ c. search needs)

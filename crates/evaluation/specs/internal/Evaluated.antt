@@ -31,9 +31,9 @@ Valued n env r (fine k next) = r ≡ record { colour = colour n (bound env) k; s
 Valued n env r (fault number place) = Unit {0}
 
 -- where they hold a guard, whether it holds, and the place after it
-abbrev pub Held : Net → List ℕ → Tested → Answer Guard → Type 0
-Held n env r (fine g next) = r ≡ record { holds = holds n (bound env) g; next = next }
-Held n env r (fault number place) = Unit {0}
+abbrev pub GuardHeld : Net → List ℕ → Tested → Answer Guard → Type 0
+GuardHeld n env r (fine g next) = r ≡ record { holds = holds n (bound env) g; next = next }
+GuardHeld n env r (fault number place) = Unit {0}
 
 -- a place of one set or of two
 abbrev pub placeBy : Bool → ℕ → ℕ → Place

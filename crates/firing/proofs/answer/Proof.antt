@@ -1,4 +1,5 @@
-use borrow.Author.Needs.{needs}
+use borrow.Author.Needs.{needs, zero≤}
+use native.Mathlib.Omega.{arith}
 use mathlib.Core.Path.{ap}
 use Rattle.firing.proofs.Rule.{fires-3}
 use native.Mathlib.Nat.{zero-add}
@@ -11,6 +12,6 @@ answer-spec =
     tie.close
     (tie.spec
     (λ c κs. search needs)
-    (λ c proper. ap (λ f. f .answer) (fires-3 _ _ proper _ (first-shows _ _ _ _ _ (rw zero-add (c .before .before .lacking-at .ensures)) (c .if1 .taken))))
+    (λ c proper. ap (λ f. f .answer) (fires-3 _ _ proper _ (first-shows _ _ _ _ _ (rw zero-add (c .before .before .lacking-at .ensures)) zero≤ (c .if1 .taken))))
     (λ c κs. search needs)
-    (λ c proper. c .rest-answer .ensures proper (first-fails _ _ _ _ _ (rw zero-add (c .before .before .before .lacking-at .ensures)) (c .before .if1 .left))))
+    (λ c proper. c .rest-answer .ensures proper (first-fails _ _ _ _ _ {r = c .before .before .before .lacking-at .result} (rw zero-add (c .before .before .before .lacking-at .ensures)) (omega (arith, c .before .if1 .left)))))

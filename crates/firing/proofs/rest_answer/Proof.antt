@@ -12,7 +12,7 @@ rest-answer-spec =
     tie.close
     (tie.spec
     (λ c κs. search needs)
-    (λ c proper none. answer-4 _ _ proper [] (none-kept (c .before .before .before .before .before .args .m .now) (λ p. omega (arith, c .before .before .shared-slice-known3 .given p))) none (first-shows _ _ _ _ _ (c .before .hindering-at .ensures) (c .if1 .taken)))
+    (λ c proper none. answer-4 _ _ proper [] (none-kept (c .before .before .before .before .before .args .m .now) (λ p. omega (arith, c .before .before .shared-slice-known3 .given p))) none (first-shows _ _ _ _ _ (c .before .hindering-at .ensures) (c .before .before .before .before .before .pre .1) (c .if1 .taken)))
     (λ c κs. search needs)
-    (λ c proper none. answer-5 _ _ proper [] (none-kept (c .before .before .before .before .before .before .before .args .m .now) (λ p. omega (arith, c .before .before .before .before .shared-slice-known3 .given p))) none (first-fails _ _ _ _ _ (c .before .before .before .hindering-at .ensures) (c .before .before .if1 .left)) (first-shows _ _ _ _ _ (c .before .spilling-at .ensures _ (proper .takes) (proper .puts)) (c .if2 .taken)))
-    (λ c proper none. answer-0 _ _ proper [] (none-kept (c .before .before .before .before .before .before .before .args .m .now) (λ p. omega (arith, c .before .before .before .before .shared-slice-known3 .given p))) none (first-fails _ _ _ _ _ (c .before .before .before .hindering-at .ensures) (c .before .before .if1 .left)) (first-fails _ _ _ _ _ (c .before .spilling-at .ensures _ (proper .takes) (proper .puts)) (c .if2 .left))))
+    (λ c proper none. answer-5 _ _ proper [] (none-kept (c .before .before .before .before .before .before .before .args .m .now) (λ p. omega (arith, c .before .before .before .before .shared-slice-known3 .given p))) none (first-fails _ _ _ _ _ (c .before .before .before .hindering-at .ensures) (omega (arith, c .before .before .if1 .left))) (first-shows _ _ _ _ _ (c .before .spilling-at .ensures _ (proper .takes) (proper .puts)) (c .before .before .before .before .before .before .before .pre .0) (c .if2 .taken)))
+    (λ c proper none. answer-0 _ _ proper [] (none-kept (c .before .before .before .before .before .before .before .args .m .now) (λ p. omega (arith, c .before .before .before .before .shared-slice-known3 .given p))) none (first-fails _ _ _ _ _ (c .before .before .before .hindering-at .ensures) (omega (arith, c .before .before .if1 .left))) (first-fails _ _ _ _ _ (c .before .spilling-at .ensures _ (proper .takes) (proper .puts)) (omega (arith, c .if2 .left)))))

@@ -1,4 +1,4 @@
-use borrow.Author.Needs.{needs}
+use borrow.Author.Needs.{needs, zero≤}
 use native.Mathlib.Nat.{zero-add}
 use Rattle.firing.proofs.Passes.{first-tells}
 use Rattle.firing.proofs.some_lacks.Statement.{statement}
@@ -10,5 +10,5 @@ some-lacks-spec =
     (tie.spec
     (λ c κs. search needs)
     (λ c κs. rw (c .if1 .taken) at (c .before .within .ensures))
-    (λ c fits. first-tells _ _ _ _ _ (rw zero-add (c .lacking-at .ensures)))
+    (λ c fits. first-tells _ _ _ _ _ (rw zero-add (c .lacking-at .ensures)) zero≤)
     (λ c fits. absurd ((rw (c .if1 .left) at (c .before .within .ensures)) fits)))

@@ -39,8 +39,8 @@ abbrev pub spilling : List ℕ → List ℕ → List Arc → Arc → Bool
 spilling caps m takes a = ltb (capacity caps (a .place)) (getD m (a .place) 0 - weightIn takes (a .place) + a .weight)
 
 -- each capacity fits a u16
-abbrev pub Small : List ℕ → Type 0
-Small caps = (p : ℕ) → capacity caps p < 65536
+abbrev pub SmallCapacities : List ℕ → Type 0
+SmallCapacities caps = (p : ℕ) → capacity caps p < 65536
 
 -- the number of the first arc of which a test holds; how many there are where it holds of none
 unfoldable pub firstIn : (Arc → Bool) → List Arc → ℕ

@@ -5,13 +5,13 @@ use mathlib.Core.Path.{_≡_, refl}
 use Rattle.reading.specs.Basics.{_-_, length, items}
 use Rattle.firing.proofs.Running.{Running, run-begin, run-item, run-items-end}
 use Rattle.flat_file.specs.Flat.{Flat, fireImage}
-use Rattle.flat_file.specs.internal.ReaderEnums.{Held}
+use Rattle.flat_file.specs.internal.ReaderEnums.{FlatHeld}
 use Rattle.flat.proofs.fire_list.Statement.{statement}
 use Rattle.flat.proofs.fire_list.Tie as tie
 
 abbrev Inv-loop : tie.InvT-loop
 Inv-loop s starts rows m₀ images answers₀ places₀ weights₀ count i₀ m answers places weights i =
-    ((f : Flat) → Held s starts (length m₀) rows f → Running (fireImage f) (items 5 images) m₀ answers₀ m answers i)
+    ((f : Flat) → FlatHeld s starts (length m₀) rows f → Running (fireImage f) (items 5 images) m₀ answers₀ m answers i)
     × (length m ≡ length m₀) × (length answers ≡ length answers₀) × (length places ≡ length places₀) × (length weights ≡ length weights₀)
 
 abbrev μ-loop : tie.MeasureT-loop
@@ -28,7 +28,7 @@ fire-list-spec =
     (λ c. omega arith)
     (λ c. omega arith)
     (λ c. omega arith)
-    (λ c. (λ f held. run-item (fireImage f) 5 (now (c .before .before .before .before .before .before .before .before .before .before .before .before .before .before .before .before .before .before .before .args .images)) _ _ (c .before .before .before .before .before .before .before .before .before .before .before .loop .inv .0 f held) _ _ (c .before .before .before .before .before .before .before .before .before .before .loop-test .taken) (c .before .before .before .before .before .before .before .before .before .before .before .before .before .before .before .before .before .before .before .pre .0) (c .before .before .before .before .before .before .turn .ensures f (rw (c .before .before .before .before .before .before .before .before .before .before .before .loop .inv .1) held)) (c .before .before .before .before .before .before .turn .kept .1 .1 .1 .0), search needs, search needs, search needs, search needs))
+    (λ c. (λ f held. run-item (fireImage f) 5 (now (c .before .before .before .before .before .before .before .before .before .before .before .before .before .before .before .before .before .before .before .args .images)) _ _ (c .before .before .before .before .before .before .before .before .before .before .before .loop .inv .0 f held) _ _ (c .before .before .before .before .before .before .before .before .before .before .loop-test .taken) (c .before .before .before .before .before .before .before .before .before .before .before .before .before .before .before .before .before .before .before .pre .0) (c .before .before .before .before .before .before .fire-nth .ensures f (rw (c .before .before .before .before .before .before .before .before .before .before .before .loop .inv .1) held)) (c .before .before .before .before .before .before .fire-nth .kept .1 .1 .1 .0), search needs, search needs, search needs, search needs))
     (λ c. search needs)
     (λ c. search needs)
     (λ c. search needs)

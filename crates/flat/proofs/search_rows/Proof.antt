@@ -5,14 +5,14 @@ use Rattle.reading.specs.Basics.{_-_, length, eqb, below}
 use Prim.Native.Nat.{_≤_}
 use Rattle.firing.proofs.Running.{Searching, search-begin, below-step, below-found, below-none, stopped-in, stopped-out}
 use Rattle.flat_file.specs.Flat.{Flat, fireRow}
-use Rattle.flat_file.specs.internal.ReaderEnums.{Held}
+use Rattle.flat_file.specs.internal.ReaderEnums.{FlatHeld}
 use Rattle.flat.proofs.Imaged.{row-fires}
 use Rattle.flat.proofs.search_rows.Statement.{statement}
 use Rattle.flat.proofs.search_rows.Tie as tie
 
 abbrev Inv-loop : tie.InvT-loop
 Inv-loop s starts rows m places₀ weights₀ i₀ places weights i =
-    ((f : Flat) → Held s starts (length m) rows f → Searching (λ j. eqb (fireRow f j m .answer) 0) (below rows) i)
+    ((f : Flat) → FlatHeld s starts (length m) rows f → Searching (λ j. eqb (fireRow f j m .answer) 0) (below rows) i)
     × (length places ≡ length places₀) × (length weights ≡ length weights₀) × (i ≤ rows)
 
 abbrev μ-loop : tie.MeasureT-loop

@@ -119,8 +119,8 @@ PlacesRead s start (part.Whole places rows next) = PlacesHeld s start places nex
 PlacesRead s start (part.Fault number place) = fault number place ≡ whole s (placePart s) [] start
 
 -- where a row's arcs start, as far as the list of starts reaches, the row can be read again
-abbrev pub Stands : List ℕ → ℕ → List ℕ → List Row → Type 0
-Stands s places starts rows =
+abbrev pub RowsReadable : List ℕ → ℕ → List ℕ → List Row → Type 0
+RowsReadable s places starts rows =
     (i : ℕ) → i < length rows → i < length starts → (next : ℕ) × (arcsAt s places (getD starts i 0) ≡ fine (getD rows i (row [] [] [])) next)
 
 -- so many rows stand from a place to another, over so many flat places
@@ -129,7 +129,7 @@ pub record RowsHeld (s : List ℕ) (places start : ℕ) (starts : List ℕ) (cou
   pub sized : length rows ≡ count
   pub fits : count ≤ mostRows (length s)
   pub is : fine rows next ≡ whole s (rowPart s places) [] start
-  pub stands : Stands s places starts rows
+  pub stands : RowsReadable s places starts rows
 
 abbrev pub RowsRead : List ℕ → ℕ → ℕ → List ℕ → Part → Type 0
 RowsRead s n start starts (part.Whole places rows next) = RowsHeld s n start starts rows next
@@ -168,7 +168,7 @@ scanOf (part.Whole places rows next) = scan.Net places rows
 scanOf (part.Fault number place) = scan.Refused number place
 
 -- a flat file's net of so many flat places and rows, with the start of each row's arcs as far as the list of starts reaches
-pub record Held (s starts : List ℕ) (places rows : ℕ) (f : Flat) : Type 0 where
+pub record FlatHeld (s starts : List ℕ) (places rows : ℕ) (f : Flat) : Type 0 where
   pub is : readFlat s ≡ accepted f
   pub places-are : length (f .initial) ≡ places
   pub rows-are : length (f .rows) ≡ rows
@@ -177,5 +177,5 @@ pub record Held (s starts : List ℕ) (places rows : ℕ) (f : Flat) : Type 0 wh
   pub stands : (i : ℕ) → i < rows → i < length starts → (next : ℕ) × (arcsAt s places (getD starts i 0) ≡ fine (getD (f .rows) i (row [] [] [])) next)
 
 abbrev pub Scanned : List ℕ → List ℕ → Scan → Type 0
-Scanned s starts (scan.Net places rows) = (f : Flat) × Held s starts places rows f
+Scanned s starts (scan.Net places rows) = (f : Flat) × FlatHeld s starts places rows f
 Scanned s starts (scan.Refused number place) = readFlat s ≡ refused number place

@@ -12,4 +12,4 @@ images-with-spec =
     (λ c κs. search needs)
     (λ c. search needs)
     (λ c. search needs)
-    (λ c. λ n p enough. c .before .before .write-images .ensures (c .before .before .before .before .before .before .before .before .before .before .before .before .before .before .before .before .args .s .now) n p (c .before .before .before .before .before .before .before .before .before .number-all .ensures n p enough)))
+    (λ c. λ n p enough. c .before .before .write-images .ensures (c .before .before .before .before .before .before .before .before .before .before .before .before .before .before .before .before .args .file .now) n p (c .before .before .before .before .before .before .before .before .before .number-all .ensures n p enough)))

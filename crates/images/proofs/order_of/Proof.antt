@@ -11,8 +11,8 @@ order-of-spec =
     (λ c. search needs)
     (λ c. search needs)
     (λ c κs. located-in (c .before .transition .given .1) (c .before .before .before .seek-row .ensures .1))
-    (λ c. λ n p. order-none (c .before .before .before .before .args .s .now) (p .read) (c .before .before .before .before .args .row) (c .enum-told .given .1) (c .before .before .seek-row .ensures .0 n p))
+    (λ c. λ n p. order-none (c .before .before .before .before .args .file .now) (p .read) (c .before .before .before .before .args .row) (c .enum-told .given .1) (c .before .before .seek-row .ensures .0 n p))
     (λ c. λ n p.
     let told = c .before .before .before .before .seek-row .ensures .0 n p in
-    order-found (c .before .before .before .before .before .before .args .s .now) (p .read) (c .before .before .before .before .before .before .args .row) _ (c .before .before .transition .given .1) told
-    (c .order-at .ensures (c .before .before .before .before .before .before .args .s .now) n p (located-of n (c .before .before .before .before .before .before .args .row) (c .before .before .transition .given .1) told))))
+    order-found (c .before .before .before .before .before .before .args .file .now) (p .read) (c .before .before .before .before .before .before .args .row) _ (c .before .before .transition .given .1) told
+    (c .order-at .ensures (c .before .before .before .before .before .before .args .file .now) n p (located-of n (c .before .before .before .before .before .before .args .row) (c .before .before .transition .given .1) told))))

@@ -51,7 +51,7 @@ PlacesHeld sets kinds starts (part.Fault number place) = Unit {0}
 
 -- ---- tokens
 -- each place's flat places begin no later than the next one's, and none past the total
-pub record Rising (starts : List ℕ) (count total : ℕ) : Type 0 where
+pub record StartsRise (starts : List ℕ) (count total : ℕ) : Type 0 where
   pub sized : count < length starts
   pub small : total ≤ 4096
   pub rises : (p : ℕ) → p < count → getD starts p 0 ≤ getD starts (p + 1) 0

@@ -39,8 +39,8 @@ ownIn plan = drop 152 plan
 abbrev pub arcWith : List ℕ → ℕ → ℕ
 arcWith places arc = if ltb arc 1 then 0 else arc / 32 * 134217728 + getD places (arc % 32) 0
 
-unfoldable pub arcsIn : List ℕ → List ℕ
-arcsIn plan = map (arcWith (placesIn plan)) (drop 512 plan)
+unfoldable pub packedIn : List ℕ → List ℕ
+packedIn plan = map (arcWith (placesIn plan)) (drop 512 plan)
 
 -- ---- an arc, so told: where its expression stands, where its place's flat places begin, how many ranks it has, and whether it is a pair
 abbrev pub expressionIn : ℕ → ℕ
@@ -57,11 +57,11 @@ pairIn entry = eqb (entry % 2) 1
 
 -- ---- writing
 -- so many entries from a place on were written, all others are kept
-pub record Kept (from many : ℕ) (before after : List ℕ) : Type 0 where
+pub record OthersKept (from many : ℕ) (before after : List ℕ) : Type 0 where
   pub front : (i : ℕ) → i < from → getD after i 0 ≡ getD before i 0
   pub back : (i : ℕ) → from + many ≤ i → getD after i 0 ≡ getD before i 0
 
 -- the entries of a list, from a place on
 pub record Placed (from : ℕ) (values before after : List ℕ) : Type 0 where
   pub values-are : (i : ℕ) → i < length values → getD after (from + i) 0 ≡ getD values i 0
-  pub kept : Kept from (length values) before after
+  pub kept : OthersKept from (length values) before after

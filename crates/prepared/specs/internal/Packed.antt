@@ -35,7 +35,7 @@ abbrev pub SlotsFit : List ℕ → ℕ → ℕ → Type 0
 SlotsFit slots places transitions = (t k : ℕ) → t < transitions → k < 3 → RowFits slots places (t * 96 + k * 32)
 
 -- the entry of a slot was put behind what stands before end, up to r; what stands behind it is kept
-pub record Put (slot shape : ℕ) (packed : List ℕ) (end : ℕ) (packed' : List ℕ) (r : ℕ) : Type 0 where
+pub record EntryPut (slot shape : ℕ) (packed : List ℕ) (end : ℕ) (packed' : List ℕ) (r : ℕ) : Type 0 where
   pub is : take r packed' ≡ take end packed ++ ifHeld slot (entryOf 32 slot shape)
   pub next : r ≡ end + length (ifHeld slot (entryOf 32 slot shape))
   pub back : (j : ℕ) → end < j → getD packed' j 0 ≡ getD packed j 0

@@ -22,8 +22,8 @@ abbrev pub slotSize : ℕ → ℕ
 slotSize slot = slot % 256
 
 -- the entry of a variable, by tables of sizes and of sets
-abbrev pub entryOf : List ℕ → List ℕ → ℕ → ℕ
-entryOf sizes vars v = v * 256 + sizeIn sizes vars v
+abbrev pub slotOf : List ℕ → List ℕ → ℕ → ℕ
+slotOf sizes vars v = v * 256 + sizeIn sizes vars v
 
 -- four slots from base on are 0, what stands before them is kept
 pub record Cleared (base : ℕ) (own after : List ℕ) : Type 0 where
@@ -31,7 +31,7 @@ pub record Cleared (base : ℕ) (own after : List ℕ) : Type 0 where
   pub front : (i : ℕ) → i < base → getD after i 0 ≡ getD own i 0
 
 -- a variable whose bit is 1 was put into slot k from base on, and the next goes to r
-pub record Put (bit slot base k : ℕ) (own after : List ℕ) (r : ℕ) : Type 0 where
+pub record SlotPut (bit slot base k : ℕ) (own after : List ℕ) (r : ℕ) : Type 0 where
   pub room : length own ≡ 128
   pub few : r ≤ 4
   pub out : bit < 1 → (r ≡ k) × (after ≡ own)
@@ -39,7 +39,7 @@ pub record Put (bit slot base k : ℕ) (own after : List ℕ) (r : ℕ) : Type 0
   pub front : (i : ℕ) → i < base → getD after i 0 ≡ getD own i 0
 
 -- four slots from base on hold the variables of which a test holds, where a set of bits tells them; what stands before them is kept
-pub record Listed (uses : ℕ) (sizes vars : List ℕ) (base : ℕ) (own after : List ℕ) : Type 0 where
+pub record SlotsListed (uses : ℕ) (sizes vars : List ℕ) (base : ℕ) (own after : List ℕ) : Type 0 where
   pub slots : (stands : ℕ → Bool) (count : ℕ) → uses ≡ bits stands 32 → count ≤ 32 → ((v : ℕ) → stands v ≡ true → v < count) → length (keep stands (below count)) ≤ 4
-      → (k : ℕ) → k < 4 → getD after (base + k) 0 ≡ getD (map (entryOf sizes vars) (keep stands (below count))) k 0
+      → (k : ℕ) → k < 4 → getD after (base + k) 0 ≡ getD (map (slotOf sizes vars) (keep stands (below count))) k 0
   pub front : (i : ℕ) → i < base → getD after i 0 ≡ getD own i 0

@@ -9,7 +9,7 @@ pub byte-at-spec : {M : Type 1} → statement M
 byte-at-spec =
     tie.close
     (tie.spec
+    (λ c. (sym (past (c .before .args .file .now) _ (c .if1 .taken)), omega arith))
     (λ c. search needs)
     (λ c. omega (arith, c .shared-slice-known .given (c .before .before .args .at)))
-    (λ c. (refl, omega (arith, c .shared-slice-known .given (c .before .before .args .at))))
-    (λ c. (sym (past (c .before .args .s .now) _ (c .if1 .left)), omega arith)))
+    (λ c. (refl, omega (arith, c .shared-slice-known .given (c .before .before .args .at)))))

@@ -1,9 +1,8 @@
 -- The bytes of the rows, binding by binding; and what the code that measures and writes them knows of the net.
 use mathlib.Core.Path.{_≡_}
 use Prim.Native.Nat.{_≤_, _<_}
-use Rattle.reading.specs.Basics.{ℕ, _+_, true, List, [], flatMap, some, length, take, given, below, product}
+use Rattle.reading.specs.Basics.{ℕ, _+_, true, List, [], flatMap, length, take, given, below, product}
 use Rattle.reading.specs.Reading.{accepted}
-use Rattle.firing.specs.Firing.{Weights}
 use Rattle.flat_file.specs.Flat.{rowBytes}
 use Rattle.net.specs.Net.{Net, sizesOf, flatPlaceCount, transitionAt}
 use Rattle.bindings.specs.Effect.{effect, flatRow}
@@ -27,10 +26,6 @@ transitionBytes n t = flatMap (bindingBytes n t) (below (product (sizesOf n (tra
 -- what all transitions give
 abbrev pub allBytes : Net → List ℕ
 allBytes n = flatMap (transitionBytes n) (below (length (n .transitions)))
-
--- each row of a transition has so many bytes
-abbrev pub RowsLong : Net → ℕ → ℕ → Type 0
-RowsLong n t row = (i : ℕ) (w : Weights) → i < product (sizesOf n (transitionAt n t)) → effect n (numbered n t i) ≡ some w → length (rowBytes (flatRow n w)) ≡ row
 
 -- the table is that of a net, and of each transition's bindings the marks tell which have an effect
 pub record Ruled (s plan marks : List ℕ) : Type 0 where
@@ -71,8 +66,8 @@ abbrev pub Roomy : List ℕ → List ℕ → Type 0
 Roomy s l = (n : Net) → readNet s ≡ accepted n → room s n ≤ length l
 
 -- lists of 1,024 slots have it
-abbrev pub Small : List ℕ → Type 0
-Small s = (n : Net) → readNet s ≡ accepted n → room s n ≤ 1024
+abbrev pub FewSlots : List ℕ → Type 0
+FewSlots s = (n : Net) → readNet s ≡ accepted n → room s n ≤ 1024
 
 -- the table is that of a net, with its initial counts
 pub record Tabled (s plan initial : List ℕ) : Type 0 where

@@ -24,7 +24,7 @@ abbrev pub effects : Net → ℕ → ℕ → ℕ
 effects n t many = length (keep (takesEffect n t) (below many))
 
 -- from a base on, the marks tell of a transition's first so many bindings; those below it are as they were, and no further one is set
-pub record Marking (n : Net) (t : ℕ) (was marks : List ℕ) (base size : ℕ) : Type 0 where
+pub record BindingsMarked (n : Net) (t : ℕ) (was marks : List ℕ) (base size : ℕ) : Type 0 where
   pub told : (i : ℕ) → i < size → markAt marks (base + i) ≡ takesEffect n t i
   pub same : (j : ℕ) → j < base → markAt marks j ≡ markAt was j
   pub blank : Blank marks (base + size)
@@ -34,5 +34,5 @@ pub record Marked (n : Net) (plan marks : List ℕ) (count : ℕ) : Type 0 where
   pub told : (t i : ℕ) → t < count → everyRow plan t ≡ false → i < product (sizesOf n (transitionAt n t)) → markAt marks (entries n plan t + i) ≡ takesEffect n t i
 
 -- another table holds how many rows each of them has
-pub record Counted (n : Net) (rows : List ℕ) (count : ℕ) : Type 0 where
+pub record RowsCounted (n : Net) (rows : List ℕ) (count : ℕ) : Type 0 where
   pub row : (t : ℕ) → t < count → getD rows t 0 ≡ effects n t (product (sizesOf n (transitionAt n t)))

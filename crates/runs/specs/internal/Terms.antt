@@ -48,7 +48,7 @@ timesAll factor l = map (λ a. term (a .place) (limit (factor * a .weight))) l
 
 -- ---- lent lists
 -- two lent lists to which arcs were appended after so many, up to r
-pub record Appended (arcs : List Arc) (places amounts : List ℕ) (used : ℕ) (places' amounts' : List ℕ) (r : ℕ) : Type 0 where
+pub record ArcsAppended (arcs : List Arc) (places amounts : List ℕ) (used : ℕ) (places' amounts' : List ℕ) (r : ℕ) : Type 0 where
   pub front : take used places' ≡ take used places
   pub fronts : take used amounts' ≡ take used amounts
   pub are : arcsIn places' amounts' used r ≡ arcs
@@ -59,7 +59,7 @@ pub record Appended (arcs : List Arc) (places amounts : List ℕ) (used : ℕ) (
 -- all of the first run was joined with what of the second stands between, as a front of both joined; the rest is that of the second
 pub record MergedFirst (f : ℕ → ℕ → ℕ) (p q : ℕ) (ranks counts : List ℕ) (start middle end : ℕ) (ranks' counts' : List ℕ) (r : Merged) : Type 0 where
   pub list : List Arc
-  pub lie : Appended list ranks counts end ranks' counts' (r .end)
+  pub lie : ArcsAppended list ranks counts end ranks' counts' (r .end)
   pub left : list ++ joined f p q [] (arcsIn ranks counts (r .second) end) ≡ joined f p q (arcsIn ranks counts start middle) (arcsIn ranks counts middle end)
   pub room : length list + (end - r .second) ≤ end - start
 

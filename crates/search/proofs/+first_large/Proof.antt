@@ -1,6 +1,6 @@
 use borrow.Author.Needs.{needs}
 use native.Mathlib.Omega.{arith}
-use Rattle.reading.specs.Basics.{if_then_else_}
+use Rattle.reading.proofs.Once.{once, falls-once}
 use Rattle.rows.proofs.Fires.{roomy}
 use Prim.Native.Nat.{ℕ, _<_}
 use borrow.Fn.Kinds.{In}
@@ -9,11 +9,12 @@ use Rattle.search.proofs.first_large.Reads as first-large
 use Rattle.search.proofs.first_large.Kinds as first-large-kinds
 use Rattle.search.proofs.+first_large.Lts-first_large as first-large-lts
 use Rattle.search.proofs.first_with.Reads as first-with-reads
+use Rattle.reading.proofs.once_more.Reads as once-more-reads
 use Rattle.search.proofs.+first_large.{statement}
 use Rattle.search.proofs.+first_large.Tie.{close}
 
 abbrev μ-first-large : Measures 3 first-large-kinds.ps ℕ
-μ-first-large κs a = if a .1 .1 .1 .0 then 1 else 0
+μ-first-large κs a = once (a .1 .1 .1 .0)
 
 abbrev first-large-at : ℕ → In 3 first-large-kinds.ps
 first-large-at t =
@@ -25,6 +26,8 @@ first-large-below t =
 
 pub +first-large-spec : {M : Type 1} → statement M
 +first-large-spec = close μ-first-large λ t. first-large-lts.spec (
+  once-more-reads.Asked,
+  once-more-reads.Learnt,
   first-large-below t,
   first-large.Post,
   first-with-reads.Asked,
@@ -32,7 +35,8 @@ pub +first-large-spec : {M : Type 1} → statement M
 )
     (first-large-at t)
     first-large.Post
-    (λ c κs. (rw (← c .before .before .before .before .pre .0, c .if2 .taken) (omega arith)))
+    (λ c κs. search needs)
+    (λ c κs. (falls-once (c .before .once-more .ensures (c .if1 .taken)) (c .before .before .before .before .pre .0), search needs))
     (λ c. search needs)
     (λ c. search needs)
     (λ c. search needs)

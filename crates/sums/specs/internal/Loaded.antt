@@ -10,7 +10,7 @@ use Rattle.net.specs.Net.{Expression, one, two, all, plus, minus, times, Place,
 use Rattle.net.specs.Reader.{readExpression}
 use Rattle.net.specs.Values.{weight}
 use Rattle.evaluation.specs.internal.Evaluated.{bound, placeBy}
-use Rattle.runs.specs.internal.Terms.{Appended, Terms, countIn}
+use Rattle.runs.specs.internal.Terms.{ArcsAppended, Terms, countIn}
 use Rattle.sums.specs.internal.Slots.{slotsFor}
 use Rattle.sums.specs.declared.terms.Multiset.{Multiset}
 
@@ -34,7 +34,7 @@ pub record Counted (n : Net) (env : List ℕ) (count : ℕ) (e : Expression) (l 
 -- they were appended after so many
 pub record Listed (n : Net) (env : List ℕ) (count : ℕ) (ranks counts : List ℕ) (used : ℕ) (ranks' counts' : List ℕ) (r : Multiset) (e : Expression) (next : ℕ) : Type 0 where
   pub list : List Arc
-  pub lie : Appended list ranks counts used ranks' counts' (r .end)
+  pub lie : ArcsAppended list ranks counts used ranks' counts' (r .end)
   pub counted : Counted n env count e list (r .rest)
   pub after : r .next ≡ next
 
@@ -61,14 +61,14 @@ abbrev pub TermsLoaded : ℕ → ℕ → ℕ → ℕ → ℕ → List ℕ → Li
 TermsLoaded start count base stop rest places amounts used places' amounts' r =
     (w : ℕ → ℕ) → Terms count 0 (arcsIn places amounts base stop) → ((rank : ℕ) → rank < count → w rank ≡ countIn (arcsIn places amounts base stop) rest rank)
     → used + count ≤ base → base ≤ stop → stop ≤ length places → stop ≤ length amounts
-    → Appended (rankArcs start count w) places amounts used places' amounts' r
+    → ArcsAppended (rankArcs start count w) places amounts used places' amounts' r
 
 -- the arcs of the expression that stands at a place of the file were appended, where there is room for them and half the file
 abbrev pub ExpressionLoaded : List ℕ → List ℕ → List ℕ → List ℕ → Bool → ℕ → ℕ → ℕ → List ℕ → List ℕ → ℕ → List ℕ → List ℕ → ℕ → Type 0
 ExpressionLoaded s sizes vars env paired start count at places amounts used places' amounts' r =
     (known : List Place) (first second next : ℕ) (e : Expression) → readExpression s (scope sizes vars known) (placeBy paired first second) 16 at ≡ fine e next
     → used + slotsFor s at count + length s / 2 ≤ length places → used + slotsFor s at count + length s / 2 ≤ length amounts
-    → Appended (rankArcs start count (λ rank. weight (scope sizes vars known) (bound env) rank e)) places amounts used places' amounts' r
+    → ArcsAppended (rankArcs start count (λ rank. weight (scope sizes vars known) (bound env) rank e)) places amounts used places' amounts' r
 
 -- those of an arc, by the table of a prepared net and the arc's entry in it
 abbrev pub ArcLoaded : List ℕ → List ℕ → List ℕ → ℕ → List ℕ → List ℕ → ℕ → List ℕ → List ℕ → ℕ → Type 0

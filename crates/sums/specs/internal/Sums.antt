@@ -9,7 +9,7 @@ use Rattle.net.specs.Reader.{readExpression}
 use Rattle.net.specs.Values.{weight}
 use Rattle.evaluation.specs.internal.Evaluated.{bound}
 use Rattle.sums.specs.internal.Loaded.{terms}
-use Rattle.runs.specs.internal.Terms.{Appended, Terms, countIn}
+use Rattle.runs.specs.internal.Terms.{ArcsAppended, Terms, countIn}
 
 -- ---- operands
 -- arc expressions that stand one after the other from a place on, up to where the last ends; each was read with some levels left
@@ -29,7 +29,7 @@ pub record Summing (s : List ℕ) (n : Net) (place : Place) (env : List ℕ) (co
     (ranks counts : List ℕ) (used : ℕ) (ranks' counts' : List ℕ) (end next ahead : ℕ) : Type 0 where
   pub list : List Arc
   pub others : List Expression
-  pub lie : Appended list ranks counts used ranks' counts' end
+  pub lie : ArcsAppended list ranks counts used ranks' counts' end
   pub rising : Terms count 0 list
   pub turn : InTurn s n place others next stop
   pub many : length others ≡ ahead

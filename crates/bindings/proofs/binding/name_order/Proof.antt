@@ -26,38 +26,25 @@ name-order-spec =
     Inv-loop
     μ-loop
     (λ c. search needs)
-    (λ c κs. search needs)
-    (λ c. (λ s n p. name-other p (c .before .before .before .args .orders .now) (c .before .before .before .args .i) (λ e. c .if1 .taken (c .before .byte-at .ensures .0 ∙ e)), tt))
     (λ c. search needs)
+    (λ c. (λ s n p. name-other p (c .before .before .before .args .orders .now) (c .before .before .before .args .i) (c .if1 .taken), tt))
+    (λ c. search needs)
+    (λ c. search needs)
+    (λ c. omega (arith, c .shared-slice-known3 .given (c .before .before .before .before .args .i * 6 + 1)))
     (λ c κs. search needs)
-    (λ c κs. search needs)
-    (λ c. (λ s n p. name-past p (c .before .before .before .before .before .before .args .orders .now) (c .before .before .before .before .before .before .args .i) (omega (arith, c .before .transitions-of .ensures .0, c .if2 .taken, c .before .before .byte-at2 .ensures .0)), tt))
+    (λ c. (λ s n p. name-past p (c .before .before .before .before .before .before .args .orders .now) (c .before .before .before .before .before .before .args .i) (omega (arith, c .before .transitions-of .ensures .0, c .if2 .taken)), tt))
     (λ c. (omega arith, omega arith, λ s n p. name-begins n (c .before .before .before .before .before .before .args .orders .now) (c .before .before .before .before .before .before .args .i) _ _))
     (λ c κs. (omega (arith, c .before .before .before .transitions-of .ensures .1, c .before .before .if2 .left), c .loop-test .taken))
     (λ c. omega arith)
     (λ c. omega arith)
     (λ c. omega arith)
     (λ c κs. search needs)
-    (λ c. (
-      λ s n p. name-fails p (c .before .before .before .before .before .before .before .before .before .before .before .before .before .args .orders .now) (c .before .before .before .before .before .before .before .before .before .before .before .before .before .args .i) (c .before .before .before .before .before .before .before .before .before .before .before .before .before .pre) (sym (c .before .before .before .before .before .before .before .before .before .before .before .byte-at .ensures .0) ∙ c .before .before .before .before .before .before .before .before .before .before .if1 .left) (c .before .before .before .before .before .before .before .before .before .byte-at2 .ensures .0) (omega (arith, c .before .before .before .before .before .before .before .if2 .left, c .before .before .before .before .before .before .before .before .transitions-of .ensures .0))
-          (c .before .before .before .before .before .loop-test .taken) (c .before .before .before .before .own-of .ensures) refl (c .before .give-slot .ensures) (c .before .before .before .before .before .before .loop .inv .2 s n p) (not-true _ (c .if3 .taken)),
-      tt,
-    ))
+    (λ c. (λ s n p. name-fails p (c .before .before .before .before .before .before .before .before .before .before .before .before .before .args .orders .now) (c .before .before .before .before .before .before .before .before .before .before .before .before .before .args .i) (c .before .before .before .before .before .before .before .before .before .before .before .before .before .pre) (c .before .before .before .before .before .before .before .before .before .before .if1 .left) refl (omega (arith, c .before .before .before .before .before .before .before .if2 .left, c .before .before .before .before .before .before .before .before .transitions-of .ensures .0)) (c .before .before .before .before .before .loop-test .taken) (c .before .before .before .before .own-of .ensures) refl (c .before .give-slot .ensures) (c .before .before .before .before .before .before .loop .inv .2 s n p) (not-true _ (c .if3 .taken)), tt))
     (λ c κs. search needs)
     (λ c. let small = small-number {c = 0} _ (c .before .before .before .before .before .before .before .loop .inv .1) (c .colours-of .ensures .1 .1) (omega arith) in omega (arith, fits-number (c .before .before .before .before .before .before .before .loop .k + 1) small (let h : c .before .before .before .before .before .before .before .loop .k + 1 ≤ 4 = omega arith in h)))
-    (λ c. omega (arith, c .before .before .before .before .shared-slice-known2 .given (c .before .before .before .before .before .before .before .before .before .before .before .before .before .before .args .i * 6 + 2 + c .before .before .before .before .before .before .before .loop .k)))
-    (λ c. let byte : getD (c .before .before .before .before .before .before .before .before .before .before .before .before .before .before .args .orders .now) (c .before .before .before .before .before .before .before .before .before .before .before .before .before .before .args .i * 6 + 2 + c .before .before .before .before .before .before .before .loop .k) 0 ≤ 255 = omega (arith, c .before .before .before .before .shared-slice-known2 .given (c .before .before .before .before .before .before .before .before .before .before .before .before .before .before .args .i * 6 + 2 + c .before .before .before .before .before .before .before .loop .k)) in
-    let small = small-number _ (c .before .before .before .before .before .before .before .loop .inv .1) (c .colours-of .ensures .1 .1) byte in
-    omega (arith, fits-number (c .before .before .before .before .before .before .before .loop .k + 1) small (let h : c .before .before .before .before .before .before .before .loop .k + 1 ≤ 4 = omega arith in h)))
+    (λ c. omega (arith, c .before .before .before .before .before .before .before .before .before .before .before .before .shared-slice-known2 .given (c .before .before .before .before .before .before .before .before .before .before .before .before .before .before .args .i * 6 + 2 + c .before .before .before .before .before .before .before .loop .k)))
+    (λ c. let byte : getD (c .before .before .before .before .before .before .before .before .before .before .before .before .before .before .args .orders .now) (c .before .before .before .before .before .before .before .before .before .before .before .before .before .before .args .i * 6 + 2 + c .before .before .before .before .before .before .before .loop .k) 0 ≤ 255 = omega (arith, c .before .before .before .before .before .before .before .before .before .before .before .before .shared-slice-known2 .given (c .before .before .before .before .before .before .before .before .before .before .before .before .before .before .args .i * 6 + 2 + c .before .before .before .before .before .before .before .loop .k)) in let small = small-number _ (c .before .before .before .before .before .before .before .loop .inv .1) (c .colours-of .ensures .1 .1) byte in omega (arith, fits-number (c .before .before .before .before .before .before .before .loop .k + 1) small (let h : c .before .before .before .before .before .before .before .loop .k + 1 ≤ 4 = omega arith in h)))
     (λ c. omega arith)
     (λ c. omega arith)
-    (λ c. (
-      omega arith,
-      small-number _ (c .before .before .before .before .before .before .before .loop .inv .1) (c .colours-of .ensures .1 .1) (let h : getD (c .before .before .before .before .before .before .before .before .before .before .before .before .before .before .args .orders .now) (c .before .before .before .before .before .before .before .before .before .before .before .before .before .before .args .i * 6 + 2 + c .before .before .before .before .before .before .before .loop .k) 0 ≤ 255 = omega (arith, c .before .before .before .before .shared-slice-known2 .given (c .before .before .before .before .before .before .before .before .before .before .before .before .before .before .args .i * 6 + 2 + c .before .before .before .before .before .before .before .loop .k)) in h),
-      λ s n p. name-goes p (c .before .before .before .before .before .before .before .before .before .before .before .before .before .before .args .orders .now) (c .before .before .before .before .before .before .before .before .before .before .before .before .before .before .args .i) (c .before .before .before .before .before .before .before .before .before .before .before .before .before .before .pre) (sym (c .before .before .before .before .before .before .before .before .before .before .before .before .byte-at .ensures .0) ∙ c .before .before .before .before .before .before .before .before .before .before .before .if1 .left) (c .before .before .before .before .before .before .before .before .before .before .byte-at2 .ensures .0) (omega (arith, c .before .before .before .before .before .before .before .before .if2 .left, c .before .before .before .before .before .before .before .before .before .transitions-of .ensures .0))
-          (c .before .before .before .before .before .before .loop-test .taken) (c .before .before .before .before .before .own-of .ensures) refl (c .before .before .give-slot .ensures) (c .before .before .before .before .before .before .before .loop .inv .2 s n p) (c .colours-of .ensures .0) (c .colours-of .ensures .1 .0) (not-false _ (c .before .if3 .left)),
-    ))
-    (λ c. (
-      λ s n p. name-ends p (c .before .before .before .before .before .before .before .before .args .orders .now) (c .before .before .before .before .before .before .before .before .args .i) (c .before .before .before .before .before .before .before .before .pre) (sym (c .before .before .before .before .before .before .byte-at .ensures .0) ∙ c .before .before .before .before .before .if1 .left) (c .before .before .before .before .byte-at2 .ensures .0) (omega (arith, c .before .before .if2 .left, c .before .before .before .transitions-of .ensures .0)) (c .loop-test .left) (c .before .loop .inv .2 s n p),
-      omega (arith, c .before .before .before .transitions-of .ensures .1, c .before .before .if2 .left),
-    )))
+    (λ c. (omega arith, small-number _ (c .before .before .before .before .before .before .before .loop .inv .1) (c .colours-of .ensures .1 .1) (let h : getD (c .before .before .before .before .before .before .before .before .before .before .before .before .before .before .args .orders .now) (c .before .before .before .before .before .before .before .before .before .before .before .before .before .before .args .i * 6 + 2 + c .before .before .before .before .before .before .before .loop .k) 0 ≤ 255 = omega (arith, c .before .before .before .before .before .before .before .before .before .before .before .before .shared-slice-known2 .given (c .before .before .before .before .before .before .before .before .before .before .before .before .before .before .args .i * 6 + 2 + c .before .before .before .before .before .before .before .loop .k)) in h), λ s n p. name-goes p (c .before .before .before .before .before .before .before .before .before .before .before .before .before .before .args .orders .now) (c .before .before .before .before .before .before .before .before .before .before .before .before .before .before .args .i) (c .before .before .before .before .before .before .before .before .before .before .before .before .before .before .pre) (c .before .before .before .before .before .before .before .before .before .before .before .if1 .left) refl (omega (arith, c .before .before .before .before .before .before .before .before .if2 .left, c .before .before .before .before .before .before .before .before .before .transitions-of .ensures .0)) (c .before .before .before .before .before .before .loop-test .taken) (c .before .before .before .before .before .own-of .ensures) refl (c .before .before .give-slot .ensures) (c .before .before .before .before .before .before .before .loop .inv .2 s n p) (c .colours-of .ensures .0) (c .colours-of .ensures .1 .0) (not-false _ (c .before .if3 .left))))
+    (λ c. (λ s n p. name-ends p (c .before .before .before .before .before .before .before .before .args .orders .now) (c .before .before .before .before .before .before .before .before .args .i) (c .before .before .before .before .before .before .before .before .pre) (c .before .before .before .before .before .if1 .left) refl (omega (arith, c .before .before .if2 .left, c .before .before .before .transitions-of .ensures .0)) (c .loop-test .left) (c .before .loop .inv .2 s n p), omega (arith, c .before .before .before .transitions-of .ensures .1, c .before .before .if2 .left))))

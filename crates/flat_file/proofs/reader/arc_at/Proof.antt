@@ -14,7 +14,7 @@ arc-at-spec =
     (λ c. omega (arith, rw (c .if1 .taken) at (c .before .arc-here .ensures)))
     (λ c.
     let byte = rw (c .before .if1 .taken) at (c .before .before .arc-here .ensures) in
-    (λ r f. arc-cut _ _ _ _ (byteAt (c .before .before .before .before .args .s .now) (c .before .before .before .before .args .at) - 0x52) (omega (arith, byte)) (omega (arith, byte)) (c .if2 .taken), byte .0))
+    (λ r f. arc-cut _ _ _ _ (byteAt (c .before .before .before .before .args .file .now) (c .before .before .before .before .args .at) - 0x52) (omega (arith, byte)) (omega (arith, byte)) (c .if2 .taken), byte .0))
     (λ c. omega (arith, rw (c .before .before .if1 .taken) at (c .before .before .before .arc-here .ensures)))
     (λ c. omega (arith, rw (c .before .before .if1 .taken) at (c .before .before .before .arc-here .ensures)))
     (λ c κs. let byte = rw (c .before .before .if1 .taken) at (c .before .before .before .arc-here .ensures) in (omega (arith, byte), (omega (arith, byte), omega arith)))

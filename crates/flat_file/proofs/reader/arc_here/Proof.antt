@@ -9,7 +9,7 @@ pub arc-here-spec : {M : Type 1} → statement M
 arc-here-spec =
     tie.close
     (tie.spec
-    (λ c. inl (omega (arith, past (c .before .args .s .now) (c .before .args .at) (c .if1 .taken))))
+    (λ c. inl (omega (arith, past (c .before .args .file .now) (c .before .args .at) (c .if1 .taken))))
     (λ c. search needs)
     (λ c. inl (c .if2 .taken))
     (λ c. inr (c .if3 .taken))

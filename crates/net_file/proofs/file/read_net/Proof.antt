@@ -55,37 +55,37 @@ to5 c = c .before .before .before .before .before .before .before .before
 
 -- the file, and the place after the part
 abbrev file1 : P1 → List ℕ
-file1 c = (to0 c) .args .s .now
+file1 c = (to0 c) .args .file .now
 
 abbrev next1 : P1 → ℕ
 next1 c = c .before .part .given .0 .1 .1 .0
 
 abbrev file2 : P2 → List ℕ
-file2 c = (to0 (to1 c)) .args .s .now
+file2 c = (to0 (to1 c)) .args .file .now
 
 abbrev next2 : P2 → ℕ
 next2 c = c .before .part2 .given .0 .1 .1 .0
 
 abbrev file3 : P3 → List ℕ
-file3 c = (to0 (to1 (to2 c))) .args .s .now
+file3 c = (to0 (to1 (to2 c))) .args .file .now
 
 abbrev next3 : P3 → ℕ
 next3 c = c .before .part3 .given .0 .1 .1 .0
 
 abbrev file4 : P4 → List ℕ
-file4 c = (to0 (to1 (to2 (to3 c)))) .args .s .now
+file4 c = (to0 (to1 (to2 (to3 c)))) .args .file .now
 
 abbrev next4 : P4 → ℕ
 next4 c = c .before .part4 .given .0 .1 .1 .0
 
 abbrev file5 : P5 → List ℕ
-file5 c = (to0 (to1 (to2 (to3 (to4 c))))) .args .s .now
+file5 c = (to0 (to1 (to2 (to3 (to4 c))))) .args .file .now
 
 abbrev next5 : P5 → ℕ
 next5 c = c .before .part5 .given .0 .1 .1 .0
 
 abbrev file6 : P6 → List ℕ
-file6 c = (to0 (to1 (to2 (to3 (to4 (to5 c)))))) .args .s .now
+file6 c = (to0 (to1 (to2 (to3 (to4 (to5 c)))))) .args .file .now
 
 abbrev next6 : P6 → ℕ
 next6 c = c .before .part6 .given .0 .1 .1 .0
@@ -194,7 +194,7 @@ returns : tie.Need-returns
 returns c = net-long _ (search needs)
 
 returns-2 : tie.Need-returns-2
-returns-2 c = rw (c .refused .ensures ∙ ap refusal (c .before .enum-told .given .1)) (opening-stops (c .before .before .before .before .before .before .before .before .before .before .before .before .before .args .s .now) (c .before .before .before .before .if1 .left) (rw (c .before .enum-told .given .1) at (c .before .before .before .read-opening .ensures .1 (content (c .before .before .before .before .before .before .before .before .before .before .before .before .before .args .s .now)))))
+returns-2 c = rw (c .refused .ensures ∙ ap refusal (c .before .enum-told .given .1)) (opening-stops (c .before .before .before .before .before .before .before .before .before .before .before .before .before .args .file .now) (c .before .before .before .before .if1 .left) (rw (c .before .enum-told .given .1) at (c .before .before .before .read-opening .ensures .1 (content (c .before .before .before .before .before .before .before .before .before .before .before .before .before .args .file .now)))))
 
 returns-3 : tie.Need-returns-3
 returns-3 c = rw (c .refused2 .ensures ∙ ap refusal (c .before .enum-told2 .given .1)) (sets-stop (file1 (c .before .before .before .before .before .before .before)) (next1 (c .before .before .before .before .before .before .before)) (left1 (c .before .before .before .before .before .before .before)) (rw (c .before .enum-told2 .given .1) at (c .before .before .before .before .before .read-sets .ensures .1)))

@@ -22,7 +22,7 @@ read-arcs-spec =
     Inv-loop
     μ-loop
     (λ c κs. search needs)
-    (λ c. let few : length (placesOf (c .before .before .before .before .before .before .before .before .before .args .kinds .now)) ≤ 32 = rw (length-places (c .before .before .before .before .before .before .before .before .before .args .kinds .now)) (c .before .before .before .before .before .before .before .before .before .pre .1 .1 .0) in arcing-begins _ _ _ _ few (search needs) (c .before .before .clear-slots .ensures))
+    (λ c. arcing-begins _ _ _ _ (search needs) (λ k p hk hp. c .before .before .clear-row .ensures k p hk (rw (length-places _) at hp)))
     (λ c κs. search needs)
     (λ c. search needs)
     (λ c. search needs)

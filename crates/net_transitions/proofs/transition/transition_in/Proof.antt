@@ -28,4 +28,4 @@ transition-in-spec =
     (λ c κs. c .before .before .before .before .before .before .before .before .before .before .before .before .before .before .before .before .before .before .before .before .pre .0)
     (λ c. search needs)
     (λ c. search needs)
-    (λ c. (λ ts f. rw (c .guard-place .ensures) (reads-whole _ _ _ _ _ (c .before .before .before .before .before .before .before .before .before .before .before .before .before .before .before .read-guard-if .ensures) (c .before .before .before .before .before .before .before .before .before .before .before .before .before .guard .given .1) (c .before .before .before .before .before .before .before .before .before .before .read-arcs .last .1 .1 .1 .1 .0) (c .before .before .before .before .before .before .before .before .before .before .read-arcs .result) (c .before .before .before .before .before .before .before .before .before .before .read-arcs .ensures .0) _ (c .before .before .before .before .before .before .arcs .given .1) _ (c .before .before .before .before .close-at .result) (c .before .before .before .before .close-at .ensures .0) ts f (c .before .before .closed .given .1)), let w = guard-inside (c .before .before .before .before .before .before .before .before .before .before .before .before .before .before .before .before .before .before .before .before .before .args .s .now) (c .before .before .before .before .before .before .before .before .before .before .before .before .before .before .before .before .before .before .before .before .before .args .sizes .now) (c .before .before .before .before .before .before .before .before .before .before .before .before .before .before .before .before .before .before .before .before .before .args .vars .now) (c .before .before .before .before .before .before .before .before .before .before .before .before .before .before .before .before .before .before .before .before .before .args .kinds .now) (c .before .before .before .before .before .before .before .before .before .before .before .before .before .before .before .before .before .before .before .before .before .args .next) (c .before .before .before .before .before .before .before .before .before .before .before .before .before .before .before .read-guard-if .ensures) (c .before .before .before .before .before .before .before .before .before .before .before .before .before .guard .given .1) (c .before .before .before .before .before .before .before .before .before .before .before .before .before .before .before .before .before .before .before .before .before .pre .1 .1 .1 .1 .1 .1) in let z = rw (c .before .before .before .before .before .before .arcs .given .1) at (c .before .before .before .before .before .before .before .before .before .before .read-arcs .ensures .1) in (rw (c .before .before .closed .given .1) at (c .before .before .before .before .close-at .ensures .1), omega (arith, w .0, z .0, c .before .before .before .before .before .before .before .before .before .before .before .before .before .before .before .before .before .before .before .before .before .pre .1 .1 .1 .1 .1 .0), z .1 (w .1)))))
+    (λ c. (λ ts f. rw (c .guard-place .ensures) (reads-whole _ _ _ _ _ (c .before .before .before .before .before .before .before .before .before .before .before .before .before .before .before .read-guard-if .ensures) (c .before .before .before .before .before .before .before .before .before .before .before .before .before .guard .given .1) (c .before .before .before .before .before .before .before .before .before .before .read-arcs .last .1 .1 .1 .1 .0) (c .before .before .before .before .before .before .before .before .before .before .read-arcs .result) (c .before .before .before .before .before .before .before .before .before .before .read-arcs .ensures .0) _ (c .before .before .before .before .before .before .arcs .given .1) _ (c .before .before .before .before .close-at .result) (c .before .before .before .before .close-at .ensures .0) ts f (c .before .before .closed .given .1)), let w = guard-inside (c .before .before .before .before .before .before .before .before .before .before .before .before .before .before .before .before .before .before .before .before .before .args .file .now) (c .before .before .before .before .before .before .before .before .before .before .before .before .before .before .before .before .before .before .before .before .before .args .sizes .now) (c .before .before .before .before .before .before .before .before .before .before .before .before .before .before .before .before .before .before .before .before .before .args .vars .now) (c .before .before .before .before .before .before .before .before .before .before .before .before .before .before .before .before .before .before .before .before .before .args .kinds .now) (c .before .before .before .before .before .before .before .before .before .before .before .before .before .before .before .before .before .before .before .before .before .args .next) (c .before .before .before .before .before .before .before .before .before .before .before .before .before .before .before .read-guard-if .ensures) (c .before .before .before .before .before .before .before .before .before .before .before .before .before .guard .given .1) (c .before .before .before .before .before .before .before .before .before .before .before .before .before .before .before .before .before .before .before .before .before .pre .1 .1 .1 .1 .1 .1) in let z = rw (c .before .before .before .before .before .before .arcs .given .1) at (c .before .before .before .before .before .before .before .before .before .before .read-arcs .ensures .1) in (rw (c .before .before .closed .given .1) at (c .before .before .before .before .close-at .ensures .1), omega (arith, w .0, z .0, c .before .before .before .before .before .before .before .before .before .before .before .before .before .before .before .before .before .before .before .before .before .pre .1 .1 .1 .1 .1 .0), z .1 (w .1)))))

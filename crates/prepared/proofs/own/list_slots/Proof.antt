@@ -5,7 +5,7 @@ use mathlib.Core.Path.{_≡_, refl, sym, _∙_}
 use Prim.Native.Nat.{ℕ, _≤_, _<_, _/_, _^_}
 use lib.ListN.{length, getD}
 use Rattle.net.specs.internal.ReaderEnums.{member}
-use Rattle.prepared.specs.internal.TransitionVariables.{entryOf}
+use Rattle.prepared.specs.internal.TransitionVariables.{slotOf}
 use Rattle.prepared.proofs.Listing.{entries, Listing, list-begins, list-goes, list-ends, rest-goes, rest-below}
 use Rattle.prepared.proofs.own.list_slots.Statement.{statement}
 use Rattle.prepared.proofs.own.list_slots.Tie as tie
@@ -13,7 +13,7 @@ use Rattle.prepared.proofs.own.list_slots.Tie as tie
 abbrev Inv-loop : tie.InvT-loop
 Inv-loop uses sizes vars base own₀ rest₀ v₀ k₀ own rest v k =
     (v ≤ 32) × (k ≤ 4) × (rest ≡ uses / 2 ^ v) × ((i : ℕ) → i < base → getD own i 0 ≡ getD own₀ i 0)
-    × (length (entries (entryOf sizes vars) (member uses) 32) ≤ 4 → Listing uses (entryOf sizes vars) base own k v)
+    × (length (entries (slotOf sizes vars) (member uses) 32) ≤ 4 → Listing uses (slotOf sizes vars) base own k v)
 
 abbrev μ-loop : tie.MeasureT-loop
 μ-loop uses sizes vars base own₀ rest₀ v₀ k₀ own rest v k = rest

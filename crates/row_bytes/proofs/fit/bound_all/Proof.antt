@@ -4,17 +4,16 @@ use mathlib.Core.List.{List}
 use Prim.Native.Nat.{ℕ, _≤_, _+_, _*_, _-_}
 use lib.ListN.{length}
 use Rattle.row_bytes.specs.internal.RowBytes.{transitionBytes, Ruled}
-use Rattle.row_numbers.specs.internal.Marks.{Counted}
+use Rattle.row_numbers.specs.internal.Marks.{RowsCounted}
 use Rattle.row_numbers.proofs.Tabled.{in-net, all-of-net}
-use Rattle.row_bytes.proofs.RowLengths.{product-most}
-use Rattle.row_bytes.proofs.Bounded.{transition-most, Bounding, bound-begins, bound-goes, bound-ends}
+use Rattle.row_bytes.proofs.Bounded.{product-most, transition-most, Bounding, bound-begins, bound-goes, bound-ends}
 use Rattle.row_bytes.proofs.fit.bound_all.Statement.{statement}
 use Rattle.row_bytes.proofs.fit.bound_all.Tie as tie
 
 abbrev Inv-loop : tie.InvT-loop
 Inv-loop s plan rows transitions total₀ t₀ total t =
     (t ≤ transitions) × (total ≤ 2100000000000 * t)
-    × ((marks : List ℕ) (k : Ruled s plan marks) → Counted (k .net) rows (length (k .net .transitions)) → Bounding (transitionBytes (k .net)) (length (k .net .transitions)) total t)
+    × ((marks : List ℕ) (k : Ruled s plan marks) → RowsCounted (k .net) rows (length (k .net .transitions)) → Bounding (transitionBytes (k .net)) (length (k .net .transitions)) total t)
 
 abbrev μ-loop : tie.MeasureT-loop
 μ-loop s plan rows transitions total₀ t₀ total t = transitions - t

@@ -27,5 +27,5 @@ fits-spec =
     (λ c. search needs)
     (λ c k counted.
     let e : 3 + 3 * c .before .before .before .before .before .before .before .before .before .flat-places-of .result + c .before .before .before .before .measure-all .result ≡ 3 + 3 * flatPlaceCount (k .net) + length (allBytes (k .net)) =
-    omega (arith, front-is k (c .before .before .before .before .before .before .before .before .before .flat-places-of .ensures .0), c .before .before .before .before .measure-all .ensures .0 k counted) in
+    omega (arith, front-is k (c .before .before .before .before .before .before .before .before .before .flat-places-of .ensures .0), c .before .before .before .before .measure-all .ensures .0 k) in
     ap (λ x. leb x (c .before .before .before .before .before .before .before .before .before .before .before .before .before .args .size)) e))

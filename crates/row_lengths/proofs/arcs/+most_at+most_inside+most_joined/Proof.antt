@@ -3,7 +3,7 @@ use native.Mathlib.Omega.{arith}
 use denote.Ref.{now}
 use Rattle.net.specs.Reader.{readExpression}
 use Rattle.evaluation.specs.internal.Evaluated.{scopeIn, placeBy}
-use Rattle.row_lengths.proofs.MostRead.{joined-most, all-most, one-most, times-told, either-told, most-past, most-shut, most-stray}
+use Rattle.row_lengths.proofs.MostRead.{numbered, sum-most, less-most, all-most, one-most, times-told, either-told, most-past, most-shut, most-stray}
 use Prim.Native.Nat.{ℕ, _+_, _<_}
 use borrow.Fn.Kinds.{In}
 use borrow.Fn.PlainCycle.{Measures, is, falls, and}
@@ -17,7 +17,8 @@ use Rattle.row_lengths.proofs.arcs.most_joined.Reads as most-joined
 use Rattle.row_lengths.proofs.arcs.most_joined.Kinds as most-joined-kinds
 use Rattle.row_lengths.proofs.arcs.+most_at+most_inside+most_joined.Lts-most_joined as most-joined-lts
 use Rattle.row_lengths.proofs.arcs.anew.Reads as anew-reads
-use Rattle.row_lengths.proofs.arcs.joined_most.Reads as joined-most-reads
+use Rattle.row_lengths.proofs.arcs.most_less.Reads as most-less-reads
+use Rattle.row_lengths.proofs.arcs.lesser_of.Reads as lesser-of-reads
 use Rattle.evaluation.proofs.eval_rank.Reads as eval-rank-reads
 use Rattle.row_lengths.proofs.arcs.+most_at+most_inside+most_joined.{statement}
 use Rattle.row_lengths.proofs.arcs.+most_at+most_inside+most_joined.Tie.{close}
@@ -99,11 +100,20 @@ pub +most-at+most-inside+most-joined-spec : {M : Type 1} → statement M
     (λ c κs. search needs)
     (λ c κs. search needs)
     (λ c. rw (c .anew2 .ensures) (λ known first second. either-told _ _ _ _ _ _ (search needs) _ (omega arith) (omega arith) (c .before .most-joined .ensures .0 known first second _), c .before .most-joined .ensures .1)))
-    λ t. most-joined-lts.spec
-    (most-at-below t, most-at.Post, joined-most-reads.Asked, joined-most-reads.Learnt)
+    λ t. most-joined-lts.spec (
+      most-at-below t,
+      most-at.Post,
+      most-less-reads.Asked,
+      most-less-reads.Learnt,
+      lesser-of-reads.Asked,
+      lesser-of-reads.Learnt,
+    )
     (most-joined-at t)
     most-joined.Post
     (λ c κs. search needs)
     (λ c κs. search needs)
     (λ c κs. search needs)
-    (λ c. let a = c .before .before .before .args in (λ known first second at. rw (c .joined-most .ensures .0) (joined-most _ (readExpression (now (now (a .s))) (scopeIn (now (a .plan)) known) (placeBy (a .paired) first second) (a .left)) at (a .next) _ (c .before .before .most-at .ensures .0 known first second) _ (c .before .most-at2 .ensures .0 known first second) (a .less)), c .joined-most .ensures .1))
+    (λ c. let a = c .before .before .before .before .args in (λ known first second at. rw (c .before .if1 .taken, c .most-less .ensures .0) (less-most _ (readExpression (now (now (a .file))) (scopeIn (now (a .plan)) known) (placeBy (a .paired) first second) (a .left)) at (a .next) _ (c .before .before .before .most-at .ensures .0 known first second) (now (now (a .file))) (λ place. numbered _ _ place _ _) _ (c .before .before .most-at2 .ensures .0 known first second)), c .most-less .ensures .1))
+    (λ c. omega (arith, c .before .before .before .before .most-at .ensures .1, c .before .before .before .most-at2 .ensures .1))
+    (λ c κs. search needs)
+    (λ c. let a = c .before .before .before .before .before .before .args in (λ known first second at. rw (c .before .before .before .if1 .left, c .lesser-of .ensures .0) (sum-most _ (readExpression (now (now (a .file))) (scopeIn (now (a .plan)) known) (placeBy (a .paired) first second) (a .left)) at (a .next) _ (c .before .before .before .before .before .most-at .ensures .0 known first second) _ (c .before .before .before .before .most-at2 .ensures .0 known first second)), omega (arith, c .lesser-of .ensures .1, c .before .before .before .before .before .before .pre .1 .0)))

@@ -7,7 +7,7 @@ use Rattle.reading.specs.Basics.{product}
 use Rattle.net.specs.Net.{Net, sizesOf, transitionAt}
 use Rattle.bindings.specs.internal.Bindings.{Binds, numbered}
 use Rattle.bindings.proofs.Owning.{first-binds}
-use Rattle.row_numbers.specs.internal.Marks.{Blank, effects, Marking}
+use Rattle.row_numbers.specs.internal.Marks.{Blank, effects, BindingsMarked}
 use Rattle.row_numbers.proofs.Marking.{marking-none, marking-goes, effects-none, effects-next}
 use Rattle.row_numbers.proofs.marks.mark_those.Statement.{statement}
 use Rattle.row_numbers.proofs.marks.mark_those.Tie as tie
@@ -17,7 +17,7 @@ Inv-loop s plan t many base marks₀ env₀ count₀ i₀ marks env count i =
     (i ≤ many) × (count ≤ i) × (length marks ≡ 2048)
     × ((n : Net) → Prepared s n plan → t < length (n .transitions) → many ≡ product (sizesOf n (transitionAt n t)) → i < many → Binds n (numbered n t i) env)
     × ((n : Net) → Prepared s n plan → t < length (n .transitions) → many ≡ product (sizesOf n (transitionAt n t)) → base + many ≤ 65536 → Blank marks₀ base
-    → (count ≡ effects n t i) × Marking n t marks₀ marks base i)
+    → (count ≡ effects n t i) × BindingsMarked n t marks₀ marks base i)
 
 abbrev μ-loop : tie.MeasureT-loop
 μ-loop s plan t many base marks₀ env₀ count₀ i₀ marks env count i = many - i
@@ -45,7 +45,7 @@ mark-those-spec =
           (one .0 ∙ effects-next n (c .before .before .before .before .before .before .before .before .args .t) (c .before .before .before .before .before .before .loop .i) (here .0), marking-goes n (c .before .before .before .before .before .before .before .before .args .t) (omega arith) (here .1) (one .1)),
     ))
     (λ c. (
-      (λ n p less is few blank. subst (λ k. (c .before .loop .count ≡ effects n (c .before .before .before .args .t) k) × Marking n (c .before .before .before .args .t) (c .before .before .before .args .marks .now) (c .before .loop .marks) (c .before .before .before .args .base) k)
+      (λ n p less is few blank. subst (λ k. (c .before .loop .count ≡ effects n (c .before .before .before .args .t) k) × BindingsMarked n (c .before .before .before .args .t) (c .before .before .before .args .marks .now) (c .before .loop .marks) (c .before .before .before .args .base) k)
           (let e : c .before .loop .i ≡ c .before .before .before .args .many = omega arith in e) (c .before .loop .inv .4 n p less is few blank)),
       c .before .loop .inv .2,
     )))

@@ -127,7 +127,7 @@ pub +list-inside+list-joined+list-terms+list-times-spec : {M : Type 1} → state
     (λ c κs. search needs)
     (λ c. search needs)
     (λ c. search needs)
-    (λ c. let a = c .before .before .before .before .before .before .before .before .before .before .before .before .before .before .before .before .before .before .before .before .before .before .before .before .before .before .before .args in (λ known first second. rw (c .join .ensures) (either-told _ _ _ _ _ _ _ _ _ _ _ _ (c .before .before .before .before .before .before .before .before .before .before .before .before .before .before .before .before .before .before .before .before .before .before .before .before .before .before .before .pre .1 .1 .0 .0) _ (c .before .before .before .before .before .before .before .before .before .before .before .before .before .before .before .before .before .before .before .before .before .before .before .before .before .before .before .pre .1 .1 .1 .0) (c .before .before .before .before .before .before .before .before .before .before .before .before .before .before .before .before .before .before .before .before .before .before .before .before .before .before .before .pre .1 .1 .1 .1) (joined-listed (scopeIn (now (a .plan)) known) _ _ _ _ _ (readExpression (now (now (a .s))) (scopeIn (now (a .plan)) known) (placeBy (pairIn (a .entry)) first second) (a .spot .left - 1)) (a .spot .at) (a .spot .at + 1) _ _ _ (c .before .before .before .before .before .before .before .before .before .before .before .before .before .before .before .before .before .before .before .list-terms .ensures .0 known first second) _ _ _ (c .before .before .before .before .before .before .before .before .before .before .before .before .list-terms2 .ensures .0 known first second) (eqb (byteAt (now (now (a .s))) (a .spot .at)) 0x43) _ _ _ (c .before .before .before .before .before .merge .ensures .0))), c .before .before .before .before .before .merge .ensures .1)))
+    (λ c. let a = c .before .before .before .before .before .before .before .before .before .before .before .before .before .before .before .before .before .before .before .before .before .before .before .before .before .before .before .args in (λ known first second. rw (c .join .ensures) (either-told _ _ _ _ _ _ _ _ _ _ _ _ (c .before .before .before .before .before .before .before .before .before .before .before .before .before .before .before .before .before .before .before .before .before .before .before .before .before .before .before .pre .1 .1 .0 .0) _ (c .before .before .before .before .before .before .before .before .before .before .before .before .before .before .before .before .before .before .before .before .before .before .before .before .before .before .before .pre .1 .1 .1 .0) (c .before .before .before .before .before .before .before .before .before .before .before .before .before .before .before .before .before .before .before .before .before .before .before .before .before .before .before .pre .1 .1 .1 .1) (joined-listed (scopeIn (now (a .plan)) known) _ _ _ _ _ (readExpression (now (now (a .file))) (scopeIn (now (a .plan)) known) (placeBy (pairIn (a .entry)) first second) (a .spot .left - 1)) (a .spot .at) (a .spot .at + 1) _ _ _ (c .before .before .before .before .before .before .before .before .before .before .before .before .before .before .before .before .before .before .before .list-terms .ensures .0 known first second) _ _ _ (c .before .before .before .before .before .before .before .before .before .before .before .before .list-terms2 .ensures .0 known first second) (eqb (byteAt (now (now (a .file))) (a .spot .at)) 0x43) _ _ _ (c .before .before .before .before .before .merge .ensures .0))), c .before .before .before .before .before .merge .ensures .1)))
     (λ t. list-terms-lts.spec (
       nothing-reads.Asked,
       nothing-reads.Learnt,
@@ -196,4 +196,4 @@ pub +list-inside+list-joined+list-terms+list-times-spec : {M : Type 1} → state
     (λ c κs. search needs)
     (λ c. search needs)
     (λ c. search needs)
-    (λ c. let a = c .before .before .before .before .before .before .before .before .before .before .before .before .before .before .before .before .before .args in (λ known first second. rw (c .scaled .ensures) (times-told _ _ _ _ _ _ _ _ _ _ _ _ (c .before .before .before .before .before .before .before .before .before .before .before .before .before .before .before .before .before .pre .1 .1 .0 .0) _ (c .before .before .before .before .before .before .before .before .before .before .before .before .before .before .before .before .before .pre .1 .1 .1) (rw (← c .before .before .before .before .before .before .before .before .before .before .before .before .before .word-at .ensures .0) (times-listed _ _ _ _ _ _ (readExpression (now (now (a .s))) (scopeIn (now (a .plan)) known) (placeBy (pairIn (a .entry)) first second) (a .spot .left - 1)) (a .spot .at) (a .spot .at + 3) _ _ _ (c .before .before .before .before .before .before .before .before .before .list-terms .ensures .0 known first second) _ _ (c .before .before .before .scale .ensures)))), c .before .before .before .before .before .before .before .before .before .list-terms .ensures .1))
+    (λ c. let a = c .before .before .before .before .before .before .before .before .before .before .before .before .before .before .before .before .before .args in (λ known first second. rw (c .scaled .ensures) (times-told _ _ _ _ _ _ _ _ _ _ _ _ (c .before .before .before .before .before .before .before .before .before .before .before .before .before .before .before .before .before .pre .1 .1 .0 .0) _ (c .before .before .before .before .before .before .before .before .before .before .before .before .before .before .before .before .before .pre .1 .1 .1) (rw (← c .before .before .before .before .before .before .before .before .before .before .before .before .before .word-at .ensures .0) (times-listed _ _ _ _ _ _ (readExpression (now (now (a .file))) (scopeIn (now (a .plan)) known) (placeBy (pairIn (a .entry)) first second) (a .spot .left - 1)) (a .spot .at) (a .spot .at + 3) _ _ _ (c .before .before .before .before .before .before .before .before .before .list-terms .ensures .0 known first second) _ _ (c .before .before .before .scale .ensures)))), c .before .before .before .before .before .before .before .before .before .list-terms .ensures .1))
