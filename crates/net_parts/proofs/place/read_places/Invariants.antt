@@ -1,0 +1,11 @@
+use borrow.Author.Rules.{rules}
+use native.Mathlib.Omega.{arith}
+use Prim.Native.Nat.{◌-◌}
+use Rattle.net_parts.proofs.Placing.{Placing, placing_begins, placing_one, placing_two, placing_ends, placing_stops}
+use Rattle.net_parts.proofs.place.read_places.Given as goal
+
+abbrev pub invariant-loop-number : goal.invariant-loop-number
+invariant-loop-number l = Placing l.file l.sets l.start l.kinds l.starts l.count l.total l.at
+
+abbrev pub decreases-loop-number : goal.decreases-loop-number
+decreases-loop-number l = 32 - l.count

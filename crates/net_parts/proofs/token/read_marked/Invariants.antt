@@ -1,0 +1,13 @@
+use borrow.Author.Rules.{rules}
+use native.Mathlib.Omega.{arith}
+use mathlib.Core.Path.{refl}
+use Prim.Native.Nat.{◌-◌}
+use lib.ListN.{length}
+use Rattle.net_parts.proofs.Tokening.{TokenLoop, tokening_begins, tokening_goes, tokening_ends, tokening_stops, token_below}
+use Rattle.net_parts.proofs.token.read_marked.Given as goal
+
+abbrev pub invariant-loop-number : goal.invariant-loop-number
+invariant-loop-number l = TokenLoop l.file l.starts l.places l.total l.start (length l.initial.initial') l.initial' l.named l.at
+
+abbrev pub decreases-loop-number : goal.decreases-loop-number
+decreases-loop-number l = length l.file - l.at
