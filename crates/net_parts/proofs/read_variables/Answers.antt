@@ -1,13 +1,8 @@
 use borrow.Author.Rules.{rules}
 use native.Mathlib.Omega.{arith}
 use mathlib.Core.Path.{ap, ◌∙◌}
-use mathlib.Core.List.{[]}
-use Prim.Native.Nat.{◌-◌}
-use Rattle.reading.specs.Reading.{whole}
-use Rattle.reading.proofs.Parts.{Filled, fill_begins, fill_goes, fill_ends, fill_stops}
-use Rattle.net_parts.specs.Parts.{variable_part}
+use Rattle.reading.proofs.Parts.{fill_begins, fill_goes, fill_ends, fill_stops}
 use Rattle.net_parts.specs.internal.Steps.{set_step}
-use Rattle.net.specs.Net.{scope}
 use Rattle.net_parts.proofs.read_variables.Goals as goal
 
 pub loop-number-init : goal.loop-number-init

@@ -1,8 +1,6 @@
-use borrow.Author.Rules.{rules}
-use native.Mathlib.Omega.{arith}
 use Prim.Native.Nat.{◌-◌}
 use lib.ListN.{length}
-use Rattle.net_parts.proofs.Clearing.{Clear, clear_begins, clear_goes, clear_past}
+use Rattle.net_parts.proofs.Clearing.{Clear}
 use Rattle.net_parts.proofs.clear.clear_words.Given as goal
 
 abbrev pub invariant-loop-i : goal.invariant-loop-i

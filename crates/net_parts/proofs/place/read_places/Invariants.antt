@@ -1,7 +1,5 @@
-use borrow.Author.Rules.{rules}
-use native.Mathlib.Omega.{arith}
 use Prim.Native.Nat.{◌-◌}
-use Rattle.net_parts.proofs.Placing.{Placing, placing_begins, placing_one, placing_two, placing_ends, placing_stops}
+use Rattle.net_parts.proofs.Placing.{Placing}
 use Rattle.net_parts.proofs.place.read_places.Given as goal
 
 abbrev pub invariant-loop-number : goal.invariant-loop-number

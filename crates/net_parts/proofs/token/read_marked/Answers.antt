@@ -1,9 +1,7 @@
 use borrow.Author.Rules.{rules}
 use native.Mathlib.Omega.{arith}
 use mathlib.Core.Path.{refl}
-use Prim.Native.Nat.{◌-◌}
-use lib.ListN.{length}
-use Rattle.net_parts.proofs.Tokening.{TokenLoop, tokening_begins, tokening_goes, tokening_ends, tokening_stops, token_below}
+use Rattle.net_parts.proofs.Tokening.{tokening_begins, tokening_goes, tokening_ends, tokening_stops, token_below}
 use Rattle.net_parts.proofs.token.read_marked.Goals as goal
 
 pub loop-number-init : goal.loop-number-init

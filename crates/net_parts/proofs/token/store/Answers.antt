@@ -1,6 +1,5 @@
 use mathlib.Core.Path.{sym}
 use lib.Seq.{set_out}
-use borrow.Author.Rules.{rules}
 use Rattle.net_parts.proofs.token.store.Goals as goal
 
 pub returns-else-flat-initial : goal.returns-else-flat-initial
