@@ -1,0 +1,4 @@
+use Rattle.net_transitions.proofs.arc.stopped.Goals as goal
+
+pub returns-in-Fault : goal.returns-in-Fault
+returns-in-Fault c = rw c.in-Fault.is
