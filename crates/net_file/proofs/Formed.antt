@@ -3,7 +3,7 @@ use mathlib.Core.Path.{◌≡◌, refl, sym, ap₂, ◌∙◌}
 use mathlib.Core.List.Memᴰ
 use Prim.Native.Nat.{◌≤◌, ◌<◌}
 use native.Mathlib.Omega.{arith}
-use borrow.Author.Tests.{ltb-true, leb-true, eq-eqb, not_true}
+use borrow.Author.Tests.{ltb-true, leb-true, eq-eqb, not-true}
 use Rattle.reading.specs.Basics.{ℕ, ◌+◌, Bool, true, false, not, ◌&&◌, ◌||◌, List, [], ◌∷◌, some, length, ltb, leb, eqb, any, every, find, absent, with, if◌then◌else◌, byte_at, word_at, Bytes}
 use Rattle.reading.specs.Reading.{fault, under, accepted, refused, outcome, ◌unless◌, checked, whole, file}
 use Rattle.reading.proofs.Lists.{In, in_cases, here, there, All, end, also, all_with, in_all, all_in, in_every, every_in}
@@ -41,7 +41,7 @@ once-with alike (a ∷ l) b e f = go (alike a b) refl f (once-with alike l b (bo
     go : (t : Bool) → alike a b ≡ t → absent (if t then some a else find (λ x. alike x b) l) ≡ true
         → (absent (find (λ x. alike x b) l) ≡ true → once alike (with l b) ≡ true) → not (any (alike a) (with l b)) && once alike (with l b) ≡ true
     go true p q ih = cc
-    go false p q ih = rw (any-with (alike a) l b (not_true (any (alike a) l) (both_first (not (any (alike a) l)) (once alike l) e)) p, ih q)
+    go false p q ih = rw (any-with (alike a) l b (not-true (any (alike a) l) (both_first (not (any (alike a) l)) (once alike l) e)) p, ih q)
 
 -- ---- what is formed in one net is so in any other with the same sets, variables and places
 module _ (n m : Net) (sets : n.sets ≡ m.sets) (variables : n.variables ≡ m.variables) where
@@ -222,7 +222,7 @@ once_found : {A : Type 0} (alike : A → A → Bool) (l : List A) {a : A} → ((
 unfolding once find
 once_found alike [] r e i = absurd (Memᴰ.not-nil i)
 once_found alike (x ∷ l) {a} r e i = in_cases {a = a} {b = x} (λ p. rw (p, r x))
-    (λ k. rw (not_any (alike x) l (not_true (any (alike x) l) (both_first (not (any (alike x) l)) (once alike l) e)) k) (once_found alike l r (both_second (not (any (alike x) l)) (once alike l) e) k)) i
+    (λ k. rw (not_any (alike x) l (not-true (any (alike x) l) (both_first (not (any (alike x) l)) (once alike l) e)) k) (once_found alike l r (both_second (not (any (alike x) l)) (once alike l) e) k)) i
 
 module _ {n : Net} (f : Formed n) where
   module _ {t : Transition} (i : In t n.transitions) where
