@@ -37,10 +37,10 @@ find_lowest q a (suc n) p l h e f = ⊎_elim (λ z. hit z) (λ k. miss k (find_l
 
 -- ---- the first of some arcs
 -- of rising arcs, no other of which the test holds stands lower
-first_lowest : {n from : ℕ} (t : Arc → Bool) {a b : Arc} {l : List Arc} → In b l → Rising n from l → find t l ≡ some a → t b ≡ true → a.place ≤ b.place
+first_lowest : {n : ℕ} (t : Arc → Bool) {a b : Arc} {from : ℕ} {l : List Arc} → In b l → Rising n from l → find t l ≡ some a → t b ≡ true → a.place ≤ b.place
 unfolding find
 first_lowest t {a} {b} (here {l = l}) r e h = let e' : some b ≡ some a = rw h at e in let z : a ≡ b = cc in rw z (omega arith)
-first_lowest t {a} {b} (there {b = x} {l = l} m) (more f i w r) e h = go (t x) e (λ q. first_lowest t m r q h)
+first_lowest {n = n} t {a = a} {b = b} {from = from} (there {b = x} {l = l} m) (more f i w r) e h = go (t x) e (λ q. first_lowest t {from = x.place + 1} m r q h)
   where
     go : (s : Bool) → (if s then some x else find t l) ≡ some a → (find t l ≡ some a → a.place ≤ b.place) → a.place ≤ b.place
     go true q later = let z : x ≡ a = cc in rw (← z) (let g = in_from m r in omega arith)

@@ -3,7 +3,6 @@ use mathlib.Core.Path.{◌≡◌, refl, sym, ap, ◌∙◌}
 use native.Mathlib.Omega.{arith}
 use Prim.Native.Nat.{◌≤◌}
 use native.Mathlib.Decide.{dec_lt}
-use borrow.Author.Rules.{zero≤}
 use borrow.Author.Tests.{lt-ltb, le-ltb, eq-eqb, ne_eqb, leb-true, leb-false}
 use Rattle.reading.specs.Basics.{ℕ, zero, suc, ◌+◌, ◌-◌, ◌<◌, Bool, true, false, not, ◌&&◌, ◌||◌, List, [], ◌∷◌, length, get_or, ltb, leb, eqb, if◌then◌else◌, find, any}
 use Rattle.firing.specs.Firing.{capacity}
@@ -141,7 +140,7 @@ fits caps m takes a h = le-ltb (capacity caps a.place) (get_or m a.place 0 - wei
 -- ---- rising arcs, from any number on
 from_0 : {n from : ℕ} {l : List Arc} → Rising n from l → Rising n 0 l
 from_0 none = none
-from_0 (more f k w r) = more zero≤ k w r
+from_0 (more f k w r) = more (omega arith) k w r
 
 module _ (places weights : List ℕ) (b : ℕ) {n : ℕ} (r : Rising n 0 (arcs_in places weights 0 b)) where
   pub rising_at : (t : ℕ) → Rising n 0 (arcs_in places weights t b)

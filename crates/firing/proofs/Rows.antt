@@ -31,17 +31,17 @@ pub data In (a : Arc) : List Arc → Type 0 where
   there : {b : Arc} {l : List Arc} → In a l → In a (b ∷ l)
 
 -- an arc lies from the first place on and below n, and its weight is the weight at its place
-pub in_from : {n from : ℕ} {a : Arc} {l : List Arc} → In a l → Rising n from l → from ≤ a.place
+pub in_from : {n : ℕ} {a : Arc} {from : ℕ} {l : List Arc} → In a l → Rising n from l → from ≤ a.place
 in_from here (more f i w r) = f
-in_from (there m) (more f i w r) = let h = in_from m r in omega arith
+in_from {n = n} {a = a} {from = from} (there {b = b} {l = l} m) (more f i w r) = let h = in_from {from = b.place + 1} m r in omega arith
 
-pub in_inside : {n from : ℕ} {a : Arc} {l : List Arc} → In a l → Rising n from l → a.place < n
+pub in_inside : {n : ℕ} {a : Arc} {from : ℕ} {l : List Arc} → In a l → Rising n from l → a.place < n
 in_inside here (more f i w r) = i
-in_inside (there m) (more f i w r) = in_inside m r
+in_inside {n = n} {a = a} {from = from} (there {b = b} {l = l} m) (more f i w r) = in_inside {from = b.place + 1} m r
 
-pub in_weight : {n from : ℕ} {a : Arc} {l : List Arc} → In a l → Rising n from l → weight_in l a.place ≡ a.weight
+pub in_weight : {n : ℕ} {a : Arc} {from : ℕ} {l : List Arc} → In a l → Rising n from l → weight_in l a.place ≡ a.weight
 in_weight {a = a} (here {l = l}) r = weight_hit a l a.place refl
-in_weight {a = a} (there {b = b} {l = l} m) (more f i w r) = let h = in_from m r in weight_skip b l a.place (λ e. omega arith) ∙ in_weight m r
+in_weight {n = n} {a = a} {from = from} (there {b = b} {l = l} m) (more f i w r) = let h = in_from m r in weight_skip b l a.place (λ e. omega arith) ∙ in_weight {from = b.place + 1} m r
 
 -- where a weight is above 0 an arc stands
 pub weight_in_lem : (l : List Arc) (p : ℕ) → 0 < weight_in l p → (a : Arc) × In a l × (a.place ≡ p) × (a.weight ≡ weight_in l p)
