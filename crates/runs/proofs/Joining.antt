@@ -37,20 +37,20 @@ terms_split (more x y t) = (x, y, t)
 -- from, the last term's rank is no less, and where that is below a number, all are
 terms_last : {count from : ℕ} (l : List Arc) (z : Arc) → Terms count from (l ++ (z ∷ [])) → from ≤ z.place
 terms_last [] z (more x y t) = x
-terms_last (a ∷ l) z (more x y t) = let h = terms_last l z t in omega arith
+terms_last {from = from} (a ∷ l) z (more x y t) = let h = terms_last {from = a.place + 1} l z t in omega arith
 
 pub terms-below : {count from : ℕ} (l : List Arc) (z : Arc) (below : ℕ) → Terms count from (l ++ (z ∷ [])) → z.place < below → Terms below from (l ++ (z ∷ []))
 terms-below [] z below (more x y t) h = more {a = z} x h none
-terms-below (a ∷ l) z below (more x y t) h = let k = terms_last l z t in more {a = a} x (omega arith) (terms-below l z below t h)
+terms-below {from = from} (a ∷ l) z below (more x y t) h = let k = terms_last l z t in more {a = a} x (omega arith) (terms-below {from = a.place + 1} l z below t h)
 
 -- those before the last lie below its rank; a front of them
 pub terms-before : {count from : ℕ} (l : List Arc) (z : Arc) → Terms count from (l ++ (z ∷ [])) → Terms z.place from l
 terms-before [] z t = none
-terms-before (a ∷ l) z (more x y t) = let h = terms_last l z t in more {a = a} x (omega arith) (terms-before l z t)
+terms-before {from = from} (a ∷ l) z (more x y t) = let h = terms_last l z t in more {a = a} x (omega arith) (terms-before {from = a.place + 1} l z t)
 
 pub terms_front : {count from : ℕ} (l m : List Arc) → Terms count from (l ++ m) → Terms count from l
 terms_front [] m t = none
-terms_front (a ∷ l) m (more x y t) = more {a = a} x y (terms_front l m t)
+terms_front {from = from} (a ∷ l) m (more x y t) = more {a = a} x y (terms_front {from = a.place + 1} l m t)
 
 -- ---- every count through a function
 module _ (g : ℕ → ℕ) where
@@ -218,10 +218,10 @@ add_all (a ∷ m) (h, s) = ap₂ ◌∷◌ (add_none a (0 + a.weight) h (omega a
 -- the terms of the first that lie wholly below the second stay; the others are joined with it
 pub joined_pass : {count from middle : ℕ} (l k m : List Arc) → Terms middle from l → Terms count middle m → Small l → joined (join_by false) 0 0 (l ++ k) m ≡ l ++ joined (join_by false) 0 0 k m
 joined_pass [] k m t u r = refl
-joined_pass (a ∷ l) k [] (more x y t) u (h, r) = joined_last (join_by false) 0 0 a (l ++ k) ∙ ap₂ ◌∷◌ (add_none a (a.weight + 0) h (omega arith)) (joined_pass l k [] t u r)
-joined_pass (a ∷ l) k (b ∷ m) (more x y t) u (h, r) =
+joined_pass {from = from} (a ∷ l) k [] (more x y t) u (h, r) = joined_last (join_by false) 0 0 a (l ++ k) ∙ ap₂ ◌∷◌ (add_none a (a.weight + 0) h (omega arith)) (joined_pass {from = a.place + 1} l k [] t u r)
+joined_pass {from = from} (a ∷ l) k (b ∷ m) (more x y t) u (h, r) =
     let (x', y', v) = terms_split u in
-    joined-first (join_by false) 0 0 a (l ++ k) b m (omega arith) ∙ ap₂ ◌∷◌ (add_none a (a.weight + 0) h (omega arith)) (joined_pass l k (b ∷ m) t u r)
+    joined-first (join_by false) 0 0 a (l ++ k) b m (omega arith) ∙ ap₂ ◌∷◌ (add_none a (a.weight + 0) h (omega arith)) (joined_pass {from = a.place + 1} l k (b ∷ m) t u r)
 
 pub joined_apart : {count from middle : ℕ} (l m : List Arc) → Terms middle from l → Terms count middle m → Small l → Small m → joined (join_by false) 0 0 l m ≡ l ++ m
 joined_apart l m t u r s = ap (λ k. joined (join_by false) 0 0 k m) (sym (append-nil l)) ∙ joined_pass l [] m t u r ∙ ap (λ k. l ++ k) (add_all m s)
