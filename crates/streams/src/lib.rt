@@ -1,8 +1,10 @@
-// Reads the parts of a test case from standard input, and writes what a call gave as lines, for the program cases.
+// Reads the parts of a test case from a reader, and writes what a call gave as lines to a writer, for the program cases.
 #![tactic(auto)]
 
 mod input;
 mod text;
 
-pub use input::{file_buffer, marking_buffer, read_bytes, read_call, read_counts, read_row};
+pub use input::{
+    file_buffer, list_buffer, marking_buffer, read_bytes, read_call, read_counts, read_row,
+};
 pub use text::{say, say_bytes, say_case, say_counts, say_line, say_number, say_refused};

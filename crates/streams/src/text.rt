@@ -1,65 +1,62 @@
-// Writing lines to standard output.
-use libc::STDOUT_FILENO;
+// Writing lines to a writer.
+use std::io;
+use std::io::Write;
 
-pub fn say(words: &[u8]) {
-    io::write_all(STDOUT_FILENO, words);
+pub fn say<W: Write>(to: &mut W, words: &[u8]) -> io::Result<()> {
+    to.write_all(words)
 }
 
-pub fn say_number(n: u64) {
-    io::print_decimal(STDOUT_FILENO, n);
+pub fn say_number<W: Write>(to: &mut W, n: u64) -> io::Result<()> {
+    write!(to, "{n}")
 }
 
 // A line of one number, with its words in front.
-pub fn say_line(words: &[u8], n: usize) {
-    say(words);
-    say_number(n as u64);
-    say(b"\n");
+pub fn say_line<W: Write>(to: &mut W, words: &[u8], n: usize) -> io::Result<()> {
+    say(to, words)?;
+    say_number(to, n as u64)?;
+    say(to, b"\n")
 }
 
 // The line in front of a case; the name has its line end.
-pub fn say_case(number: u64, name: &[u8]) {
-    say(b"case ");
-    say_number(number);
-    say(b" ");
-    say(name);
+pub fn say_case<W: Write>(to: &mut W, number: u64, name: &[u8]) -> io::Result<()> {
+    say(to, b"case ")?;
+    say_number(to, number)?;
+    say(to, b" ")?;
+    say(to, name)
 }
 
-pub fn say_refused(number: u8, place: usize) {
-    say(b"refused ");
-    say_number(number as u64);
-    say(b" at ");
-    say_number(place as u64);
-    say(b"\n");
+pub fn say_refused<W: Write>(to: &mut W, number: u8, place: usize) -> io::Result<()> {
+    say(to, b"refused ")?;
+    say_number(to, number as u64)?;
+    say(to, b" at ")?;
+    say_number(to, place as u64)?;
+    say(to, b"\n")
 }
 
 // A line of counts, with its name in front.
-pub fn say_counts(name: &[u8], counts: &[u16]) {
-    say(name);
-    let mut i: usize = 0;
-    while i < counts.len() {
-        say(b" ");
-        say_count(counts[i]);
-        i += 1;
+pub fn say_counts<W: Write>(to: &mut W, name: &[u8], counts: &[u16]) -> io::Result<()> {
+    say(to, name)?;
+    for count in counts {
+        say(to, b" ")?;
+        say_count(to, *count)?;
     }
-    say(b"\n");
+    say(to, b"\n")
 }
 
-fn say_count(n: u16) {
-    say_number(n as u64);
+fn say_count<W: Write>(to: &mut W, n: u16) -> io::Result<()> {
+    say_number(to, n as u64)
 }
 
 // A line of bytes as numbers, with its name in front.
-pub fn say_bytes(name: &[u8], bytes: &[u8]) {
-    say(name);
-    let mut i: usize = 0;
-    while i < bytes.len() {
-        say(b" ");
-        say_byte(bytes[i]);
-        i += 1;
+pub fn say_bytes<W: Write>(to: &mut W, name: &[u8], bytes: &[u8]) -> io::Result<()> {
+    say(to, name)?;
+    for byte in bytes {
+        say(to, b" ")?;
+        say_byte(to, *byte)?;
     }
-    say(b"\n");
+    say(to, b"\n")
 }
 
-fn say_byte(n: u8) {
-    say_number(n as u64);
+fn say_byte<W: Write>(to: &mut W, n: u8) -> io::Result<()> {
+    say_number(to, n as u64)
 }

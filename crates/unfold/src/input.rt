@@ -1,30 +1,37 @@
-// Standard input, read whole or not at all.
-ghost use Rattle.unfold.specs.internal.Input.{Within};
+// An input, read whole or not at all.
+ghost use Rattle.unfold.specs.internal.Input.{IsRead, Within};
 
-use libc::STDIN_FILENO;
+use std::io::{Error, ErrorKind, Read};
 
-// How many bytes were read, or that a read failed.
-#[derive(Clone, Copy)]
+// How many bytes were read, or why a read failed.
+#[derive(Drop)]
 pub enum Input {
     Whole { length: usize },
-    Failed,
+    Failed { error: Error },
 }
 
-// Reads until the input ends or `net` is full. Where a read fails nothing counts that came before it.
-pub fn read_input(net: &mut [u8]) -> Input
-    ensures { Within result net.new }
+// Reads until the input ends or `net` is full. Where a read fails nothing counts that came before it; a read that a
+// signal interrupts is made again.
+pub fn read_input<R: Read>(from: &mut R, net: &mut [u8]) -> Input
+    ensures within { Within result net.new }
+    ensures bytes { IsRead (R.remaining from.old) (R.remaining from.new) result net.new }
 {
     let mut done: usize = 0;
-    while done < net.len() {
-        let got = libc::read(STDIN_FILENO, &mut net[done..]);
-        if got < 0 {
-            return Input::Failed;
-        }
-        let more = io::count(got, &net[done..]);
-        if more < 1 {
+    for _ in 0..u64::MAX {
+        if done >= net.len() {
             return Input::Whole { length: done };
         }
-        done += more;
+        match from.read(&mut net[done..]) {
+            Ok(0) => return Input::Whole { length: done },
+            Ok(more) => done += more,
+            Err(error) => {
+                if error.kind() != ErrorKind::Interrupted {
+                    return Input::Failed { error };
+                }
+            }
+        }
     }
-    Input::Whole { length: done }
+    Input::Failed {
+        error: Error::from(ErrorKind::Interrupted),
+    }
 }

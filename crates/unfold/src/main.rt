@@ -4,21 +4,26 @@
 mod input;
 
 use input::{Input, read_input};
-use libc::STDOUT_FILENO;
+use std::process::ExitCode;
 use unfolding::write_reply;
 
-// Where standard input cannot be read nothing is written to standard output: a line on standard error says what failed.
+// Where standard input cannot be read nothing is written to standard output: a line on standard error says what failed,
+// and the exit code is 1, as it is where standard output cannot be written.
 // One byte more than the longest net file is read: a longer one is refused whatever follows.
-fn main() {
+fn main(rt: HostRuntime) -> ExitCode {
     let mut net = [0u8; 16385];
-    let read = read_input(&mut net);
-    let Input::Whole { length } = read else {
-        os::fail(b"unfold: reading standard input");
-        return;
+    let length = match read_input(&mut rt.stdin(), &mut net) {
+        Input::Whole { length } => length,
+        Input::Failed { error } => {
+            let _ = eprintln!(rt; "unfold: reading standard input: {error}");
+            return ExitCode::FAILURE;
+        }
     };
-    let mut out = io::large_buffer();
+    let mut out = [0u8; 65536];
     let size = write_reply(&net[..length], &mut out);
-    if !io::write_all(STDOUT_FILENO, &out[..size]) {
-        os::fail(b"unfold: writing standard output");
+    if let Err(error) = rt.write_all(&out[..size]) {
+        let _ = eprintln!(rt; "unfold: writing standard output: {error}");
+        return ExitCode::FAILURE;
     }
+    ExitCode::SUCCESS
 }
