@@ -16,7 +16,7 @@ use reading::{byte_at, word_at};
 use runs::{insert, merge};
 
 // How far a sum was gone through: where its terms end in the lent lists, the place of the next operand, and how many are still to come.
-#[derive(Drop)]
+#[derive(Clone, Copy)]
 pub struct Summed {
     pub end: usize,
     pub next: usize,
