@@ -1,4 +1,4 @@
-//! The proved calls, from the archive that `rt staticlib exports` writes, with the types of the plain ones.
+//! The proved calls, from the archive that `rt lib` in crates/exports writes, with the types of the plain ones.
 use crate::plain::{First, Order, Reading, Refusal};
 
 #[link(name = "exports", kind = "static")]

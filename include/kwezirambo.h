@@ -1,6 +1,6 @@
 /*
  * Kwezirambo for C and C++: coloured nets with inhibitor arcs, their unfolding, and firing on both sides.
- * The archive is target/staticlib/libexports.a, which `rt staticlib exports` proves and writes (x86-64 Linux).
+ * The archive is crates/exports/out/libexports.a, which `rt lib` in crates/exports proves and writes (x86-64 Linux).
  *
  * Every call returns a code and writes the numbers behind `first` and `second` (and `third`):
  *   0  refused: first = the refusal's number, second = its place (third = 0); every lent buffer is as it was before.

@@ -19,7 +19,7 @@ use Rattle.bindings.specs.internal.Numbers.{digits, number}
 use Rattle.bindings.specs.internal.SlotSteps.{Given}
 use Rattle.prepared.specs.internal.TransitionVariables.{Owned, slot_size}
 use Rattle.bindings.proofs.Digits.{number-below, digits_number, number_front}
-use Rattle.bindings.proofs.Named.{fits_padded}
+use Rattle.bindings.proofs.NamedOrders.{fits_padded}
 use Rattle.bindings.proofs.Owning.{colours_in, theirs, their_sizes, theirs_apart, sizes_are, held_binds, SlotHeld, few_theirs, by_slot}
 use Rattle.bindings.proofs.Walking.{set_held}
 

@@ -17,7 +17,7 @@ use reading::once_more;
 use rows::{is_small, most_slots};
 
 // What firing a list gives: how many orders were answered, or the refusal.
-#[derive(Drop)]
+#[derive(Clone, Copy)]
 pub enum FireReply {
     Answered { count: usize },
     Refused { number: u8, place: usize },

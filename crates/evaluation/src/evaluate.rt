@@ -10,7 +10,7 @@ use net::entry;
 use plan::{set_in, size_in};
 
 // The colour that an expression means, its set, and the place after it.
-#[derive(Drop)]
+#[derive(Clone, Copy)]
 pub struct Value {
     pub colour: u16,
     pub set: u8,
@@ -93,7 +93,7 @@ fn colour_at(file: &&[u8], plan: &[u32; 3584], env: &[u8; 32], left: u8, at: usi
 }
 
 // Whether a guard holds, and the place after it.
-#[derive(Drop)]
+#[derive(Clone, Copy)]
 pub struct Tested {
     pub holds: bool,
     pub next: usize,
@@ -214,7 +214,7 @@ pub fn eval_guard(file: &[u8], plan: &[u32; 3584], env: &[u8; 32], left: u8, at:
 }
 
 // A rank, and the place after an expression.
-#[derive(Drop)]
+#[derive(Clone, Copy)]
 pub struct Ranked {
     pub rank: usize,
     pub next: usize,

@@ -9,7 +9,7 @@ ghost use Rattle.firing.specs.internal.RowLists.{arcs_in, row_in};
 ghost use Rattle.firing.specs.internal.Steps.{Within, EndsWithin, told, arc_at, lacking, hindering, first_in, Sought, SmallCapacities, spilling, changed_by, changed, added};
 
 // Where a row's takes, puts and hinders end in the lent lists; each kind starts where the one before it ends.
-#[derive(Drop)]
+#[derive(Clone, Copy)]
 pub struct Ends {
     pub takes: usize,
     pub puts: usize,

@@ -17,7 +17,7 @@ use flat_file::{Scan, load_arcs, scan_file};
 use reading::{byte_at, long_at, once_more};
 
 // How many flat places and rows a flat file has, or the refusal.
-#[derive(Drop)]
+#[derive(Clone, Copy)]
 pub enum SizesReply {
     Counted { places: usize, rows: usize },
     Refused { number: u8, place: usize },
@@ -118,7 +118,7 @@ fn fire_list(
 }
 
 // What firing a list gives: how many images were answered, or the refusal.
-#[derive(Drop)]
+#[derive(Clone, Copy)]
 pub enum FireReply {
     Answered { count: usize },
     Refused { number: u8, place: usize },
@@ -273,7 +273,7 @@ fn search_rows(
 }
 
 // The first row that would be answered 0, or none; with how many were tried. Or the refusal.
-#[derive(Drop)]
+#[derive(Clone, Copy)]
 pub enum FirstReply {
     Found { row: usize, tried: usize },
     Nothing { tried: usize },

@@ -36,7 +36,7 @@ fn arc_here(file: &[u8], at: usize) -> bool
 }
 
 // One step of a row's arcs: the kind is 0 for a take, 1 for a put, 2 for a hinder.
-#[derive(Drop)]
+#[derive(Clone, Copy)]
 pub enum ArcStep {
     Done,
     Arc { kind: u8, place: u16, weight: u16 },
@@ -97,7 +97,7 @@ fn arc_at(file: &[u8], count: usize, at: usize, least: usize) -> ArcStep
 }
 
 // The place after a row's arcs; or the first fault.
-#[derive(Drop)]
+#[derive(Clone, Copy)]
 pub enum RowRead {
     Whole { next: usize },
     Fault { number: u8, place: usize },
@@ -169,7 +169,7 @@ pub fn load_arcs(file: &[u8], at: usize, places: &mut [u16], weights: &mut [u16]
 }
 
 // One step of the places, or of the rows.
-#[derive(Drop)]
+#[derive(Clone, Copy)]
 pub enum Step {
     Done,
     More,
@@ -204,7 +204,7 @@ fn place_at(file: &[u8], count: usize, at: usize) -> Step
 }
 
 // What has been read of a file: so many flat places and rows, up to a place; or the first fault.
-#[derive(Drop)]
+#[derive(Clone, Copy)]
 pub enum Part {
     Whole {
         places: usize,
@@ -387,7 +387,7 @@ fn closes(file: &[u8], places: usize, rows: usize, at: usize) -> Part
 }
 
 // What reading a whole flat file gives: how many flat places and rows it has, or a refusal.
-#[derive(Drop)]
+#[derive(Clone, Copy)]
 pub enum Scan {
     Net { places: usize, rows: usize },
     Refused { number: u8, place: usize },

@@ -20,7 +20,7 @@ use reading::once_more;
 use row_numbers::{Located, count_entries, number_all, seek_row};
 
 // How many orders were answered, or the refusal.
-#[derive(Drop)]
+#[derive(Clone, Copy)]
 pub enum ImagesReply {
     Answered { count: usize },
     Refused { number: u8, place: usize },
@@ -106,7 +106,7 @@ fn images_of(file: &[u8], plan: &[u32; 3584], orders: &[u8], out: &mut [u8]) -> 
 }
 
 // The order of a row, none where there is no such row, or the refusal.
-#[derive(Drop)]
+#[derive(Clone, Copy)]
 pub enum OrderReply {
     Found { order: Order },
     NoRow,

@@ -16,7 +16,7 @@ use Rattle.net_file.specs.NetFile.{read_net}
 use Rattle.net_file.proofs.Limits.{limits}
 use Rattle.bindings.specs.Effect.{Binding, bindings, effect}
 use Rattle.bindings.specs.Orders.{order_of, fire_order, first_order}
-use Rattle.bindings.proofs.Named.{order_names}
+use Rattle.bindings.proofs.NamedOrders.{order_names}
 use Rattle.row_numbers.specs.Unfolding.{Rowed, rows, unfolded, flat_file, order_of_row, image, unfold_call, order_call}
 use Rattle.likeness.specs.Demand3.{Marking, FirstAlike, both_found, both_nothing, both_refused, FirstCallsAgree}
 use Rattle.row_numbers.proofs.Rows.{rowed, rowed_if, rowed_is}

@@ -12,7 +12,7 @@ use Rattle.net_file.specs.Limits.{Limits}
 use Rattle.bindings.specs.Effect.{Binding}
 use Rattle.bindings.specs.Orders.{fits, named}
 use Rattle.reading.proofs.Clash.{clash}
-use Rattle.bindings.proofs.Named.{let_through}
+use Rattle.bindings.proofs.NamedOrders.{let_through}
 use Rattle.row_numbers.specs.Unfolding.{rows, row_number, image, images}
 use Rattle.row_numbers.proofs.Rows.{no_row, rows_few}
 use Rattle.likeness.specs.Demand3.{guard_holds}

@@ -7,7 +7,7 @@ use Rattle.net.specs.Net.{Net}
 use Rattle.net_file.specs.Limits.{Limits}
 use Rattle.bindings.specs.Effect.{Binding, guard_true, effect}
 use Rattle.bindings.specs.Orders.{named, fire_order}
-use Rattle.bindings.proofs.Named.{named-order}
+use Rattle.bindings.proofs.NamedOrders.{named-order}
 use Rattle.row_numbers.specs.Unfolding.{rows, row_number}
 use Rattle.likeness.specs.Demand3.{guard_holds, as_row}
 use Rattle.row_numbers.proofs.Rows.{rowed, no_row, absent-row, present_row}

@@ -57,7 +57,7 @@ fn read_closing(file: &[u8], at: usize) -> Part
 }
 
 // A net file that was read: its counts, its flat places and its binding space; or the refusal.
-#[derive(Drop)]
+#[derive(Clone, Copy)]
 pub enum NetRead {
     Whole {
         sets: usize,

@@ -18,7 +18,7 @@ pub use place::read_places;
 pub use token::read_tokens;
 
 // One step of the set part.
-#[derive(Drop)]
+#[derive(Clone, Copy)]
 pub enum SetStep {
     Done,
     More { size: u8, next: usize },
@@ -61,7 +61,7 @@ fn set_at(file: &[u8], count: usize, at: usize) -> SetStep
 }
 
 // A part of the file that was read: how many things it has, what they come to together, and the place after it; or the first fault.
-#[derive(Drop)]
+#[derive(Clone, Copy)]
 pub enum Part {
     Whole(usize, usize, usize),
     Fault { number: u8, place: usize },
@@ -144,7 +144,7 @@ pub fn read_variables(file: &[u8], sets: &[u8], vars: &mut [u8], start: usize) -
 }
 
 // One step of the place part: a place of one set or of two, and the colours of all places with it.
-#[derive(Drop)]
+#[derive(Clone, Copy)]
 pub enum PlaceStep {
     Done,
     One {

@@ -11,7 +11,7 @@ use net::after;
 use reading::{byte_at, word_at};
 
 // One step of the tokens part: a place, a rank, their count, and the flat place that they are.
-#[derive(Drop)]
+#[derive(Clone, Copy)]
 pub enum TokenStep {
     Done,
     More {

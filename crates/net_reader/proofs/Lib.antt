@@ -1,4 +1,3 @@
 pub mod Counting
 pub mod Heads
 pub mod HeadCases
-pub mod Readers

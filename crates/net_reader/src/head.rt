@@ -6,7 +6,7 @@ ghost use Rattle.net_reader.specs.Replies.{head_told};
 use net::width;
 
 // A command's byte and the place after its operands; or the fault.
-#[derive(Drop)]
+#[derive(Clone, Copy)]
 pub enum Head {
     Command { byte: u8, next: usize },
     Fault { number: u8, place: usize },

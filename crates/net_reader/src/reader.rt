@@ -7,7 +7,7 @@ ghost use Rattle.net_reader.specs.Heads.{head_at, next_place};
 use crate::head::{Head, head_at, next_at};
 use crate::sizes::{NetReply, sizes_of};
 
-#[derive(Drop)]
+#[derive(Clone, Copy)]
 pub struct Reader<'a> {
     pub bytes: &'a [u8],
     pub at: usize,

@@ -7,7 +7,7 @@ use crate::reader::Reader;
 use net_file::{NetRead, read_net};
 
 // How many flat places, transitions and bindings a net file has, or the refusal.
-#[derive(Drop)]
+#[derive(Clone, Copy)]
 pub enum NetReply {
     Counted {
         places: usize,

@@ -7,7 +7,7 @@ use arc_expressions::read_expression;
 use net::{Read, after, fault};
 
 // One step over the arcs: the arc's slot, the variables in its expression, and the place after it.
-#[derive(Drop)]
+#[derive(Clone, Copy)]
 pub enum ArcStep {
     Done,
     More { slot: usize, uses: u32, next: usize },

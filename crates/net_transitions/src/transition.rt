@@ -60,7 +60,7 @@ fn guard_place(file: &[u8], at: usize) -> u16
 }
 
 // One step of the transition part: where the guard stands, the variables, and the binding space with it.
-#[derive(Drop)]
+#[derive(Clone, Copy)]
 pub enum TransitionStep {
     Done,
     More {

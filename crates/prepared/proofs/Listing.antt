@@ -10,7 +10,7 @@ use lib.ListN.{set, length-append, length-map, get_or-append, get_or-eq_default}
 use lib.Seq.{get_or-set_same, get_or-set_other, get_or_at}
 use lib.Pow.{pow_pos}
 use Rattle.reading.specs.Basics.{ℕ, zero, suc, ◌+◌, ◌*◌, ◌/◌, ◌%◌, Bool, true, false, List, [], ◌∷◌, map, length, get_or, ltb, eqb, if◌then◌else◌, with, below, numbers_from, keep}
-use Rattle.reading.proofs.Lists.{In, at_in, at_below, get_or_at as getD-in}
+use Rattle.reading.proofs.Lists.{In, at_in, at_below, get_d_at}
 use Rattle.net.specs.Net.{Net, variables_of, in_transition, no_transition, transition_at}
 use Rattle.net.specs.internal.ReaderEnums.{bits, member}
 use Rattle.net_file.specs.Limits.{Limits}
@@ -196,7 +196,7 @@ module _ (n : Net) {sizes vars : List ℕ} (uses : List ℕ) (es : n.sets ≡ si
   unfolding variables_of
   row_listed t lt e listed k less =
       let it = at_below n.transitions t lt in
-      let at : In (transition_at n t) n.transitions = subst (λ u. In u n.transitions) (sym (getD-in n.transitions t no_transition it.1)) (at_in n.transitions t it.1) in
+      let at : In (transition_at n t) n.transitions = subst (λ u. In u n.transitions) (sym (get_d_at n.transitions t no_transition it.1)) (at_in n.transitions t it.1) in
       rw (es, ev) (rw ev at (listed.slots (λ v. in_transition v (transition_at n t)) (length n.variables) (e ∙ used t lt) l.variables (used_below n formed (transition_at n t) at) (l.few_variables t lt) k less))
 
   pub rows_go : {u : ℕ} {own after : List ℕ} (t : ℕ) → t < length n.transitions → u ≡ get_or uses t 0 → SlotsListed u sizes vars (t * 4) own after → Rows n own t → Rows n after (t + 1)

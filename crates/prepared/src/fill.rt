@@ -11,7 +11,7 @@ use net_file::{NetRead, read_net};
 use plan::{place_bits, place_bytes, place_words};
 
 // Whether a file was prepared, or the refusal.
-#[derive(Drop)]
+#[derive(Clone, Copy)]
 pub enum Preparing {
     Ready,
     Refused { number: u8, place: usize },

@@ -11,7 +11,7 @@ use row_numbers::{entries_of, has_none, has_row};
 use rows::load_row;
 
 // The bindings of a transition: how many there are, and where their marks begin.
-#[derive(Drop)]
+#[derive(Clone, Copy)]
 pub struct Stretch {
     pub t: usize,
     pub many: usize,

@@ -13,7 +13,7 @@ use plan::{expression_of, is_pair, ranks_of};
 use reading::{byte_at, word_at};
 
 // The most arcs of an expression, and the place after it.
-#[derive(Drop)]
+#[derive(Clone, Copy)]
 pub struct Most {
     pub arcs: usize,
     pub next: usize,

@@ -1,6 +1,6 @@
 -- Marks as the bits of words: what setting one changes, and the marks of all bindings. Assumes nothing.
 use mathlib.Core.Path.{◌≡◌, refl, sym, ap, ◌∙◌, subst}
-use mathlib.Core.Bool.{or_false, and-true, and_false}
+use mathlib.Core.Bool.{or-false, and-true, and-false}
 use native.Mathlib.Numerals.{add-one}
 use mathlib.Core.Logic.{⊎_elim}
 use Prim.Native.Nat.{◌-◌, ◌^◌, ◌<◌, ◌≤◌, max}
@@ -13,7 +13,7 @@ use lib.Dec.{lit<}
 use lib.ListN.{set}
 use lib.Pow.{low, shl-shr, pow-lt, pow-add, pow_pos}
 use lib.Seq.{get_or-set_same, get_or-set_other}
-use Rattle.reading.specs.Basics.{ℕ, zero, suc, ◌+◌, ◌/◌, ◌%◌, Bool, true, false, ◌||◌, ◌&&◌, eqb, ltb, if◌then◌else◌, List, length, get_or, replicate, keep, numbers_from, below, product}
+use Rattle.reading.specs.Basics.{ℕ, zero, suc, ◌+◌, ◌/◌, ◌%◌, Bool, true, false, ◌||◌, ◌&&◌, eqb, ltb, if◌then◌else◌, List, length, get_or, replicate, keep, numbers_from, product}
 use Rattle.net.specs.Net.{Net, sizes_of, transition_at}
 use Rattle.net.specs.internal.ReaderEnums.{member}
 use Rattle.reading.proofs.Clash.{clash}
@@ -94,11 +94,11 @@ mark_set marks k j room = go (eqb (j / 32) (k / 32)) refl
     go false f =
         let apart = eqb-false (j / 32) (k / 32) f in
         ap (λ x. member x (j % 32)) (get_or-set_other marks (k / 32) (j / 32) word 0 apart)
-        ∙ sym (ap (λ b. mark_at marks j || b) (ne_eqb j k (λ q. apart (ap (λ x. x / 32) q))) ∙ or_false (mark_at marks j))
+        ∙ sym (ap (λ b. mark_at marks j || b) (ne_eqb j k (λ q. apart (ap (λ x. x / 32) q))) ∙ or-false (mark_at marks j))
 
 -- none is set at a number past the end
 pub mark_apart : (marks : List ℕ) (k j : ℕ) → j < k → mark_at marks j ≡ (mark_at marks j || eqb j k)
-mark_apart marks k j lt = sym (ap (λ b. mark_at marks j || b) (ne_eqb j k (λ q. omega arith)) ∙ or_false (mark_at marks j))
+mark_apart marks k j lt = sym (ap (λ b. mark_at marks j || b) (ne_eqb j k (λ q. omega arith)) ∙ or-false (mark_at marks j))
 
 -- none is set in words of 0
 zero_at : (n i : ℕ) → ◌≡◌ {A = ℕ} (get_or (replicate n 0) i 0) 0
@@ -124,11 +124,11 @@ pub with-effect : (a e : Bool) {b : Bool} → true ≡ b → (a || e) ≡ (a || 
 with-effect a e h = ap (λ x. a || x) (sym (and-true e) ∙ ap (λ b. e && b) h)
 
 pub without_effect : (a e : Bool) {b : Bool} → false ≡ b → a ≡ (a || (e && b))
-without_effect a e h = sym (or_false a) ∙ ap (λ x. a || x) (sym (and_false e) ∙ ap (λ b. e && b) h)
+without_effect a e h = sym (or-false a) ∙ ap (λ x. a || x) (sym (and-false e) ∙ ap (λ b. e && b) h)
 
 -- another number's mark stays
 other : (a b : Bool) (j k : ℕ) → (j ≡ k → ⊥) → (a || (eqb j k && b)) ≡ a
-other a b j k h = ap (λ x. a || (x && b)) (ne_eqb j k h) ∙ or_false a
+other a b j k h = ap (λ x. a || (x && b)) (ne_eqb j k h) ∙ or-false a
 
 module _ (n : Net) (t : ℕ) where
   -- no binding yet

@@ -12,7 +12,7 @@ use Rattle.net_file.specs.Limits.{Limits}
 use Rattle.bindings.specs.Effect.{Binding, bindings, effect}
 use Rattle.bindings.specs.Orders.{order_of, named}
 use Rattle.bindings.proofs.Bindings.{bindings-length}
-use Rattle.bindings.proofs.Named.{order_names, orders_apart}
+use Rattle.bindings.proofs.NamedOrders.{order_names, orders_apart}
 use Rattle.row_numbers.specs.Unfolding.{Rowed, rows, row_number, order_of_row}
 use Rattle.row_numbers.proofs.Numbering.{at_number, row_at, number_of, numbered}
 

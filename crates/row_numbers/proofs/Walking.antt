@@ -13,7 +13,7 @@ use Rattle.net.specs.Net.{Net}
 use Rattle.net_file.specs.Limits.{Limits}
 use Rattle.bindings.specs.Effect.{Binding, bindings, effect}
 use Rattle.bindings.specs.Orders.{order_of, named}
-use Rattle.bindings.proofs.Named.{order_names, named-order, orders_apart}
+use Rattle.bindings.proofs.NamedOrders.{order_names, named-order, orders_apart}
 use Rattle.row_numbers.specs.Unfolding.{rows, row_number, order_of_row}
 use Rattle.row_numbers.specs.internal.Walked.{rows_among, passed}
 use Rattle.row_numbers.proofs.Numbering.{at_number}

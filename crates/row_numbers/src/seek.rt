@@ -11,7 +11,7 @@ use bindings::{every_binding_has_row, next_binding, space_of};
 use plan::transitions_of;
 
 // A row among the bindings of one transition, or how many rows there are with them.
-#[derive(Drop)]
+#[derive(Clone, Copy)]
 pub enum Sought {
     At { index: usize },
     Past { count: usize },
@@ -76,7 +76,7 @@ fn seek_in(
 }
 
 // A binding by its transition and its number there, or none.
-#[derive(Drop)]
+#[derive(Clone, Copy)]
 pub enum Located {
     At { transition: usize, index: usize },
     Nowhere,

@@ -73,7 +73,7 @@ pub fn load_row(
 }
 
 // A binding on a marking: it has no row; a take of its row is lacking; or none is, and its row stands in the lent lists.
-#[derive(Drop)]
+#[derive(Clone, Copy)]
 pub enum Loaded {
     NoRow,
     Lacking,

@@ -102,7 +102,7 @@ fn lesser(x: u16, y: usize) -> u16
 }
 
 // How far the second of two runs was joined, and where the terms end.
-#[derive(Drop)]
+#[derive(Clone, Copy)]
 struct Merged {
     second: usize,
     end: usize,

@@ -18,7 +18,7 @@ use Rattle.prepared.proofs.Known.{its_limits}
 use Rattle.prepared.specs.internal.Prepared.{Prepared}
 use Rattle.bindings.specs.internal.Bindings.{fire_binding}
 use Rattle.bindings.specs.internal.Bindings.{numbered}
-use Rattle.bindings.proofs.Named.{order_names}
+use Rattle.bindings.proofs.NamedOrders.{order_names}
 use Rattle.bindings.proofs.Digits.{bindings_at, before_next, before_all}
 use Rattle.rows.proofs.Fires.{names}
 

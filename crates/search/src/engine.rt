@@ -67,7 +67,7 @@ fn search_bindings(
 }
 
 // Where the search for the first order stopped, and how many bindings were tried.
-#[derive(Drop)]
+#[derive(Clone, Copy)]
 pub enum Searched {
     At {
         t: usize,

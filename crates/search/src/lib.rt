@@ -19,7 +19,7 @@ use reading::once_more;
 use rows::{is_small, most_slots};
 
 // The first order that would be answered 0, or none; with how many bindings were tried. Or the refusal.
-#[derive(Drop)]
+#[derive(Clone, Copy)]
 pub enum FirstReply {
     Found { order: Order, tried: usize },
     Nothing { tried: usize },

@@ -15,7 +15,7 @@ use reading::word_at;
 use runs::{join, merge, scale, scaled, store};
 
 // An arc expression's multiset: where its terms end in the lent lists, the count of every other rank, and the place after the expression.
-#[derive(Drop)]
+#[derive(Clone, Copy)]
 pub struct Multiset {
     pub end: usize,
     pub rest: u16,
@@ -23,7 +23,7 @@ pub struct Multiset {
 }
 
 // Where an expression stands: the levels left for it, and its place.
-#[derive(Drop)]
+#[derive(Clone, Copy)]
 pub struct Spot {
     pub left: u8,
     pub at: usize,

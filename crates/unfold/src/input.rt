@@ -4,7 +4,7 @@ ghost use Rattle.unfold.specs.internal.Input.{Within};
 use libc::STDIN_FILENO;
 
 // How many bytes were read, or that a read failed.
-#[derive(Drop)]
+#[derive(Clone, Copy)]
 pub enum Input {
     Whole { length: usize },
     Failed,

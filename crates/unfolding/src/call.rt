@@ -15,7 +15,7 @@ use row_numbers::mark_all;
 use rows::{is_small, most_slots};
 
 // The flat file's length in bytes, or why it was not written.
-#[derive(Drop)]
+#[derive(Clone, Copy)]
 pub enum UnfoldReply {
     Written { length: usize },
     Refused { number: u8, place: usize },

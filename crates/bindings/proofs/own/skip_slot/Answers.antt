@@ -1,0 +1,16 @@
+use native.Mathlib.Omega.{arith}
+use native.Mathlib.Nat.{mod-lt}
+use mathlib.Core.Path.{refl, ap, ◌∙◌}
+use Prim.Native.Nat.{◌<◌, ◌/◌, ◌%◌}
+use lib.ListN.{set}
+use Rattle.bindings.proofs.Walking.{rounds_fit}
+use Rattle.bindings.proofs.own.skip_slot.Goals as goal
+
+pub returns-then-size-lt1 : goal.returns-then-size-lt1
+returns-then-size-lt1 c = record { room = omega arith; unused = λ h. (refl, refl); stored = λ h. absurd (omega arith); rounds = λ h. absurd (omega arith) }
+
+pub overflow_cast-env : goal.overflow_cast-env
+overflow_cast-env c = omega (arith, mod-lt c.further-colour.result (let h : 0 < c.args.slot % 256 = omega arith in h))
+
+pub returns : goal.returns
+returns c = record { room = omega arith; unused = λ h. absurd (omega arith); stored = λ h. ap (λ x. set c.args.env.now (c.args.slot / 256 % 32) (x % (c.args.slot % 256))) c.further-colour.ensures; rounds = λ h. ap (λ x. x / (c.args.slot % 256) % 65536) c.further-colour.ensures ∙ rounds_fit _ c.args.many (c.args.slot % 256) h (omega arith) }

@@ -1,9 +1,0 @@
-use Rattle.flat_file.proofs.Appending.{append_then}
-use borrow.Author.Rules.{rules}
-use Rattle.flat_file.proofs.write.write_arc.Statement.{statement}
-use Rattle.flat_file.proofs.write.write_arc.Tie as tie
-
-pub write_arc_spec : {M : Type 1} → statement M
-write_arc_spec =
-    tie.close
-    (tie.spec (λ c κs. search rules) (λ c κs. search rules) (λ c κs. search rules) (λ c. search rules) (λ c. append_then (append_then c.before.before.before.before.before.before.before.before.before.before.put_byte.ensures c.before.before.before.before.before.before.put_word.ensures) c.before.before.put-word2.ensures))

@@ -1,0 +1,11 @@
+use Prim.Native.Nat.{◌-◌}
+use Rattle.reading.specs.Basics.{map, below}
+use Rattle.plan.proofs.Sections.{Placing}
+use Rattle.prepared.specs.internal.Packed.{shape_in}
+use Rattle.prepared.proofs.fill.place_shapes.Given as goal
+
+abbrev pub invariant-loop-p : goal.invariant-loop-p
+invariant-loop-p l = Placing 56 (map (shape_in l.kinds l.starts) (below l.places)) l.initial.plan l.plan l.p
+
+abbrev pub decreases-loop-p : goal.decreases-loop-p
+decreases-loop-p l = l.places - l.p
