@@ -1,0 +1,6 @@
+use borrow.Author.Rules.{rules}
+use Rattle.row_lengths.proofs.MostRead.{entry_told}
+use Rattle.row_lengths.proofs.arcs.most_arcs.Goals as goal
+
+pub returns : goal.returns
+returns c = record { is = entry_told c.args.file.now c.args.plan.now c.args.entry c.most_at.result c.is_pair.ensures c.ranks_of.ensures.is c.expression_of.ensures c.most_at.ensures.is; small = c.most_at.ensures.small }

@@ -1,0 +1,11 @@
+use borrow.Author.Rules.{rules}
+use native.Mathlib.Omega.{arith}
+use Prim.Native.Nat.{◌≤◌, ◌*◌, ◌-◌}
+use Rattle.row_lengths.proofs.MostRows.{MostTo, most_begins, most_goes, most_stops, most_ends}
+use Rattle.row_lengths.proofs.most.most_kind.Given as goal
+
+abbrev pub invariant-loop-i : goal.invariant-loop-i
+invariant-loop-i l = (l.i ≤ 32) × (l.total ≤ 65535 * l.i) × MostTo l.file l.plan l.base l.total l.i
+
+abbrev pub decreases-loop-i : goal.decreases-loop-i
+decreases-loop-i l = 32 - l.i

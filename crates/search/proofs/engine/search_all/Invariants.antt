@@ -1,0 +1,14 @@
+use mathlib.Core.Path.{◌≡◌}
+use Prim.Native.Nat.{◌≤◌}
+use Rattle.reading.specs.Basics.{◌-◌, ◌*◌, length}
+use Rattle.net.specs.Net.{Net, flat_place_count}
+use Rattle.rows.specs.internal.Effects.{room}
+use Rattle.prepared.specs.internal.Prepared.{Prepared}
+use Rattle.search.proofs.Searching.{Seeking}
+use Rattle.search.proofs.engine.search_all.Given as goal
+
+abbrev pub invariant-loop-t : goal.invariant-loop-t
+invariant-loop-t l = ((n : Net) → Prepared l.file n l.plan → room l.file n ≤ length l.initial.places → room l.file n ≤ length l.initial.amounts → length l.m ≡ flat_place_count n → Seeking n l.m l.tried l.t) × (length l.places ≡ length l.initial.places) × (length l.amounts ≡ length l.initial.amounts) × (l.t ≤ l.transitions) × (l.tried ≤ l.t * 4228250625)
+
+abbrev pub decreases-loop-t : goal.decreases-loop-t
+decreases-loop-t l = l.transitions - l.t
