@@ -3,7 +3,6 @@ use native.Mathlib.Omega.{arith}
 use Rattle.net.specs.Reader.{read_expression}
 use Rattle.evaluation.specs.internal.Evaluated.{scope_in, place_by}
 use Rattle.row_lengths.proofs.MostRead.{numbered, sum-most, less_most, all_most, one_most, times_told, either_told, most_past, most_shut, most_stray}
-use Prim.Native.Nat.{ℕ, ◌+◌, ◌<◌}
 use Rattle.row_lengths.proofs.arcs.+most_at_most_inside_most_joined.Goals as goal
 
 pub most_at-returns-then-bytes-at : goal.most_at-returns-then-bytes-at

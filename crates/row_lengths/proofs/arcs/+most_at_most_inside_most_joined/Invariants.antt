@@ -1,9 +1,4 @@
-use borrow.Author.Rules.{rules}
-use native.Mathlib.Omega.{arith}
-use Rattle.net.specs.Reader.{read_expression}
-use Rattle.evaluation.specs.internal.Evaluated.{scope_in, place_by}
-use Rattle.row_lengths.proofs.MostRead.{numbered, sum-most, less_most, all_most, one_most, times_told, either_told, most_past, most_shut, most_stray}
-use Prim.Native.Nat.{ℕ, ◌+◌, ◌<◌}
+use Prim.Native.Nat.{◌+◌}
 use Rattle.row_lengths.proofs.arcs.+most_at_most_inside_most_joined.Given as goal
 
 abbrev pub decreases-most_at : goal.decreases-most_at

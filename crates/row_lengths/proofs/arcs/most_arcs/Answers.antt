@@ -1,4 +1,3 @@
-use borrow.Author.Rules.{rules}
 use Rattle.row_lengths.proofs.MostRead.{entry_told}
 use Rattle.row_lengths.proofs.arcs.most_arcs.Goals as goal
 

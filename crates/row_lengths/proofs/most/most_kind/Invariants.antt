@@ -1,7 +1,5 @@
-use borrow.Author.Rules.{rules}
-use native.Mathlib.Omega.{arith}
 use Prim.Native.Nat.{◌≤◌, ◌*◌, ◌-◌}
-use Rattle.row_lengths.proofs.MostRows.{MostTo, most_begins, most_goes, most_stops, most_ends}
+use Rattle.row_lengths.proofs.MostRows.{MostTo}
 use Rattle.row_lengths.proofs.most.most_kind.Given as goal
 
 abbrev pub invariant-loop-i : goal.invariant-loop-i

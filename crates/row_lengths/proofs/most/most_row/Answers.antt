@@ -1,4 +1,3 @@
-use borrow.Author.Rules.{rules}
 use native.Mathlib.Omega.{arith}
 use Rattle.row_lengths.proofs.MostRows.{row-most}
 use Rattle.row_lengths.proofs.most.most_row.Goals as goal
