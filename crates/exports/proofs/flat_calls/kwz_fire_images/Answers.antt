@@ -1,0 +1,6 @@
+use mathlib.Core.Path.{ap, ◌∙◌}
+use Rattle.codes.specs.Codes.{fire_code}
+use Rattle.exports.proofs.flat_calls.kwz_fire_images.Goals as goal
+
+pub returns : goal.returns
+returns c = c.give_fired.ensures c.fire_images.new.marking c.fire_images.new.answers ∙ ap fire_code c.fire_images.ensures

@@ -1,0 +1,6 @@
+use mathlib.Core.Path.{ap, ◌∙◌}
+use Rattle.codes.specs.Codes.{write_code}
+use Rattle.exports.proofs.unfold_calls.kwz_images.Goals as goal
+
+pub returns : goal.returns
+returns c = c.give_images.ensures c.images.new.out ∙ ap write_code c.images.ensures
