@@ -1,4 +1,5 @@
 -- The binding of each number: choices and bindings by their place in the list. Assumes nothing.
+use Rattle.std.specs.Prelude.{◌+◌, ◌*◌, ◌/◌, ◌%◌, ◌∷◌, ◌++◌}
 use mathlib.Core.Path.{◌≡◌, refl, sym, ap, ap₂, ◌∙◌}
 use Prim.Native.Nat.{◌≤◌, ◌<◌, ◌-◌}
 use native.Mathlib.Omega.{arith}
@@ -7,7 +8,7 @@ use native.Mathlib.Nat.{zero-add, mul-zero, zero-mul, suc-mul, add-mul, mul_asso
 use borrow.Author.Tests.{ltb-true, ltb-false}
 use lib.ListN.{length-map}
 use lib.Seq.{take-length, take-suc, length-take-le, get_or-take}
-use Rattle.reading.specs.Basics.{ℕ, zero, suc, ◌+◌, ◌*◌, ◌/◌, ◌%◌, Bool, true, false, ltb, List, [], ◌∷◌, ◌++◌, map, flat_map, some, option_map, length, take, get_or, get_elem?, with, numbers_from, below, sum, product}
+use Rattle.reading.specs.Basics.{ℕ, zero, suc, Bool, true, false, ltb, List, [], map, flat_map, some, option_map, length, take, get_or, get_elem?, with, numbers_from, below, sum, product}
 use Rattle.reading.proofs.Lists.{map_same, map_get_d, of_from}
 use Rattle.net_parts.proofs.Totals.{sum-with}
 use Rattle.net.specs.Net.{Transition, Net, sizes_of, binding_space, no_transition, transition_at}

@@ -1,4 +1,5 @@
 -- The colours of a binding by its number, slot by slot, from the last one down. Assumes nothing.
+use Rattle.std.specs.Prelude.{◌+◌, ◌*◌, ◌/◌, ◌%◌, ◌∷◌, ◌++◌}
 use mathlib.Core.Path.{◌≡◌, refl, sym, ap, ap₂, ◌∙◌}
 use Prim.Native.Nat.{◌≤◌, ◌<◌, ◌-◌}
 use native.Mathlib.Omega.{arith}
@@ -6,7 +7,7 @@ use native.Mathlib.Numerals.{add-one}
 use native.Mathlib.Nat.{div-one, div-div-eq-div-mul, mul_comm}
 use lib.ListN.{drop_of_length-le}
 use lib.Seq.{drop-cons}
-use Rattle.reading.specs.Basics.{ℕ, zero, suc, ◌+◌, ◌*◌, ◌/◌, ◌%◌, List, [], ◌∷◌, ◌++◌, length, get_or, take, drop, product}
+use Rattle.reading.specs.Basics.{ℕ, zero, suc, List, [], length, get_or, take, drop, product}
 use Rattle.net.specs.Net.{Net}
 use Rattle.net_file.specs.Limits.{Limits}
 use Rattle.prepared.specs.internal.TransitionVariables.{Owned, slot_size}

@@ -1,4 +1,5 @@
 -- The colours that an order names, given to a transition's variables one by one, and the number of the binding. Assumes nothing.
+use Rattle.std.specs.Prelude.{◌+◌, ◌*◌, ◌&&◌, ◌∷◌}
 use mathlib.Core.Path.{◌≡◌, refl, sym, ap, ap₂, subst, ◌∙◌}
 use mathlib.Core.Logic.{⊎_elim}
 use Prim.Native.Nat.{◌≤◌, ◌<◌, ◌^◌}
@@ -8,7 +9,7 @@ use native.Mathlib.Nat.{eq-or-lt_of_le, mul-one, mul_assoc, add-mul, zero-mul, m
 use borrow.Author.Tests.{ltb-true, ltb-false, eq-eqb, ne_eqb}
 use lib.ListN.{set, length-map, length-drop, drop_of_length-le}
 use lib.Seq.{get_or-set_same, get_or-set_other, get_or-take, get_or-drop, drop-cons, length-take-le, ext_get_or}
-use Rattle.reading.specs.Basics.{ℕ, suc, ◌+◌, ◌*◌, Bool, true, false, ◌&&◌, List, [], ◌∷◌, length, get_or, take, drop, ltb, eqb, every, product}
+use Rattle.reading.specs.Basics.{ℕ, suc, Bool, true, false, List, [], length, get_or, take, drop, ltb, eqb, every, product}
 use Rattle.reading.proofs.Lists.{Apart}
 use Rattle.net.specs.Net.{Net}
 use Rattle.net_file.specs.Limits.{Limits}

@@ -1,9 +1,10 @@
 -- A binding has an effect exactly where it is legal, and that is where its guard holds. Assumes nothing.
+use Rattle.std.specs.Prelude.{◌||◌, if◌then◌else◌}
 use mathlib.Core.Path.{◌≡◌, refl, sym, ap, subst, ◌∙◌}
 use Prim.Native.Nat.{◌≤◌, ◌<◌}
 use native.Mathlib.Omega.{arith}
 use borrow.Author.Tests.{ltb-true}
-use Rattle.reading.specs.Basics.{ℕ, Bool, true, false, ◌||◌, List, length, get_or, any, Option, none, some, if◌then◌else◌, given}
+use Rattle.reading.specs.Basics.{ℕ, Bool, true, false, List, length, get_or, any, Option, none, some, given}
 use Rattle.firing.specs.Firing.{Weights}
 use Rattle.net.specs.Net.{Net, in_guard, in_expression, transition_at}
 use Rattle.net.specs.Reader.{read_guard}

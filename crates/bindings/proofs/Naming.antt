@@ -1,9 +1,10 @@
 -- The binding that the order number i of a list names: by its command, its transition and its colours. Assumes nothing.
+use Rattle.std.specs.Prelude.{◌+◌, ◌*◌}
 use mathlib.Core.Path.{◌≡◌, sym, ap, subst, ◌∙◌}
 use Prim.Native.Nat.{◌≤◌, ◌<◌}
 use native.Mathlib.Omega.{arith}
 use native.Mathlib.Nat.{add-zero}
-use Rattle.reading.specs.Basics.{ℕ, ◌+◌, ◌*◌, Bool, true, false, List, none, some, length, take, drop, byte_at, get_or}
+use Rattle.reading.specs.Basics.{ℕ, Bool, true, false, List, none, some, length, take, drop, byte_at, get_or}
 use Rattle.net.specs.Net.{Net}
 use Rattle.plan.specs.internal.Layout.{transitions_in, own_in}
 use Rattle.prepared.specs.internal.Prepared.{Prepared}

@@ -1,4 +1,5 @@
 -- Bindings by the table of each transition's own variables: what a slot holds, and the colours that the variables' slots hold. Assumes nothing.
+use Rattle.std.specs.Prelude.{◌+◌, ◌*◌, ◌∷◌, if◌then◌else◌}
 use mathlib.Core.Path.{◌≡◌, refl, sym, ap, ap₂, subst, ◌∙◌}
 use mathlib.Core.List.Memᴰ
 use Prim.Native.Nat.{◌≤◌, ◌<◌, ◌^◌}
@@ -8,7 +9,7 @@ use native.Mathlib.Nat.{zero-div, zero-mod, mul-one, mul-le-mul, le_trans, pow-s
 use borrow.Author.Tests.{ltb-true, ltb-false, eqb-true, eq-eqb, ne_eqb}
 use lib.ListN.{length-map, get_or-eq_default}
 use lib.Seq.{take_all, take-suc}
-use Rattle.reading.specs.Basics.{ℕ, zero, suc, ◌+◌, ◌*◌, Bool, true, false, List, [], ◌∷◌, map, length, get_or, take, ltb, eqb, if◌then◌else◌, replicate, below, keep, product}
+use Rattle.reading.specs.Basics.{ℕ, zero, suc, Bool, true, false, List, [], map, length, get_or, take, ltb, eqb, replicate, below, keep, product}
 use Rattle.reading.proofs.Lists.{In, here, there, in_cases, Apart, alone, new, apart_from, in_from, of_from, at_in, at_below, get_d_at}
 use Rattle.net.specs.Net.{Net, size_of, sizes_of, variables_of, in_transition, no_transition, transition_at}
 use Rattle.net_file.specs.Limits.{Limits}

@@ -1,4 +1,5 @@
 -- From a transition's binding to the next, or on by so many: the last variable changes fastest, and one that had its last colour begins anew. Assumes nothing.
+use Rattle.std.specs.Prelude.{◌+◌, ◌*◌, ◌/◌, ◌%◌, ◌∷◌}
 use mathlib.Core.Path.{◌≡◌, refl, sym, ap, ap₂, subst, ◌∙◌}
 use Prim.Native.Nat.{◌≤◌, ◌<◌, ◌-◌}
 use native.Mathlib.Omega.{arith}
@@ -7,7 +8,7 @@ use native.Mathlib.Nat.{add-mul, zero-mul, one-mul, suc-mul, mul_assoc, mod-lt, 
 use borrow.Author.Tests.{ltb-true, ltb-false}
 use lib.ListN.{set, drop_of_length-le}
 use lib.Seq.{get_or-set_same, get_or-set_other, drop-cons}
-use Rattle.reading.specs.Basics.{ℕ, zero, suc, ◌+◌, ◌*◌, ◌/◌, ◌%◌, Bool, true, false, List, [], ◌∷◌, length, get_or, drop, ltb, product}
+use Rattle.reading.specs.Basics.{ℕ, zero, suc, Bool, true, false, List, [], length, get_or, drop, ltb, product}
 use Rattle.reading.proofs.Lists.{here, Apart, alone, new, map_same}
 use Rattle.net.specs.Net.{Net}
 use Rattle.net_file.specs.Limits.{Limits}

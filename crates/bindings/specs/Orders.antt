@@ -1,5 +1,6 @@
 -- Orders, and firing them on the drawing.
-use Rattle.reading.specs.Basics.{ℕ, Bool, false, ◌&&◌, List, [], ◌∷◌, ◌++◌, map, Option, none, some, length, take, drop, ltb, eqb, if◌then◌else◌, given, every, byte_at, items}
+use Rattle.std.specs.Prelude.{◌&&◌, ◌∷◌, ◌++◌, if◌then◌else◌}
+use Rattle.reading.specs.Basics.{ℕ, Bool, false, List, [], map, Option, none, some, length, take, drop, ltb, eqb, given, every, byte_at, items}
 use Rattle.reading.specs.Reading.{Outcome}
 use Rattle.firing.specs.Firing.{Fired, fired, fire, First}
 use Rattle.firing.specs.Calls.{FireCall, marking_checks, fire_checks, fire_call, first_call}

@@ -1,5 +1,6 @@
 -- An order as the replies carry it.
-use Rattle.reading.specs.Basics.{ℕ, List, [], ◌∷◌}
+use Rattle.std.specs.Prelude.{◌∷◌}
+use Rattle.reading.specs.Basics.{ℕ, List, []}
 use Rattle.bindings.specs.declared.order.Order.{Order}
 
 -- its bytes

@@ -1,6 +1,7 @@
 -- What a call for C gives back. Code 0 is a refusal, with its number and its place; codes 1 and 2 are answers; a number that
 -- says nothing is 0. One equality with these fixes the code, every number and every list that was lent for writing.
-use Rattle.reading.specs.Basics.{ℕ, List, [], ◌∷◌, Option, none, some}
+use Rattle.std.specs.Prelude.{◌∷◌}
+use Rattle.reading.specs.Basics.{ℕ, List, [], Option, none, some}
 use Rattle.reading.specs.Reading.{Outcome, accepted, refused}
 use Rattle.firing.specs.Firing.{First, found, nothing}
 use Rattle.firing.specs.Calls.{FireCall}

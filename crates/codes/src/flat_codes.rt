@@ -1,6 +1,6 @@
 // What the calls on flat files reply, as codes and numbers.
-ghost use Rattle.std.specs.Prelude.{◌≡◌};
-ghost use Rattle.reading.specs.Basics.{ℕ, List, [], ◌∷◌};
+ghost use Rattle.std.specs.Prelude.{◌≡◌, ◌∷◌};
+ghost use Rattle.reading.specs.Basics.{ℕ, List, []};
 ghost use Rattle.flat.specs.Replies.{fire_called, first_reply, sizes_reply};
 ghost use Rattle.codes.specs.Codes.{returned, fire_code, first_row_code, sizes_code};
 

@@ -1,6 +1,6 @@
 // How a call gives its answer back.
-ghost use Rattle.std.specs.Prelude.{◌≡◌};
-ghost use Rattle.reading.specs.Basics.{ℕ, List, ◌∷◌};
+ghost use Rattle.std.specs.Prelude.{◌≡◌, ◌∷◌};
+ghost use Rattle.reading.specs.Basics.{ℕ, List};
 ghost use Rattle.bindings.specs.Replies.{bytes_of};
 ghost use Rattle.codes.specs.Codes.{returned};
 

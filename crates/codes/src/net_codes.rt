@@ -1,6 +1,6 @@
 // What the calls on net files reply, as codes and numbers: sizes, and firing on the drawing.
-ghost use Rattle.std.specs.Prelude.{◌≡◌};
-ghost use Rattle.reading.specs.Basics.{ℕ, List, [], ◌∷◌};
+ghost use Rattle.std.specs.Prelude.{◌≡◌, ◌∷◌};
+ghost use Rattle.reading.specs.Basics.{ℕ, List, []};
 ghost use Rattle.net_reader.specs.Replies.{net_reply};
 ghost use Rattle.coloured.specs.Replies.{fire_called};
 ghost use Rattle.search.specs.Replies.{first_reply};

@@ -1,6 +1,6 @@
 // What the calls from the drawing to the flat net and back reply, as codes and numbers.
-ghost use Rattle.std.specs.Prelude.{◌≡◌};
-ghost use Rattle.reading.specs.Basics.{ℕ, List, [], ◌∷◌};
+ghost use Rattle.std.specs.Prelude.{◌≡◌, ◌∷◌};
+ghost use Rattle.reading.specs.Basics.{ℕ, List, []};
 ghost use Rattle.images.specs.Replies.{images_called, order_reply};
 ghost use Rattle.unfolding.specs.Replies.{unfold_called};
 ghost use Rattle.codes.specs.Codes.{returned, row_order_code, write_code};

@@ -1,8 +1,9 @@
 -- The call that fires a list of orders, on a net file that is read whole, or refused. Assumes nothing.
+use Rattle.std.specs.Prelude.{◌/◌, ◌%◌}
 use mathlib.Core.Path.{◌≡◌}
 use Prim.Native.Nat.{◌≤◌, ◌<◌}
 use borrow.Author.Tests.{le-leb, lt-leb, eq-eqb, ne_eqb}
-use Rattle.reading.specs.Basics.{ℕ, ◌/◌, ◌%◌, List, length, items}
+use Rattle.reading.specs.Basics.{ℕ, List, length, items}
 use Rattle.reading.specs.Reading.{accepted, refused}
 use Rattle.reading.proofs.Permits.{done, holds, fails, behind}
 use Rattle.firing.specs.internal.Loops.{Ran}

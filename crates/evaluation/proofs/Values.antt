@@ -1,10 +1,11 @@
 -- What an evaluator gives, from what stands in the bytes: by cases on the reading. Assumes nothing.
+use Rattle.std.specs.Prelude.{◌+◌, ◌-◌, ◌&&◌, ◌||◌, ◌∷◌, if◌then◌else◌}
 use mathlib.Core.Path.{◌≡◌, refl, ap, subst}
 use Prim.Native.Nat.{◌≤◌, ◌<◌}
 use native.Mathlib.Omega.{arith}
 use borrow.Author.Tests.{leb-true, leb-false, eqb-true}
 use lib.ListN.{get_or-eq_default}
-use Rattle.reading.specs.Basics.{ℕ, ◌+◌, ◌-◌, Bool, true, false, not, ◌&&◌, ◌||◌, List, [], ◌∷◌, Option, some, none, option_map, length, get_or, leb, ltb, eqb, if◌then◌else◌, given, find, byte_at}
+use Rattle.reading.specs.Basics.{ℕ, Bool, true, false, not, List, [], Option, some, none, option_map, length, get_or, leb, ltb, eqb, given, find, byte_at}
 use Rattle.reading.specs.Reading.{Answer, fine, fault, ◌and_then◌, under, Check, ◌unless◌, failing, checked, Command, obey, standing, needed}
 use Rattle.reading.proofs.Commands.{known, needed_at, needed_past}
 use Rattle.reading.proofs.Within.{by_test}

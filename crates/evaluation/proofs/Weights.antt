@@ -1,10 +1,11 @@
 -- Weights of arc expressions, from what stands in the bytes: by cases on the reading. Assumes nothing.
+use Rattle.std.specs.Prelude.{◌+◌, ◌&&◌, ◌∷◌, if◌then◌else◌}
 use mathlib.Core.Path.{◌≡◌, refl, ap}
 use Prim.Native.Nat.{◌≤◌, ◌<◌, ◌*◌}
 use native.Mathlib.Omega.{arith}
 use native.Mathlib.Nat.{mul-le-mul_left}
 use borrow.Author.Tests.{leb-true}
-use Rattle.reading.specs.Basics.{ℕ, ◌+◌, Bool, true, false, ◌&&◌, List, [], ◌∷◌, length, leb, eqb, if◌then◌else◌, given, byte_at, word_at}
+use Rattle.reading.specs.Basics.{ℕ, Bool, true, false, List, [], length, leb, eqb, given, byte_at, word_at}
 use Rattle.reading.specs.Reading.{Answer, fine, fault, ◌and_then◌, under, ◌unless◌, failing, checked}
 use Rattle.net.specs.Net.{Colour, Expression, one, two, all, plus, minus, times, Place, single, pair, Net, size_of, set_of, ceiling}
 use Rattle.net.specs.Reader.{read_colour, read_expression, two_of, amount, capped}

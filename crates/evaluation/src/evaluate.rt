@@ -1,7 +1,7 @@
 // Evaluates the expressions of a net file under a binding, which gives each variable's colour.
 // Nothing is asked of the bytes: where they hold a tree, what comes out is the tree's.
-ghost use Rattle.std.specs.Prelude.{◌≡◌, List, ℕ, ◌≤◌, ◌<◌, ◌+◌, ◌^◌, length};
-ghost use Rattle.reading.specs.Basics.{if◌then◌else◌, ltb, eqb};
+ghost use Rattle.std.specs.Prelude.{◌≡◌, List, ℕ, ◌≤◌, ◌<◌, ◌+◌, ◌^◌, length, if◌then◌else◌};
+ghost use Rattle.reading.specs.Basics.{ltb, eqb};
 ghost use Rattle.net.specs.Net.{Place, equal, less};
 ghost use Rattle.net.specs.Reader.{read_colour, read_guard, comparison, amount};
 ghost use Rattle.evaluation.specs.internal.Evaluated.{scope_in, Valued, GuardHeld, Ranks, place_by, after, before};

@@ -1,6 +1,6 @@
 // The calls on flat files.
-ghost use Rattle.std.specs.Prelude.{◌≡◌};
-ghost use Rattle.reading.specs.Basics.{[], ◌∷◌};
+ghost use Rattle.std.specs.Prelude.{◌≡◌, ◌∷◌};
+ghost use Rattle.reading.specs.Basics.{[]};
 ghost use Rattle.flat_file.specs.Flat.{fire_images, first_row, flat_sizes};
 ghost use Rattle.codes.specs.Codes.{returned, fire_code, first_row_code, sizes_code};
 

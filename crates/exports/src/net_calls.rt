@@ -1,6 +1,6 @@
 // The calls on net files: sizes, and firing on the drawing.
-ghost use Rattle.std.specs.Prelude.{◌≡◌};
-ghost use Rattle.reading.specs.Basics.{[], ◌∷◌};
+ghost use Rattle.std.specs.Prelude.{◌≡◌, ◌∷◌};
+ghost use Rattle.reading.specs.Basics.{[]};
 ghost use Rattle.net_reader.specs.Sizes.{net_sizes};
 ghost use Rattle.bindings.specs.Orders.{fire_orders, first_order};
 ghost use Rattle.codes.specs.Codes.{returned, fire_code, first_order_code, net_code};

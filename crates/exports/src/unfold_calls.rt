@@ -1,6 +1,6 @@
 // The calls from the drawing to the flat net and back.
-ghost use Rattle.std.specs.Prelude.{◌≡◌};
-ghost use Rattle.reading.specs.Basics.{[], ◌∷◌};
+ghost use Rattle.std.specs.Prelude.{◌≡◌, ◌∷◌};
+ghost use Rattle.reading.specs.Basics.{[]};
 ghost use Rattle.row_numbers.specs.Unfolding.{images_call, order_call, unfold_call};
 ghost use Rattle.codes.specs.Codes.{returned, row_order_code, write_code};
 

@@ -1,10 +1,11 @@
 -- The firing rule looks at the weights of the marking's own flat places, and keeps their number and the capacities. Assumes nothing.
+use Rattle.std.specs.Prelude.{◌+◌, ◌-◌, ◌&&◌, if◌then◌else◌}
 use mathlib.Core.Path.{◌≡◌, refl, ap, ap₂, ◌∙◌}
 use Prim.Native.Nat.{◌<◌}
 use native.Mathlib.Omega.{arith}
 use borrow.Author.Tests.{ltb-false}
 use lib.ListN.{length-map}
-use Rattle.reading.specs.Basics.{ℕ, ◌+◌, ◌-◌, Bool, true, false, ◌&&◌, List, [], map, length, get_or, ltb, leb, if◌then◌else◌, below, any}
+use Rattle.reading.specs.Basics.{ℕ, Bool, true, false, List, [], map, length, get_or, ltb, leb, below, any}
 use Rattle.reading.proofs.Lists.{In, of_from, length_from, get_d_below, any_same, map_same}
 use Rattle.firing.specs.Firing.{Weights, Fired, fired, lacks, hindered, capacity, moved, spills, Kept, fire}
 use Rattle.firing.proofs.Rule.{none_from}

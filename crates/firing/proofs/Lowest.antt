@@ -1,10 +1,11 @@
 -- A row's arcs rise, so the first arc of which a test holds stands at the lowest flat place of which it holds. Assumes nothing.
+use Rattle.std.specs.Prelude.{◌+◌, ◌-◌, ◌||◌, ◌∷◌, if◌then◌else◌}
 use mathlib.Core.Path.{◌≡◌, refl, sym, ap, ◌∙◌}
 use mathlib.Core.Logic.{⊎_elim}
 use Prim.Native.Nat.{◌≤◌, ◌<◌}
 use native.Mathlib.Omega.{arith}
 use native.Mathlib.Nat.{eq-or-lt_of_le}
-use Rattle.reading.specs.Basics.{ℕ, zero, suc, ◌+◌, ◌-◌, Bool, true, false, ◌||◌, List, [], ◌∷◌, none, some, get_or, if◌then◌else◌, find, any, numbers_from, below}
+use Rattle.reading.specs.Basics.{ℕ, zero, suc, Bool, true, false, List, [], none, some, get_or, find, any, numbers_from, below}
 use Rattle.firing.specs.Arcs.{Arc, Rising, more}
 use Rattle.firing.specs.internal.RowLists.{arcs_in}
 use Rattle.firing.specs.internal.Steps.{arc_at, first_in}

@@ -1,10 +1,11 @@
 -- Passes over the arcs that stand in two lent lists, one arc a turn. Assumes nothing.
+use Rattle.std.specs.Prelude.{◌+◌, ◌-◌, ◌<◌, ◌&&◌, ◌||◌, ◌∷◌, if◌then◌else◌}
 use mathlib.Core.Path.{◌≡◌, refl, sym, ap, ◌∙◌}
 use native.Mathlib.Omega.{arith}
 use Prim.Native.Nat.{◌≤◌}
 use native.Mathlib.Decide.{dec_lt}
 use borrow.Author.Tests.{lt-ltb, le-ltb, eq-eqb, ne_eqb, leb-true, leb-false}
-use Rattle.reading.specs.Basics.{ℕ, zero, suc, ◌+◌, ◌-◌, ◌<◌, Bool, true, false, not, ◌&&◌, ◌||◌, List, [], ◌∷◌, length, get_or, ltb, leb, eqb, if◌then◌else◌, find, any}
+use Rattle.reading.specs.Basics.{ℕ, zero, suc, Bool, true, false, not, List, [], length, get_or, ltb, leb, eqb, find, any}
 use Rattle.firing.specs.Firing.{capacity}
 use Rattle.firing.specs.Arcs.{Arc, Rising, none, more, weight_in}
 use Rattle.firing.specs.internal.RowLists.{arcs_in}

@@ -1,10 +1,11 @@
 -- Laws of rising arcs, and of arcs in lent lists. Assumes nothing.
+use Rattle.std.specs.Prelude.{◌+◌, ◌-◌, ◌<◌, ◌∷◌}
 use mathlib.Core.Path.{◌≡◌, refl, sym, ◌∙◌}
 use native.Mathlib.Omega.{arith}
 use Prim.Native.Nat.{◌≤◌}
 use lib.ListN.{length-map}
 use borrow.Author.Tests.{eq-eqb, ne_eqb, eqb-true, eqb-false}
-use Rattle.reading.specs.Basics.{ℕ, suc, ◌+◌, ◌-◌, ◌<◌, Bool, true, false, List, [], ◌∷◌, length, eqb, find, numbers_from}
+use Rattle.reading.specs.Basics.{ℕ, suc, Bool, true, false, List, [], length, eqb, find, numbers_from}
 use Rattle.reading.proofs.Lists.{length_from}
 use Rattle.firing.specs.Arcs.{Arc, Rising, none, more, weight_in}
 use Rattle.firing.specs.internal.RowLists.{arcs_in}

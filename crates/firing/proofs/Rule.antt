@@ -1,4 +1,5 @@
 -- The firing rule over all flat places is the rule over a row's arcs. Assumes nothing.
+use Rattle.std.specs.Prelude.{◌+◌, ◌-◌, ◌<◌, ◌&&◌, ◌||◌, ◌∷◌, if◌then◌else◌}
 use mathlib.Core.Path.{◌≡◌, refl, sym, ap, ◌∙◌}
 use native.Mathlib.Omega.{arith}
 use native.Mathlib.Nat.{mod-eq_of_lt}
@@ -6,7 +7,7 @@ use Prim.Native.Nat.{◌≤◌}
 use borrow.Author.Tests.{ltb-true, ltb-false, eqb-true, eqb-false}
 use lib.ListN.{set, length-set, length-map}
 use lib.Seq.{get_or-set_same, get_or-set_other, ext_get_or}
-use Rattle.reading.specs.Basics.{ℕ, zero, suc, ◌+◌, ◌-◌, ◌<◌, Bool, true, false, ◌&&◌, ◌||◌, find, List, [], ◌∷◌, map, length, get_or, ltb, leb, eqb, if◌then◌else◌, any, below, numbers_from}
+use Rattle.reading.specs.Basics.{ℕ, zero, suc, Bool, true, false, find, List, [], map, length, get_or, ltb, leb, eqb, any, below, numbers_from}
 use Rattle.reading.proofs.Lists.{length-below, get_d_below}
 use Rattle.firing.specs.Firing.{Weights, fired, lacks, hindered, capacity, moved, spills, Kept, fire}
 use Rattle.firing.specs.Arcs.{Arc, Row, Rising, none, more, Proper, weight_in, weights}

@@ -1,4 +1,5 @@
 -- Lists of orders fired by a loop, calls, and the search for the first that fires, for any engine. Assumes nothing.
+use Rattle.std.specs.Prelude.{◌+◌, ◌*◌, ◌/◌, ◌∷◌, ◌++◌, if◌then◌else◌}
 use mathlib.Core.Path.{◌≡◌, refl, sym, ap, ◌∙◌}
 use Prim.Native.Nat.{◌≤◌, ◌<◌}
 use native.Mathlib.Omega.{arith}
@@ -7,7 +8,7 @@ use native.Mathlib.Nat.{add-zero, zero-add}
 use borrow.Author.Tests.{lt-ltb, le-ltb}
 use lib.ListN.{set, length-append, length-set, length-map}
 use lib.Seq.{drop-cons, take_all, length-take-le, set_at, append_snoc, get_or-take, get_or-drop}
-use Rattle.reading.specs.Basics.{ℕ, zero, suc, ◌+◌, ◌*◌, ◌/◌, Bool, true, false, List, [], ◌∷◌, ◌++◌, map, some, length, take, drop, get_elem?, if◌then◌else◌, with, numbers_from, below, eqb, byte_at, word_at, long_at, items, over}
+use Rattle.reading.specs.Basics.{ℕ, zero, suc, Bool, true, false, List, [], map, some, length, take, drop, get_elem?, with, numbers_from, below, eqb, byte_at, word_at, long_at, items, over}
 use Rattle.reading.specs.Reading.{Outcome, accepted, refused, CallCheck}
 use Rattle.reading.proofs.Lists.{below_at, at_map, length-below, below_is}
 use Rattle.reading.proofs.Permits.{Permits, Refuses, permitting, refusing_at}

@@ -1,11 +1,12 @@
 -- Weights written as arcs: what the arcs give back, and that they rise. Assumes nothing.
+use Rattle.std.specs.Prelude.{◌+◌, ◌∷◌, if◌then◌else◌}
 use mathlib.Core.Path.{◌≡◌, refl, ap}
 use mathlib.Core.Logic.{⊎_elim}
 use Prim.Native.Nat.{◌≤◌, ◌<◌}
 use native.Mathlib.Omega.{arith}
 use native.Mathlib.Nat.{eq-or-lt_of_le}
 use borrow.Author.Tests.{ltb-true, ltb-false, eq-eqb, ne_eqb}
-use Rattle.reading.specs.Basics.{ℕ, zero, suc, ◌+◌, Bool, true, false, List, ◌∷◌, map, Option, none, ltb, eqb, if◌then◌else◌, given, numbers_from, keep, find}
+use Rattle.reading.specs.Basics.{ℕ, zero, suc, Bool, true, false, List, map, Option, none, ltb, eqb, given, numbers_from, keep, find}
 use Rattle.firing.specs.Firing.{Weights}
 use Rattle.firing.specs.Arcs.{Arc, weight_in, weights, arcs_of, row_of, Rising, none, more, Proper}
 use Rattle.firing.proofs.Agree.{Agree}

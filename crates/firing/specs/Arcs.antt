@@ -1,6 +1,6 @@
 -- Weights written as arcs: a row has those above 0, by kind and rising flat place.
-use Rattle.std.specs.Prelude.{◌≤◌, ◌<◌}
-use Rattle.reading.specs.Basics.{ℕ, ◌+◌, List, [], ◌∷◌, map, ltb, eqb, given, find, keep, below}
+use Rattle.std.specs.Prelude.{◌≤◌, ◌<◌, ◌+◌, ◌∷◌}
+use Rattle.reading.specs.Basics.{ℕ, List, [], map, ltb, eqb, given, find, keep, below}
 use Rattle.firing.specs.Firing.{Weights}
 
 -- an arc of a row: a flat place, and the weight there

@@ -1,5 +1,6 @@
 -- The calls of an engine, for any net that is read from a file: firing a list of orders, and the first that fires.
-use Rattle.reading.specs.Basics.{ℕ, ◌/◌, ◌%◌, List, [], ◌∷◌, ◌++◌, map, length, leb, eqb, over}
+use Rattle.std.specs.Prelude.{◌/◌, ◌%◌, ◌∷◌, ◌++◌}
+use Rattle.reading.specs.Basics.{ℕ, List, [], map, length, leb, eqb, over}
 use Rattle.reading.specs.Reading.{Outcome, accepted, refused, on, CallCheck, ◌when_not◌, permitted}
 use Rattle.firing.specs.Firing.{Fired, run, ending, First, first}
 

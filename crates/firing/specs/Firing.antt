@@ -1,6 +1,6 @@
 -- The firing rule, for any engine: capacities, weights and a marking; lists of orders fired in turn; the first that fires.
-use Rattle.std.specs.Prelude.{◌≤◌, ◌<◌}
-use Rattle.reading.specs.Basics.{ℕ, ◌+◌, ◌-◌, Bool, ◌&&◌, List, [], ◌∷◌, map, length, get_or, ltb, leb, if◌then◌else◌, below, any}
+use Rattle.std.specs.Prelude.{◌≤◌, ◌<◌, ◌+◌, ◌-◌, ◌&&◌, ◌∷◌, if◌then◌else◌}
+use Rattle.reading.specs.Basics.{ℕ, Bool, List, [], map, length, get_or, ltb, leb, below, any}
 
 -- ---- one order
 -- what an order takes, puts, and is hindered by, at each flat place; 0 where nothing is written

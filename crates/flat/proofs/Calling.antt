@@ -1,9 +1,10 @@
 -- The calls on a flat file that is read whole, or refused. Assumes nothing.
+use Rattle.std.specs.Prelude.{◌+◌, ◌/◌, ◌%◌}
 use mathlib.Core.Path.{◌≡◌, sym, ap, ◌∙◌, subst}
 use Prim.Native.Nat.{◌≤◌, ◌<◌}
 use native.Mathlib.Omega.{arith}
 use borrow.Author.Tests.{le-leb, lt-leb, eq-eqb, ne_eqb}
-use Rattle.reading.specs.Basics.{ℕ, ◌+◌, ◌/◌, ◌%◌, List, length, eqb, below, items}
+use Rattle.reading.specs.Basics.{ℕ, List, length, eqb, below, items}
 use Rattle.reading.specs.Reading.{accepted, refused}
 use Rattle.reading.proofs.Permits.{done, holds, fails, behind}
 use Rattle.firing.specs.Firing.{First, found, nothing, first}

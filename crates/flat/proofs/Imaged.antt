@@ -1,10 +1,11 @@
 -- The image number i of a list, fired: by its command byte and its row number. Assumes nothing.
+use Rattle.std.specs.Prelude.{◌+◌, ◌*◌}
 use mathlib.Core.Path.{◌≡◌, ap, ◌∙◌}
 use Prim.Native.Nat.{◌≤◌, ◌<◌}
 use native.Mathlib.Omega.{arith}
 use native.Mathlib.Nat.{add-zero}
 use borrow.Author.Tests.{lt-ltb, le-ltb, eq-eqb, ne_eqb}
-use Rattle.reading.specs.Basics.{ℕ, ◌+◌, ◌*◌, List, [], length, get_or, byte_at, long_at}
+use Rattle.reading.specs.Basics.{ℕ, List, [], length, get_or, byte_at, long_at}
 use Rattle.firing.specs.Firing.{fire, fired}
 use Rattle.firing.specs.Arcs.{row, weights}
 use Rattle.firing.proofs.Running.{item, item_byte, item_long}

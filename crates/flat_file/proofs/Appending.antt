@@ -1,4 +1,5 @@
 -- Pieces of bytes written one behind the other into a lent list. Assumes nothing.
+use Rattle.std.specs.Prelude.{◌+◌, ◌*◌, ◌-◌, ◌∷◌, ◌++◌}
 use mathlib.Core.Path.{◌≡◌, refl, sym, ap}
 use mathlib.Core.List.{append_assoc, append-nil}
 use Prim.Native.Nat.{◌≤◌, ◌<◌}
@@ -7,7 +8,7 @@ use native.Mathlib.Nat.{add-zero}
 use native.Mathlib.Numerals.{add-one}
 use lib.ListN.{set, length-append, length-drop, length-take}
 use lib.Seq.{drop-cons, get_or-take, length-take-le}
-use Rattle.reading.specs.Basics.{ℕ, zero, suc, ◌+◌, ◌*◌, ◌-◌, List, [], ◌∷◌, ◌++◌, flat_map, length, get_or, take, drop, over}
+use Rattle.reading.specs.Basics.{ℕ, zero, suc, List, [], flat_map, length, get_or, take, drop, over}
 use Rattle.firing.specs.internal.RowLists.{arcs_in, row_in}
 use Rattle.firing.proofs.Rows.{length_arcs}
 use Rattle.firing.proofs.Running.{over-set}

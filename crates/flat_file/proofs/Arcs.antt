@@ -1,4 +1,5 @@
 -- The arc at a place of the file, by its kind; and the arcs of a row read so far. Assumes nothing.
+use Rattle.std.specs.Prelude.{◌+◌, ◌-◌, ◌*◌, ◌&&◌, ◌∷◌}
 use mathlib.Core.Path.{◌≡◌, refl, sym, ap, ◌∙◌, subst}
 use Prim.Native.Nat.{◌≤◌, ◌<◌}
 use native.Mathlib.Omega.{arith}
@@ -6,7 +7,7 @@ use native.Mathlib.Decide.{dec_le, dec_lt}
 use borrow.Author.Tests.{lt-ltb, le-ltb, le-leb, lt-leb, ne_eqb}
 use mathlib.Core.Logic.{◌⊎◌, inl, inr}
 use lib.ListN.{set, length-set}
-use Rattle.reading.specs.Basics.{ℕ, zero, suc, ◌+◌, ◌-◌, ◌*◌, ◌&&◌, true, false, List, [], ◌∷◌, some, none, length, ltb, eqb, every, numbers_from, find, byte_at, word_at}
+use Rattle.reading.specs.Basics.{ℕ, zero, suc, true, false, List, [], some, none, length, ltb, eqb, every, numbers_from, find, byte_at, word_at}
 use Rattle.reading.specs.Reading.{fine, fault, ◌unless◌, obey}
 use Rattle.reading.proofs.Commands.{Fails, fails, later, passes, done, other, end, both_hold, first_fails, second_fails, standing_at, standing_none, obey_cut, obey_fails, obey_goes}
 use Rattle.reading.proofs.Parts.{Reading, begins, goes_on, ends, stops}

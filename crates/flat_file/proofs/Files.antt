@@ -1,4 +1,5 @@
 -- The places and the rows of a file read so far, and the file's parts in turn. Assumes nothing.
+use Rattle.std.specs.Prelude.{◌+◌, ◌*◌, ◌∷◌}
 use mathlib.Core.Path.{◌≡◌, refl, sym, ap, ◌∙◌}
 use Prim.Native.Nat.{◌≤◌, ◌<◌}
 use native.Mathlib.Omega.{arith}
@@ -6,7 +7,7 @@ use native.Mathlib.Decide.{dec_lt}
 use borrow.Author.Tests.{eq-eqb, ne_eqb}
 use lib.ListN.{set, length-set, length-append, get_or-append}
 use lib.Seq.{get_or-set_same, get_or-set_other, get_or_at}
-use Rattle.reading.specs.Basics.{ℕ, ◌+◌, ◌*◌, List, [], ◌∷◌, some, length, get_or, find, with, byte_at, word_at}
+use Rattle.reading.specs.Basics.{ℕ, List, [], some, length, get_or, find, with, byte_at, word_at}
 use Rattle.reading.specs.Reading.{Answer, fine, fault, under, ◌and_then◌, refused, outcome, command, whole, file}
 use Rattle.reading.proofs.Commands.{passes, done, fails, passing, failed, other, end, needed_past, needed_stray, needs_goes}
 use Rattle.reading.proofs.Parts.{Reading, begins, goes_on, ends, stops}

@@ -1,4 +1,5 @@
 -- Whatever bytes the flat reader accepts are those that are written of the net it found. Assumes nothing.
+use Rattle.std.specs.Prelude.{◌+◌, ◌-◌, ◌%◌, ◌/◌, ◌&&◌, ◌∷◌, ◌++◌}
 use mathlib.Core.Path.{◌≡◌, refl, sym, ap, ◌∙◌}
 use mathlib.Core.List.{append_assoc, append-nil}
 use Prim.Native.Nat.{◌≤◌}
@@ -6,7 +7,7 @@ use native.Mathlib.Omega.{arith}
 use native.Mathlib.Numerals.{add-one}
 use borrow.Author.Tests.{eqb-true}
 use lib.Seq.{take-suc, take-length}
-use Rattle.reading.specs.Basics.{ℕ, ◌+◌, ◌-◌, ◌%◌, ◌/◌, ◌&&◌, true, List, [], ◌∷◌, ◌++◌, flat_map, some, length, take, eqb, with, byte_at, word_at, Bytes, word}
+use Rattle.reading.specs.Basics.{ℕ, true, List, [], flat_map, some, length, take, eqb, with, byte_at, word_at, Bytes, word}
 use Rattle.reading.specs.Reading.{Answer, fine, ◌and_then◌, accepted, Part, whole, file}
 use Rattle.reading.proofs.Lists.{end, also, in_one, flat_with}
 use Rattle.reading.proofs.Keeps.{both_true, then_went, under_went, standing_stood, repeat_keeps_at, file_stood, outcome_went}

@@ -1,4 +1,5 @@
 -- What is written of a flat net is read back: places, the arcs of a row, rows, and the file. Assumes nothing.
+use Rattle.std.specs.Prelude.{◌+◌, ◌&&◌, ◌∷◌, ◌++◌}
 use mathlib.Core.Path.{◌≡◌, refl, sym, ap, ◌∙◌}
 use mathlib.Core.List.{append_assoc, append-nil}
 use Prim.Native.Nat.{◌≤◌, ◌<◌}
@@ -6,7 +7,7 @@ use native.Mathlib.Omega.{arith}
 use native.Mathlib.Nat.{add-zero}
 use borrow.Author.Tests.{lt-ltb, eq-eqb}
 use lib.ListN.{length-append}
-use Rattle.reading.specs.Basics.{ℕ, suc, ◌+◌, ◌&&◌, true, List, [], ◌∷◌, ◌++◌, flat_map, some, none, length, get_or, drop, ltb, eqb, find, any, every, with, byte_at, word_at}
+use Rattle.reading.specs.Basics.{ℕ, suc, true, List, [], flat_map, some, none, length, get_or, drop, ltb, eqb, find, any, every, with, byte_at, word_at}
 use Rattle.reading.specs.Reading.{Answer, fine, under, ◌unless◌, failing, Command, command, accepted, outcome, whole, file}
 use Rattle.reading.proofs.Commands.{known, done, passes, end, other, both_hold, standing_none, stands_goes, needs_goes}
 use Rattle.reading.proofs.Lists.{In, here, any_in}

@@ -1,9 +1,10 @@
 -- What stands where something was written, and how long what is written of a flat net is. Assumes nothing.
+use Rattle.std.specs.Prelude.{◌+◌, ◌-◌, ◌*◌, ◌∷◌, ◌++◌}
 use mathlib.Core.Path.{◌≡◌, refl, sym, ap, ◌∙◌}
 use native.Mathlib.Omega.{arith}
 use lib.ListN.{length-append, length-drop}
 use lib.Seq.{get_or-drop, drop-drop, drop-append_seam}
-use Rattle.reading.specs.Basics.{ℕ, ◌+◌, ◌-◌, ◌*◌, List, [], ◌∷◌, ◌++◌, map, flat_map, length, drop, sum, byte_at, word_at, word}
+use Rattle.reading.specs.Basics.{ℕ, List, [], map, flat_map, length, drop, sum, byte_at, word_at, word}
 use Rattle.firing.specs.Arcs.{Arc, Row}
 use Rattle.flat_file.specs.Flat.{Flat, arc_bytes, row_bytes, write_flat}
 

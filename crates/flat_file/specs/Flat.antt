@@ -1,6 +1,6 @@
 -- The flat net, its file, and firing on it. Nothing here knows of colours.
-use Rattle.std.specs.Prelude.{◌≡◌, ◌≤◌, ◌<◌}
-use Rattle.reading.specs.Basics.{ℕ, ◌+◌, Bool, ◌&&◌, List, [], ◌∷◌, ◌++◌, flat_map, length, get_or, ltb, eqb, if◌then◌else◌, with, below, every, byte_at, word_at, long_at, Bytes, word, items}
+use Rattle.std.specs.Prelude.{◌≡◌, ◌≤◌, ◌<◌, ◌+◌, ◌&&◌, ◌∷◌, ◌++◌, if◌then◌else◌}
+use Rattle.reading.specs.Basics.{ℕ, Bool, List, [], flat_map, length, get_or, ltb, eqb, with, below, every, byte_at, word_at, long_at, Bytes, word, items}
 use Rattle.reading.specs.Reading.{fine, ◌and_then◌, under, Outcome, accepted, refused, outcome, on, ◌unless◌, Command, command, standing, Part, whole, file}
 use Rattle.firing.specs.Firing.{Fired, fired, fire, First}
 use Rattle.firing.specs.Arcs.{Arc, Row, row, weights, Proper}

@@ -1,11 +1,12 @@
 -- The row number of an order, by the table; and images, order after order. Assumes nothing.
+use Rattle.std.specs.Prelude.{◌+◌, ◌*◌, ◌/◌, ◌∷◌}
 use mathlib.Core.Path.{◌≡◌, refl, ap, ◌∙◌}
 use Prim.Native.Nat.{◌≤◌, ◌<◌}
 use native.Mathlib.Omega.{arith}
 use native.Mathlib.Numerals.{add-one}
 use lib.ListN.{length-drop}
 use lib.Seq.{drop-cons, length-take-le}
-use Rattle.reading.specs.Basics.{ℕ, zero, suc, ◌+◌, ◌*◌, ◌/◌, Bool, true, false, List, [], ◌∷◌, none, length, take, drop, get_or, items, over}
+use Rattle.reading.specs.Basics.{ℕ, zero, suc, Bool, true, false, List, [], none, length, take, drop, get_or, items, over}
 use Rattle.reading.proofs.Lists.{get_d_at}
 use Rattle.firing.proofs.Running.{item_at, length-items}
 use Rattle.net.specs.Net.{Net}

@@ -1,8 +1,9 @@
 -- The calls for images and for the order of a row, on a net file that is read whole, or refused. Assumes nothing.
+use Rattle.std.specs.Prelude.{◌*◌, ◌/◌, ◌%◌}
 use mathlib.Core.Path.{◌≡◌, ap, subst}
 use Prim.Native.Nat.{◌≤◌, ◌<◌}
 use borrow.Author.Tests.{le-leb, lt-leb, eq-eqb, ne_eqb}
-use Rattle.reading.specs.Basics.{ℕ, ◌*◌, ◌/◌, ◌%◌, List, none, some, length, over}
+use Rattle.reading.specs.Basics.{ℕ, List, none, some, length, over}
 use Rattle.reading.specs.Reading.{Outcome, accepted, refused, refusing}
 use Rattle.net.specs.Net.{Net, sizes_of, transition_at}
 use Rattle.net_file.specs.NetFile.{read_net}

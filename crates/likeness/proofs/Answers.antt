@@ -1,10 +1,11 @@
 -- Each order is answered as its image is, and so is each list of orders. Assumes nothing.
+use Rattle.std.specs.Prelude.{◌∷◌}
 use mathlib.Core.Path.{◌≡◌, refl, sym, ap, ap₂, ◌∙◌}
 use Prim.Native.Nat.{◌≤◌, ◌<◌}
 use native.Mathlib.Omega.{arith}
 use borrow.Author.Tests.{lt-ltb, le-ltb}
 use lib.ListN.{length-map}
-use Rattle.reading.specs.Basics.{ℕ, true, List, [], ◌∷◌, map, Option, none, some, length, get_elem?, given, items, long_at}
+use Rattle.reading.specs.Basics.{ℕ, true, List, [], map, Option, none, some, length, get_elem?, given, items, long_at}
 use Rattle.reading.proofs.Lists.{All, end, also, in_all, at_map, below_at, get_d_at, every_in}
 use Rattle.reading.proofs.Items.{items-joined, of_six}
 use Rattle.firing.specs.Firing.{Weights, fired, fire, run}

@@ -1,10 +1,11 @@
 -- Demand 3 over the calls: firing a list. Assumes nothing.
+use Rattle.std.specs.Prelude.{◌*◌, ◌/◌, ◌%◌, ◌∷◌, ◌++◌}
 use mathlib.Core.Path.{◌≡◌, refl, sym, ap, ap₂, subst, ◌∙◌}
 use native.Mathlib.Omega.{arith}
 use borrow.Author.Tests.{eqb-true}
 use lib.ListN.{length-map}
 use lib.Seq.{take-append_seam, drop-append_seam}
-use Rattle.reading.specs.Basics.{ℕ, ◌*◌, ◌/◌, ◌%◌, List, [], ◌∷◌, ◌++◌, map, flat_map, length, take, drop, leb, eqb, below, items, over}
+use Rattle.reading.specs.Basics.{ℕ, List, [], map, flat_map, length, take, drop, leb, eqb, below, items, over}
 use Rattle.reading.specs.Reading.{Outcome, accepted, refused, on, CallCheck, ◌when_not◌, refusing, permitted}
 use Rattle.reading.proofs.Lists.{length_from, map-map}
 use Rattle.reading.proofs.Permits.{Permits, Refuses, permitting, refusing_at, Judged, all_pass, one_refuses, judged, first_holds}

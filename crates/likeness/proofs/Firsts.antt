@@ -1,9 +1,10 @@
 -- Demand 3 over the calls: the first order that fires is the order of the first row that does. Assumes nothing.
+use Rattle.std.specs.Prelude.{◌+◌, ◌∷◌}
 use mathlib.Core.Path.{◌≡◌, refl, sym, ap, subst, ◌∙◌}
 use native.Mathlib.Omega.{arith}
 use native.Mathlib.Nat.{add-zero, zero-add}
 use borrow.Author.Tests.{eqb-true}
-use Rattle.reading.specs.Basics.{ℕ, suc, ◌+◌, Bool, true, false, List, [], ◌∷◌, map, filter_map, Option, none, some, Option-elim, option_map, length, get_elem?, leb, eqb, numbers_from, below, take}
+use Rattle.reading.specs.Basics.{ℕ, suc, Bool, true, false, List, [], map, filter_map, Option, none, some, Option-elim, option_map, length, get_elem?, leb, eqb, numbers_from, below, take}
 use Rattle.reading.specs.Reading.{Outcome, accepted, ◌when_not◌}
 use Rattle.reading.proofs.Lists.{In, here, there}
 use Rattle.reading.proofs.Permits.{Permits, Refuses, Judged, all_pass, one_refuses, judged, first_holds}

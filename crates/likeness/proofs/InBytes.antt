@@ -1,10 +1,11 @@
 -- Lists of bytes: the order of a row, the images of orders, and lists of them. Assumes nothing.
+use Rattle.std.specs.Prelude.{◌&&◌, ◌∷◌}
 use mathlib.Core.Path.{◌≡◌, refl}
 use Prim.Native.Nat.{◌≤◌, ◌<◌}
 use native.Mathlib.Omega.{arith}
 use borrow.Author.Tests.{ltb-true, ltb-false, eqb-true}
 use lib.ListN.{get_or-eq_default}
-use Rattle.reading.specs.Basics.{ℕ, zero, suc, Bool, true, false, ◌&&◌, List, [], ◌∷◌, flat_map, Option, none, some, length, get_or, drop, ltb, eqb, given, position, same, byte_at, Bytes, items}
+use Rattle.reading.specs.Basics.{ℕ, zero, suc, Bool, true, false, List, [], flat_map, Option, none, some, length, get_or, drop, ltb, eqb, given, position, same, byte_at, Bytes, items}
 use Rattle.reading.proofs.Lists.{In, All, end, also, all_in, in_all, all_map, in_at, below_at, get_d_at, of_flat_map, every_in, position_at}
 use Rattle.reading.proofs.Keeps.{both_true}
 use Rattle.net.specs.Net.{Net, Transition, size_of, variables_of, sizes_of, transition_at}

@@ -1,11 +1,12 @@
 -- Demand 3: the drawing and its flat net behave alike. Assumes nothing.
+use Rattle.std.specs.Prelude.{◌∷◌, if◌then◌else◌}
 use mathlib.Core.Path.{◌≡◌, refl, sym, ap, ap₂, ◌∙◌}
 use mathlib.Core.Logic.{◌↔◌}
 use Prim.Native.Nat.{◌<◌}
 use native.Mathlib.Omega.{arith}
 use borrow.Author.Tests.{ltb-true}
 use lib.ListN.{length-map}
-use Rattle.reading.specs.Basics.{ℕ, Bool, true, false, List, [], ◌∷◌, map, flat_map, Option, none, some, option_map, length, get_or, get_elem?, ltb, eqb, if◌then◌else◌, given, items, long_at, Bytes}
+use Rattle.reading.specs.Basics.{ℕ, Bool, true, false, List, [], map, flat_map, Option, none, some, option_map, length, get_or, get_elem?, ltb, eqb, given, items, long_at, Bytes}
 use Rattle.reading.proofs.Lists.{All, end, also, all_in, in_all, at_below, below_at, at_map, all_map, get_d_at, map_flat, flat_map-same, every_in, in_every}
 use Rattle.reading.proofs.Items.{items-joined, of_six, joined_sixes}
 use Rattle.firing.specs.Arcs.{row}

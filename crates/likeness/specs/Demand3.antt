@@ -1,6 +1,6 @@
 -- Demand 3, stated: the drawing and its flat net behave alike. Types only, no proof.
-use Rattle.std.specs.Prelude.{◌≡◌, ◌↔◌}
-use Rattle.reading.specs.Basics.{Bool, true, false, List, map, flat_map, some, ℕ, ◌<◌, ◌*◌, ◌%◌, length, take, ltb, eqb, if◌then◌else◌, given, every, Bytes, items, over}
+use Rattle.std.specs.Prelude.{◌≡◌, ◌↔◌, ◌<◌, ◌*◌, ◌%◌, if◌then◌else◌}
+use Rattle.reading.specs.Basics.{Bool, true, false, List, map, flat_map, some, ℕ, length, take, ltb, eqb, given, every, Bytes, items, over}
 use Rattle.reading.specs.Reading.{Outcome, accepted, refused, on}
 use Rattle.firing.specs.Firing.{Fired, fired, run, First, found, nothing}
 use Rattle.firing.specs.Calls.{FireCall}

@@ -1,10 +1,11 @@
 -- The trees, arcs and tokens of an accepted net are formed. Assumes nothing.
+use Rattle.std.specs.Prelude.{◌+◌, ◌&&◌, ◌||◌, ◌∷◌, if◌then◌else◌}
 use mathlib.Core.Path.{◌≡◌, refl, sym, ap₂, ◌∙◌}
 use mathlib.Core.List.Memᴰ
 use Prim.Native.Nat.{◌≤◌, ◌<◌}
 use native.Mathlib.Omega.{arith}
 use borrow.Author.Tests.{ltb-true, leb-true, eq-eqb, not-true}
-use Rattle.reading.specs.Basics.{ℕ, ◌+◌, Bool, true, false, not, ◌&&◌, ◌||◌, List, [], ◌∷◌, some, length, ltb, leb, eqb, any, every, find, absent, with, if◌then◌else◌, byte_at, word_at, Bytes}
+use Rattle.reading.specs.Basics.{ℕ, Bool, true, false, not, List, [], some, length, ltb, leb, eqb, any, every, find, absent, with, byte_at, word_at, Bytes}
 use Rattle.reading.specs.Reading.{fault, under, accepted, refused, outcome, ◌unless◌, checked, whole, file}
 use Rattle.reading.proofs.Lists.{In, in_cases, here, there, All, end, also, all_with, in_all, all_in, in_every, every_in}
 use Rattle.reading.proofs.Commands.{both_hold}

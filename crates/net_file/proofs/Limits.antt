@@ -1,10 +1,11 @@
 -- An accepted net keeps to its limits. Assumes nothing.
+use Rattle.std.specs.Prelude.{◌+◌, ◌-◌, ◌&&◌, ◌∷◌, if◌then◌else◌}
 use mathlib.Core.Path.{◌≡◌, refl}
 use Prim.Native.Nat.{◌≤◌, ◌<◌}
 use native.Mathlib.Omega.{arith}
 use borrow.Author.Tests.{leb-true, ltb-true, ltb-false}
 use lib.ListN.{length-append}
-use Rattle.reading.specs.Basics.{ℕ, ◌+◌, ◌-◌, Bool, true, false, ◌&&◌, List, [], ◌∷◌, some, map, length, ltb, leb, eqb, if◌then◌else◌, with, every, sum, byte_at}
+use Rattle.reading.specs.Basics.{ℕ, Bool, true, false, List, [], some, map, length, ltb, leb, eqb, with, every, sum, byte_at}
 use Rattle.reading.specs.Reading.{fine, fault, accepted, refused, outcome, ◌unless◌, checked, whole, file}
 use Rattle.reading.proofs.Lists.{All, end, also, all_with, all_get_d}
 use Rattle.reading.proofs.Keeps.{no_value, both_true, checked_went, then_went, standing_went, repeat_keeps, file_went, outcome_went}

@@ -1,9 +1,10 @@
 -- Every refusal of a net file has a number of at most 15, at a place of at most 16,384. Assumes nothing.
+use Rattle.std.specs.Prelude.{◌+◌, ◌&&◌, ◌∷◌, if◌then◌else◌}
 use mathlib.Core.Path.{◌≡◌, refl}
 use Prim.Native.Nat.{◌≤◌}
 use native.Mathlib.Omega.{arith}
 use borrow.Author.Tests.{ltb-false}
-use Rattle.reading.specs.Basics.{ℕ, zero, suc, ◌+◌, Bool, true, false, ◌&&◌, List, [], ◌∷◌, length, ltb, leb, eqb, if◌then◌else◌, with, byte_at, word_at}
+use Rattle.reading.specs.Basics.{ℕ, zero, suc, Bool, true, false, List, [], length, ltb, leb, eqb, with, byte_at, word_at}
 use Rattle.reading.specs.Reading.{Answer, fault, outcome, refused, ◌unless◌, needed, file}
 use Rattle.reading.proofs.Lists.{end, also}
 use Rattle.reading.proofs.Within.{by_test}

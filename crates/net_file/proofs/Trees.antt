@@ -1,8 +1,9 @@
 -- The trees that are read are formed: colours, guards and arc expressions. Assumes nothing.
+use Rattle.std.specs.Prelude.{◌+◌, ◌&&◌, ◌∷◌}
 use mathlib.Core.Path.{◌≡◌, refl}
 use native.Mathlib.Omega.{arith}
 use borrow.Author.Tests.{le-leb}
-use Rattle.reading.specs.Basics.{ℕ, zero, suc, ◌+◌, ◌&&◌, true, List, [], ◌∷◌, leb, eqb, word_at, Bytes}
+use Rattle.reading.specs.Basics.{ℕ, zero, suc, true, List, [], leb, eqb, word_at, Bytes}
 use Rattle.reading.specs.Reading.{Answer, fault, ◌unless◌, needed}
 use Rattle.reading.proofs.Commands.{both_hold}
 use Rattle.reading.proofs.Lists.{end, also}

@@ -1,10 +1,11 @@
 -- The whole file: part after part, and the first and the last command. Assumes nothing.
+use Rattle.std.specs.Prelude.{◌+◌, ◌∷◌}
 use mathlib.Core.Path.{◌≡◌, refl, sym, ap, ◌∙◌}
 use Prim.Native.Nat.{◌≤◌, ◌<◌}
 use native.Mathlib.Omega.{arith}
 use borrow.Author.Tests.{lt-ltb, le-ltb, eq-eqb, ne_eqb}
 use lib.Seq.{length-take-le, get_or-take}
-use Rattle.reading.specs.Basics.{ℕ, ◌+◌, List, [], ◌∷◌, some, length, get_or, take, eqb, byte_at}
+use Rattle.reading.specs.Basics.{ℕ, List, [], some, length, get_or, take, eqb, byte_at}
 use Rattle.reading.proofs.Commands.{end, other, passes, done, fails, needed_past, needed_stray, needs_cut, needs_fails, needs_goes}
 use Rattle.reading.proofs.Lists.{any_in, any_out, one_in, not_one}
 use Rattle.reading.specs.Reading.{Answer, fine, fault, ◌and_then◌, outcome, accepted, refused, ◌unless◌, checked, command, needed, whole, file}

@@ -1,5 +1,6 @@
 -- The two-gauge net, its file and its net as one would write it down.
-use Rattle.reading.specs.Basics.{ℕ, List, [], ◌∷◌}
+use Rattle.std.specs.Prelude.{◌∷◌}
+use Rattle.reading.specs.Basics.{ℕ, List, []}
 use Rattle.net.specs.Net.{variable, successor, always, one, single, Net, net}
 
 abbrev pub two_gauges : List ℕ

@@ -1,6 +1,6 @@
 -- What the trees, arcs and tokens of an accepted net keep to.
-use Rattle.std.specs.Prelude.{◌≡◌, ◌<◌}
-use Rattle.reading.specs.Basics.{ℕ, ◌+◌, ◌*◌, Bool, true, false, not, ◌&&◌, List, [], ◌∷◌, length, get_or, ltb, leb, eqb, any, every}
+use Rattle.std.specs.Prelude.{◌≡◌, ◌<◌, ◌+◌, ◌*◌, ◌&&◌, ◌∷◌}
+use Rattle.reading.specs.Basics.{ℕ, Bool, true, false, not, List, [], length, get_or, ltb, leb, eqb, any, every}
 use Rattle.net.specs.Net.{Colour, variable, constant, successor, predecessor, Guard, always, opposite, both, either, equal, less, Expression, one, two, all, plus, minus, times, Place, Arc, Transition, Tokens, Net, size_of, sets_of, colours_of, place_at, set_of, ceiling}
 
 -- ---- values of variables

@@ -1,5 +1,6 @@
 -- Reading a whole net file.
-use Rattle.reading.specs.Basics.{ℕ, List, [], ◌∷◌, length, ltb, if◌then◌else◌}
+use Rattle.std.specs.Prelude.{◌∷◌, if◌then◌else◌}
+use Rattle.reading.specs.Basics.{ℕ, List, [], length, ltb}
 use Rattle.reading.specs.Reading.{Answer, fine, ◌and_then◌, Outcome, outcome, refused, whole, file}
 use Rattle.net.specs.Net.{Net, net, scope}
 use Rattle.net_parts.specs.Parts.{set_part, variable_part, place_part, tokens_part}

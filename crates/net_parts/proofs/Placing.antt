@@ -1,4 +1,5 @@
 -- Where the loop over the places stands. Assumes nothing.
+use Rattle.std.specs.Prelude.{◌+◌, ◌*◌, ◌/◌, ◌%◌, ◌∷◌}
 use mathlib.Core.Path.{◌≡◌, refl, sym, ap, ◌∙◌}
 use mathlib.Core.Logic.{⊎_elim}
 use Prim.Native.Nat.{◌≤◌, ◌<◌}
@@ -8,7 +9,7 @@ use native.Mathlib.Numerals.{add-one}
 use borrow.Author.Tests.{ne_eqb}
 use lib.ListN.{set, length-set, length-append, length-map}
 use lib.Seq.{take-suc-set, take-append-le, take_all, get_or-set_same, get_or-set_other}
-use Rattle.reading.specs.Basics.{ℕ, ◌+◌, ◌*◌, ◌/◌, ◌%◌, List, [], ◌∷◌, some, map, sum, length, get_or, take, with}
+use Rattle.reading.specs.Basics.{ℕ, List, [], some, map, sum, length, get_or, take, with}
 use Rattle.reading.specs.Reading.{fine, fault, whole}
 use Rattle.reading.proofs.Parts.{Reading, begins, goes_on, ends, stops}
 use Rattle.net.specs.Net.{Place, single, pair, Net, colours_of, scope}

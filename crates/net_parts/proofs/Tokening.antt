@@ -1,4 +1,5 @@
 -- How tokens are read, and where the loop over them stands. Assumes nothing.
+use Rattle.std.specs.Prelude.{◌+◌, ◌∷◌, ◌++◌, if◌then◌else◌}
 use mathlib.Core.Path.{◌≡◌, refl, sym, ap, ◌∙◌}
 use mathlib.Core.Bool.{Bool, true, false, ◌&&◌}
 use Prim.Native.Nat.{◌≤◌, ◌<◌, ◌-◌}
@@ -7,7 +8,7 @@ use native.Mathlib.Numerals.{add-one}
 use borrow.Author.Tests.{lt-ltb, le-ltb, eq-eqb, ne_eqb, ltb-true, ltb-false, eqb-true, eqb-false}
 use lib.ListN.{set, length-set}
 use lib.Seq.{take-suc, take-add, get_or-set_same, get_or-set_other}
-use Rattle.reading.specs.Basics.{ℕ, ◌+◌, List, [], ◌∷◌, ◌++◌, Option, some, none, absent, if◌then◌else◌, map, sum, length, get_or, take, drop, with, find, eqb, ltb, byte_at, word_at}
+use Rattle.reading.specs.Basics.{ℕ, List, [], Option, some, none, absent, map, sum, length, get_or, take, drop, with, find, eqb, ltb, byte_at, word_at}
 use Rattle.reading.specs.Reading.{fine, fault, whole}
 use Rattle.reading.proofs.Commands.{end, other, passes, done, fails, later, both_hold, first_fails, second_fails, standing_past, standing_none, stands_cut, stands_fails, stands_goes}
 use Rattle.reading.proofs.Parts.{Reading, begins, goes_on, ends, stops}

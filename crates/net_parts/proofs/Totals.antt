@@ -1,10 +1,11 @@
 -- The colours of all places, with one more. Assumes nothing.
+use Rattle.std.specs.Prelude.{◌+◌, ◌∷◌}
 use mathlib.Core.Path.{◌≡◌, ap}
 use native.Mathlib.Omega.{arith}
 use Prim.Native.Nat.{◌≤◌, ◌<◌, ◌*◌}
 use native.Mathlib.Nat.{mul-one, mul-le-mul}
 use borrow.Author.Tests.{le-leb, lt-leb}
-use Rattle.reading.specs.Basics.{ℕ, ◌+◌, List, [], ◌∷◌, true, false, leb, map, sum, with}
+use Rattle.reading.specs.Basics.{ℕ, List, [], true, false, leb, map, sum, with}
 use Rattle.net.specs.Net.{Net, Place, single, pair, size_of, colours_of}
 
 pub sum-with : {A : Type 0} (f : A → ℕ) (l : List A) (a : A) → sum (map f (with l a)) ≡ sum (map f l) + f a

@@ -1,5 +1,6 @@
 -- Reading the sets, variables, places and tokens of a net file.
-use Rattle.reading.specs.Basics.{ℕ, ◌+◌, ◌&&◌, List, [], ◌∷◌, map, length, ltb, leb, absent, with, every, sum, byte_at, word_at}
+use Rattle.std.specs.Prelude.{◌+◌, ◌&&◌, ◌∷◌}
+use Rattle.reading.specs.Basics.{ℕ, List, [], map, length, ltb, leb, absent, with, every, sum, byte_at, word_at}
 use Rattle.reading.specs.Reading.{fine, ◌unless◌, Command, standing, Part}
 use Rattle.net.specs.Net.{Place, single, pair, Tokens, Net, sets_of, colours_of, place_at, tokens_on}
 use Rattle.net.specs.Reader.{command}

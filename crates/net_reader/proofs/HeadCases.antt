@@ -1,6 +1,7 @@
 -- Commands of the two-gauge file, one after the other, and the three faults.
+use Rattle.std.specs.Prelude.{◌∷◌}
 use mathlib.Core.Path.{◌≡◌, refl}
-use Rattle.reading.specs.Basics.{ℕ, zero, suc, List, [], ◌∷◌, map, take, any, find}
+use Rattle.reading.specs.Basics.{ℕ, zero, suc, List, [], map, take, any, find}
 use Rattle.reading.specs.Reading.{fine, fault, failing, obey, standing, needed}
 use Rattle.net.specs.Reader.{width_of}
 use Rattle.net_reader.specs.Heads.{head_at, next_place}

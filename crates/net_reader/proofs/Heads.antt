@@ -1,10 +1,11 @@
 -- What stands at a place of a net file, by the width that the table gives its byte. Assumes nothing.
+use Rattle.std.specs.Prelude.{◌+◌, ◌/◌, ◌∷◌}
 use mathlib.Core.Path.{◌≡◌, refl, sym, ap, ◌∙◌}
 use Prim.Native.Nat.{◌≤◌, ◌<◌}
 use native.Mathlib.Omega.{arith}
 use borrow.Author.Tests.{eq-eqb}
 use lib.ListN.{get_or-replicate}
-use Rattle.reading.specs.Basics.{ℕ, ◌+◌, ◌/◌, List, [], ◌∷◌, Option, some, none, length, given, find, byte_at}
+use Rattle.reading.specs.Basics.{ℕ, List, [], Option, some, none, length, given, find, byte_at}
 use Rattle.reading.specs.Reading.{fine, fault, command}
 use Rattle.reading.proofs.Commands.{done, end, known, past, needed_past, needed_stray, needs_cut, needs_goes}
 use Rattle.net.specs.Reader.{width_of}

@@ -1,5 +1,6 @@
 -- The command of a net file that stands at a place.
-use Rattle.reading.specs.Basics.{ℕ, List, [], ◌∷◌, given, byte_at}
+use Rattle.std.specs.Prelude.{◌∷◌}
+use Rattle.reading.specs.Basics.{ℕ, List, [], given, byte_at}
 use Rattle.reading.specs.Reading.{Answer, fine, fault, command, needed}
 use Rattle.net.specs.Reader.{width_of}
 

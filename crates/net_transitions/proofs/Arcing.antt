@@ -1,4 +1,5 @@
 -- How arcs are read, and where the loop over them stands. Assumes nothing.
+use Rattle.std.specs.Prelude.{◌+◌, ◌*◌, ◌∷◌}
 use mathlib.Core.Path.{◌≡◌, refl, sym, ap, fun_ext, ◌∙◌}
 use mathlib.Core.Bool.{Bool, true, false, ◌&&◌, ◌||◌}
 use Prim.Native.Nat.{◌≤◌, ◌<◌, ◌-◌}
@@ -7,7 +8,7 @@ use borrow.Author.Tests.{lt-ltb, le-ltb, eq-eqb, ne_eqb, eqb-true, eqb-false, lt
 use lib.Bits.{bit_or}
 use lib.ListN.{set, length-set}
 use lib.Seq.{get_or-set_same, get_or-set_other}
-use Rattle.reading.specs.Basics.{ℕ, zero, suc, ◌+◌, ◌*◌, List, [], ◌∷◌, Option, some, none, option_map, absent, length, get_or, with, find, any, eqb, ltb, byte_at}
+use Rattle.reading.specs.Basics.{ℕ, zero, suc, List, [], Option, some, none, option_map, absent, length, get_or, with, find, any, eqb, ltb, byte_at}
 use Rattle.reading.specs.Reading.{Answer, fine, fault, under, whole}
 use Rattle.reading.proofs.Commands.{end, other, passes, done, fails, later, standing_past, standing_none, stands_cut, stands_fails, stands_goes, both_hold, first_fails, second_fails}
 use Rattle.reading.proofs.Parts.{Reading, begins, goes_on, ends, stops}

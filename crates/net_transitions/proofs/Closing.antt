@@ -1,8 +1,9 @@
 -- How a transition ends: its variables counted, and the binding space with it. Assumes nothing.
+use Rattle.std.specs.Prelude.{◌+◌}
 use mathlib.Core.Path.{◌≡◌, ◌∙◌}
 use Prim.Native.Nat.{◌≤◌, ◌<◌}
 use borrow.Author.Tests.{eq-eqb, ne_eqb, le-leb, lt-leb}
-use Rattle.reading.specs.Basics.{ℕ, ◌+◌, true, false, List, map, length, get_or, with, keep, below, product, byte_at, leb}
+use Rattle.reading.specs.Basics.{ℕ, true, false, List, map, length, get_or, with, keep, below, product, byte_at, leb}
 use Rattle.reading.specs.Reading.{fine, fault}
 use Rattle.reading.proofs.Commands.{passes, done, fails, later}
 use Rattle.net.specs.Net.{Place, Transition, size_of, variables_of, sizes_of, binding_space, in_transition, scope}

@@ -1,4 +1,5 @@
 -- Where the loop over the transitions stands. Assumes nothing.
+use Rattle.std.specs.Prelude.{◌+◌, ◌*◌, ◌∷◌}
 use mathlib.Core.Path.{◌≡◌, refl, sym, ap, ◌∙◌}
 use mathlib.Core.Logic.{⊎_elim}
 use Prim.Native.Nat.{◌≤◌, ◌<◌}
@@ -6,7 +7,7 @@ use native.Mathlib.Omega.{arith}
 use native.Mathlib.Nat.{eq-or-lt_of_le}
 use lib.ListN.{set, length-set, length-append, get_or-append}
 use lib.Seq.{get_or-append_seam, get_or-set_same, get_or-set_other}
-use Rattle.reading.specs.Basics.{ℕ, ◌+◌, ◌*◌, List, [], ◌∷◌, length, get_or, with}
+use Rattle.reading.specs.Basics.{ℕ, List, [], length, get_or, with}
 use Rattle.reading.specs.Reading.{fault, whole}
 use Rattle.reading.proofs.Parts.{Reading, begins, goes_on, ends, stops}
 use Rattle.net.specs.Net.{Transition, Net, binding_space, no_transition}

@@ -1,4 +1,5 @@
 -- The members of a set of bits, how many they are, and what is multiplied over them. Assumes nothing.
+use Rattle.std.specs.Prelude.{◌+◌, ◌*◌, ◌/◌, ◌%◌, ◌∷◌, if◌then◌else◌}
 use mathlib.Core.Path.{◌≡◌, refl, sym, ap, ap₂, ◌∙◌, subst}
 use mathlib.Core.Logic.{⊎_elim}
 use Prim.Native.Nat.{◌-◌, ◌^◌, ◌<◌, ◌≤◌}
@@ -6,7 +7,7 @@ use native.Mathlib.Nat.{not-suc-le-zero, le_of_suc-le-suc, eq-or-lt_of_le, le_tr
 use native.Mathlib.Numerals.{add-one}
 use native.Mathlib.Omega.{arith}
 use lib.Pow.{pow-add, pow_pos, pow_mono, high}
-use Rattle.reading.specs.Basics.{ℕ, zero, suc, ◌+◌, ◌*◌, ◌/◌, ◌%◌, Bool, true, false, List, [], ◌∷◌, map, length, get_or, eqb, if◌then◌else◌, with, numbers_from, below, keep, product}
+use Rattle.reading.specs.Basics.{ℕ, zero, suc, Bool, true, false, List, [], map, length, get_or, eqb, with, numbers_from, below, keep, product}
 use Rattle.net.specs.Net.{Net, Transition, size_of, sizes_of, variables_of, binding_space, in_transition}
 use Rattle.net.specs.internal.ReaderEnums.{bits, member, size_in}
 use Rattle.net.proofs.Answers.{bits_lt}

@@ -1,4 +1,5 @@
 -- How one transition is read. Assumes nothing.
+use Rattle.std.specs.Prelude.{◌+◌, ◌*◌, ◌∷◌, ◌++◌, if◌then◌else◌}
 use mathlib.Core.Path.{◌≡◌, refl, sym, ap, ◌∙◌}
 use mathlib.Core.Bool.{Bool, true, false}
 use Prim.Native.Nat.{◌≤◌, ◌<◌}
@@ -7,7 +8,7 @@ use borrow.Author.Tests.{lt-ltb, le-ltb, ne_eqb, eqb-true, eqb-false, ltb-true, 
 use lib.Bits.{bit_or}
 use lib.ListN.{length-drop, get_or-append}
 use lib.Seq.{length-take-le, get_or-append-add, get_or-take}
-use Rattle.reading.specs.Basics.{ℕ, ◌+◌, ◌*◌, List, [], ◌∷◌, ◌++◌, Option, some, none, option_map, given, if◌then◌else◌, length, get_or, take, drop, with, eqb, ltb, byte_at}
+use Rattle.reading.specs.Basics.{ℕ, List, [], Option, some, none, option_map, given, length, get_or, take, drop, with, eqb, ltb, byte_at}
 use Rattle.reading.specs.Reading.{Answer, fine, fault, standing, whole}
 use Rattle.reading.proofs.Commands.{past, end, other, passes, done, fails, standing_past, standing_none, stands_fails, stands_goes}
 use Rattle.net.specs.Net.{Guard, always, Arc, Transition, Place, Net, place_at, arc_on, variables_of, binding_space, in_guard, in_transition, scope}

@@ -1,5 +1,6 @@
 -- Reading the transitions of a net file, each with its guard and its arcs.
-use Rattle.reading.specs.Basics.{ℕ, ◌+◌, List, [], ◌∷◌, map, length, ltb, leb, eqb, if◌then◌else◌, absent, with, byte_at}
+use Rattle.std.specs.Prelude.{◌+◌, ◌∷◌, if◌then◌else◌}
+use Rattle.reading.specs.Basics.{ℕ, List, [], map, length, ltb, leb, eqb, absent, with, byte_at}
 use Rattle.reading.specs.Reading.{Answer, fault, ◌and_then◌, under, ◌unless◌, checked, Command, standing, Part, whole}
 use Rattle.net.specs.Net.{Arc, Transition, Net, place_at, arc_on, variables_of, binding_space}
 use Rattle.net.specs.Reader.{command, read_guard_if, read_expression}

@@ -1,4 +1,5 @@
 -- Sections of the table, read and written. Assumes nothing.
+use Rattle.std.specs.Prelude.{◌+◌, ◌*◌, ◌/◌, ◌%◌}
 use mathlib.Core.Path.{◌≡◌, refl, sym, ap, ◌∙◌}
 use Prim.Native.Nat.{◌≤◌, ◌<◌}
 use native.Mathlib.Omega.{arith}
@@ -7,7 +8,7 @@ use native.Mathlib.Nat.{eq-or-lt_of_le}
 use borrow.Author.Tests.{lt-ltb, le-ltb}
 use lib.ListN.{set, length-set, length-take, get_or-map, get_or-eq_default, length-map}
 use lib.Seq.{get_or-set_same, get_or-set_other, get_or-take, get_or-drop}
-use Rattle.reading.specs.Basics.{ℕ, ◌+◌, ◌*◌, ◌/◌, ◌%◌, List, map, length, get_or, take, drop}
+use Rattle.reading.specs.Basics.{ℕ, List, map, length, get_or, take, drop}
 use Rattle.plan.specs.internal.Layout.{low, places_in, arc_with, sets_in, variables_in, own_in, guards_in, packed_in, Placed}
 
 -- a loop that writes a list's values one by one

@@ -1,8 +1,9 @@
 -- From the net reader's promise to what the calls know. Assumes nothing.
+use Rattle.std.specs.Prelude.{◌+◌, ◌*◌}
 use mathlib.Core.Path.{◌≡◌, refl, sym, subst}
 use Prim.Native.Nat.{◌≤◌, ◌<◌}
 use native.Mathlib.Omega.{arith}
-use Rattle.reading.specs.Basics.{ℕ, ◌+◌, ◌*◌, option_map, List, [], length, get_or, take, drop}
+use Rattle.reading.specs.Basics.{ℕ, option_map, List, [], length, get_or, take, drop}
 use Rattle.reading.specs.Reading.{accepted, refused}
 use Rattle.net.specs.Net.{Net, arc_on, colours_of, flat_place_count, in_transition, place_at, scope, transition_at}
 use Rattle.net.specs.internal.ReaderEnums.{bits}

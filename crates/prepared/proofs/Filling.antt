@@ -1,11 +1,12 @@
 -- How the table is filled, part by part, and what it then holds. Assumes nothing.
+use Rattle.std.specs.Prelude.{◌+◌, ◌*◌, ◌/◌, ◌%◌, ◌∷◌, ◌++◌}
 use mathlib.Core.Path.{◌≡◌, refl, sym, ap, subst, ◌∙◌}
 use Prim.Native.Nat.{◌≤◌, ◌<◌}
 use native.Mathlib.Omega.{arith}
 use borrow.Author.Tests.{le-leb, le-ltb, ltb-true, ltb-false}
 use lib.ListN.{set, length-append, length-map, length-drop, get_or-map, get_or-eq_default}
 use lib.Seq.{length-take-le, ext_get_or, get_or-take, get_or-drop}
-use Rattle.reading.specs.Basics.{ℕ, ◌+◌, ◌*◌, ◌/◌, ◌%◌, Bool, true, false, ltb, List, [], ◌∷◌, ◌++◌, map, length, get_or, take, drop, below}
+use Rattle.reading.specs.Basics.{ℕ, Bool, true, false, ltb, List, [], map, length, get_or, take, drop, below}
 use Rattle.reading.proofs.Lists.{length-below, get_d_below}
 use Rattle.net.specs.Net.{Net, in_transition, scope, tokens_on, transition_at}
 use Rattle.net.specs.internal.ReaderEnums.{bits}

@@ -1,4 +1,5 @@
 -- The loops that list each transition's own variables, four slots each. Assumes nothing.
+use Rattle.std.specs.Prelude.{◌+◌, ◌*◌, ◌/◌, ◌%◌, ◌∷◌, if◌then◌else◌}
 use mathlib.Core.Path.{◌≡◌, refl, sym, ap, subst, ◌∙◌}
 use mathlib.Core.Logic.{⊎_elim}
 use Prim.Native.Nat.{◌≤◌, ◌<◌, ◌-◌, ◌^◌}
@@ -9,7 +10,7 @@ use borrow.Author.Tests.{ltb-true, ltb-false, eqb-true, eq-eqb, ne_eqb}
 use lib.ListN.{set, length-append, length-map, get_or-append, get_or-eq_default}
 use lib.Seq.{get_or-set_same, get_or-set_other, get_or_at}
 use lib.Pow.{pow_pos}
-use Rattle.reading.specs.Basics.{ℕ, zero, suc, ◌+◌, ◌*◌, ◌/◌, ◌%◌, Bool, true, false, List, [], ◌∷◌, map, length, get_or, ltb, eqb, if◌then◌else◌, with, below, numbers_from, keep}
+use Rattle.reading.specs.Basics.{ℕ, zero, suc, Bool, true, false, List, [], map, length, get_or, ltb, eqb, with, below, numbers_from, keep}
 use Rattle.reading.proofs.Lists.{In, at_in, at_below, get_d_at}
 use Rattle.net.specs.Net.{Net, variables_of, in_transition, no_transition, transition_at}
 use Rattle.net.specs.internal.ReaderEnums.{bits, member}

@@ -1,4 +1,5 @@
 -- The packed table of arcs: the places of a row that hold an arc, their entries, and the loops that pack. Assumes nothing.
+use Rattle.std.specs.Prelude.{◌+◌, ◌*◌, ◌/◌, ◌%◌, ◌∷◌, ◌++◌}
 use mathlib.Core.Path.{◌≡◌, refl, sym, ap, subst, ◌∙◌}
 use mathlib.Core.List.{append_assoc, append-nil, map-append}
 use Prim.Native.Nat.{◌≤◌, ◌<◌}
@@ -7,7 +8,7 @@ use native.Mathlib.Numerals.{add-one}
 use borrow.Author.Tests.{lt-ltb, le-ltb, ltb-true, ltb-false}
 use lib.ListN.{set, length-append, length-map, get_or-append, get_or-map, get_or-eq_default}
 use lib.Seq.{take-suc-set, take-suc, take_at, take-append-le, take-set-le, take-take, get_or_at, get_or-take, get_or-append-add, get_or-set_same, get_or-set_other, length-take-le}
-use Rattle.reading.specs.Basics.{ℕ, zero, suc, ◌+◌, ◌*◌, ◌/◌, ◌%◌, Bool, true, false, List, [], ◌∷◌, ◌++◌, map, flat_map, length, get_or, take, ltb, numbers_from, below}
+use Rattle.reading.specs.Basics.{ℕ, zero, suc, Bool, true, false, List, [], map, flat_map, length, get_or, take, ltb, numbers_from, below}
 use Rattle.reading.proofs.Lists.{of_from, flat_map-same}
 use Rattle.prepared.specs.internal.Packed.{entry_of, if_held, holding, entries_of, RowFits, SlotsFit, EntryPut, RowPacked, Packed}
 use Rattle.reading.proofs.Lists.{flat_more, flat_flat}

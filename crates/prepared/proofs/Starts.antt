@@ -1,9 +1,10 @@
 -- Where the flat places of a net's places begin. Assumes nothing.
+use Rattle.std.specs.Prelude.{◌+◌, ◌∷◌}
 use mathlib.Core.Path.{◌≡◌}
 use Prim.Native.Nat.{◌≤◌, ◌<◌}
 use native.Mathlib.Omega.{arith}
 use native.Mathlib.Numerals.{add-one}
-use Rattle.reading.specs.Basics.{ℕ, zero, suc, ◌+◌, List, [], ◌∷◌, map, length, get_or, take, sum}
+use Rattle.reading.specs.Basics.{ℕ, zero, suc, List, [], map, length, get_or, take, sum}
 use Rattle.net.specs.Net.{Net, single, colours_of, place_at, flat_place_count}
 use Rattle.prepared.specs.internal.Drawing.{start_of}
 

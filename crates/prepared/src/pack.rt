@@ -1,6 +1,6 @@
 // Packs the table of arcs in place: of each row of 32 slots, one a place, only those that hold an arc, by rising place.
-ghost use Rattle.std.specs.Prelude.{◌≡◌, ℕ, ◌≤◌, ◌<◌, ◌+◌, ◌-◌, ◌/◌, length, get_or, take, eqb};
-ghost use Rattle.reading.specs.Basics.{not, if◌then◌else◌};
+ghost use Rattle.std.specs.Prelude.{◌≡◌, ℕ, ◌≤◌, ◌<◌, ◌+◌, ◌-◌, ◌/◌, length, get_or, take, eqb, if◌then◌else◌};
+ghost use Rattle.reading.specs.Basics.{not};
 ghost use Rattle.prepared.specs.internal.Packed.{shape_in, Packed, RowPacked, RowFits, SlotsFit, EntryPut};
 
 // A number less another, or 0.

@@ -1,11 +1,12 @@
 -- What stands at a place, for any list of commands: which of them, and what its checks give. Assumes nothing.
+use Rattle.std.specs.Prelude.{◌+◌, ◌∷◌}
 use mathlib.Core.Path.{◌≡◌, refl, ap, ◌∙◌}
 use mathlib.Core.Bool.{Bool, true, false, ◌&&◌}
 use Prim.Native.Nat.{◌≤◌, ◌<◌}
 use borrow.Author.Rules.{rules}
 use borrow.Author.Tests.{lt-ltb, le-ltb, le-leb, lt-leb, eq-eqb, ne_eqb}
 use lib.ListN.{get_or-eq_default}
-use Rattle.reading.specs.Basics.{ℕ, ◌+◌, List, [], ◌∷◌, Option, some, none, length, eqb, find, byte_at}
+use Rattle.reading.specs.Basics.{ℕ, List, [], Option, some, none, length, eqb, find, byte_at}
 use Rattle.reading.specs.Reading.{fault, Check, ◌unless◌, failing, Command, obey, standing, needed}
 
 -- the checks of a command, one after the other

@@ -1,9 +1,10 @@
 -- Every fault that a reading tells has a number of at most 15 and a place within the file. Assumes nothing.
+use Rattle.std.specs.Prelude.{◌+◌, ◌&&◌, ◌∷◌}
 use mathlib.Core.Path.{◌≡◌, refl}
 use Prim.Native.Nat.{◌≤◌}
 use native.Mathlib.Omega.{arith}
 use borrow.Author.Tests.{leb-true, ltb-false}
-use Rattle.reading.specs.Basics.{ℕ, zero, suc, ◌+◌, Bool, true, false, ◌&&◌, List, [], ◌∷◌, Option, some, none, option_map, length, ltb, leb, eqb, given, find, byte_at}
+use Rattle.reading.specs.Basics.{ℕ, zero, suc, Bool, true, false, List, [], Option, some, none, option_map, length, ltb, leb, eqb, given, find, byte_at}
 use Rattle.reading.specs.Reading.{Answer, fine, fault, ◌and_then◌, under, outcome, refused, Check, ◌unless◌, failing, Command, obey, standing, needed, Part, onward, repeat, file}
 use Rattle.reading.proofs.Lists.{All, end, also}
 use Rattle.reading.proofs.Within.{by_test}

@@ -1,7 +1,8 @@
 -- What is true of whatever a reading gives, piece by piece. Assumes nothing.
+use Rattle.std.specs.Prelude.{◌&&◌}
 use mathlib.Core.Path.{◌≡◌, refl, ap}
 use native.Mathlib.Omega.{arith}
-use Rattle.reading.specs.Basics.{ℕ, Bool, true, false, ◌&&◌, List, Option, some, none, given}
+use Rattle.reading.specs.Basics.{ℕ, Bool, true, false, List, Option, some, none, given}
 use Rattle.reading.specs.Reading.{Answer, fine, fault, ◌and_then◌, under, accepted, outcome, Check, checked, Command, standing, needed, Part, repeat, file}
 use Rattle.reading.proofs.Lists.{All, end, also}
 use Rattle.reading.proofs.Keeps.{ChecksHold, Went, checked_went, standing_went, needed_went, repeat_keeps, file_went}

@@ -1,4 +1,5 @@
 -- The items of a list, so many bytes each. Assumes nothing.
+use Rattle.std.specs.Prelude.{◌+◌, ◌*◌, ◌/◌, ◌%◌, ◌∷◌, ◌++◌}
 use mathlib.Core.Path.{◌≡◌, refl, sym, ap, ap₂, ◌∙◌}
 use Prim.Native.Nat.{◌<◌}
 use native.Mathlib.Omega.{arith}
@@ -6,7 +7,7 @@ use native.Mathlib.Nat.{add-div_left, zero-div, zero-mul, suc-mul}
 use native.Mathlib.Numerals.{add-one}
 use lib.ListN.{length-append, take-append-drop, length-drop}
 use lib.Seq.{take_at, drop-append-add, length-take-le}
-use Rattle.reading.specs.Basics.{ℕ, zero, suc, ◌+◌, ◌*◌, ◌/◌, ◌%◌, List, [], ◌∷◌, ◌++◌, map, flat_map, length, take, drop, numbers_from, below, items}
+use Rattle.reading.specs.Basics.{ℕ, zero, suc, List, [], map, flat_map, length, take, drop, numbers_from, below, items}
 use Rattle.reading.proofs.Lists.{All, end, also, map_from, map_same}
 
 module _ (w : ℕ) (some : 0 < w) where

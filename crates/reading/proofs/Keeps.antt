@@ -1,9 +1,10 @@
 -- What has gone on has passed its checks, and what every step of a part keeps holds of the whole part. Assumes nothing.
+use Rattle.std.specs.Prelude.{◌+◌, ◌&&◌, ◌∷◌, if◌then◌else◌}
 use mathlib.Core.Path.{◌≡◌, refl, ap, ◌∙◌}
 use Prim.Native.Nat.{◌≤◌}
 use native.Mathlib.Omega.{arith}
 use borrow.Author.Tests.{ltb-false, eqb-true}
-use Rattle.reading.specs.Basics.{ℕ, zero, suc, ◌+◌, Bool, true, false, ◌&&◌, List, [], ◌∷◌, Option, some, none, option_map, length, ltb, eqb, if◌then◌else◌, given, any, find, byte_at}
+use Rattle.reading.specs.Basics.{ℕ, zero, suc, Bool, true, false, List, [], Option, some, none, option_map, length, ltb, eqb, given, any, find, byte_at}
 use Rattle.reading.specs.Reading.{Answer, fine, fault, ◌and_then◌, under, accepted, outcome, Check, ◌unless◌, failing, checked, Command, command, obey, standing, needed, Part, onward, repeat, file}
 use Rattle.reading.proofs.Lists.{In, All, end, also, in_any}
 

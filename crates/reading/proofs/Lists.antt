@@ -1,4 +1,5 @@
 -- Laws of lists: membership, keys that differ, where an element stands, numbers from a number on, lengths. Assumes nothing.
+use Rattle.std.specs.Prelude.{◌+◌, ◌&&◌, ◌||◌, ◌∷◌, ◌++◌, if◌then◌else◌}
 use mathlib.Core.Path.{◌≡◌, refl, sym, ap, ap₂, ◌∙◌}
 use mathlib.Core.Logic.{⊎_elim}
 use mathlib.Core.List.Memᴰ
@@ -9,7 +10,7 @@ use native.Mathlib.Numerals.{add-one}
 use native.Mathlib.Nat.{eq-or-lt_of_le}
 use borrow.Author.Tests.{eq-eqb, eqb-true}
 use lib.ListN.{length-append}
-use Rattle.reading.specs.Basics.{ℕ, zero, suc, ◌+◌, Bool, true, false, ◌&&◌, ◌||◌, List, [], ◌∷◌, ◌++◌, map, flat_map, filter_map, Option, none, some, Option-elim, length, get_or, get_elem?, eqb, if◌then◌else◌, given, with, numbers_from, below, any, every, position, sum, same}
+use Rattle.reading.specs.Basics.{ℕ, zero, suc, Bool, true, false, List, [], map, flat_map, filter_map, Option, none, some, Option-elim, length, get_or, get_elem?, eqb, given, with, numbers_from, below, any, every, position, sum, same}
 
 -- ---- membership
 abbrev pub In : {A : Type 0} → A → List A → Type 0

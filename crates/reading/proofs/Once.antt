@@ -1,8 +1,9 @@
 -- A function that may call itself once more. Assumes nothing.
+use Rattle.std.specs.Prelude.{if◌then◌else◌}
 use mathlib.Core.Path.{◌≡◌}
 use Prim.Native.Nat.{◌<◌}
 use native.Mathlib.Omega.{arith}
-use Rattle.reading.specs.Basics.{ℕ, Bool, true, false, if◌then◌else◌}
+use Rattle.reading.specs.Basics.{ℕ, Bool, true, false}
 
 -- how often it still may
 abbrev pub once : Bool → ℕ

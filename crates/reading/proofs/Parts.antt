@@ -1,8 +1,9 @@
 -- Loops over the steps of a part, once for all parts: where a loop stands in the reading of a whole part. Assumes nothing.
+use Rattle.std.specs.Prelude.{◌+◌, ◌-◌}
 use mathlib.Core.Path.{◌≡◌, refl, ◌∙◌}
 use Prim.Native.Nat.{◌≤◌, ◌<◌}
 use native.Mathlib.Omega.{arith}
-use Rattle.reading.specs.Basics.{ℕ, zero, suc, ◌+◌, ◌-◌, List, [], some, none, length, take, with}
+use Rattle.reading.specs.Basics.{ℕ, zero, suc, List, [], some, none, length, take, with}
 use native.Mathlib.Numerals.{add-one}
 use lib.ListN.{set, length-set}
 use lib.Seq.{length-take-le, take-suc-set}

@@ -1,7 +1,8 @@
 -- The checks of a call: all pass, or the first that has a place refuses. Assumes nothing.
+use Rattle.std.specs.Prelude.{◌∷◌, if◌then◌else◌}
 use mathlib.Core.Path.{◌≡◌, refl}
 use native.Mathlib.Omega.{arith}
-use Rattle.reading.specs.Basics.{ℕ, Bool, true, false, List, [], ◌∷◌, Option, none, some, if◌then◌else◌}
+use Rattle.reading.specs.Basics.{ℕ, Bool, true, false, List, [], Option, none, some}
 use Rattle.reading.specs.Reading.{Outcome, refused, CallCheck, ◌at?◌, ◌when_not◌, refusing}
 
 -- no check has a place

@@ -1,10 +1,11 @@
 -- Whatever is read whole ends past the place where it began, and within the file. Assumes nothing.
+use Rattle.std.specs.Prelude.{◌+◌, ◌∷◌, if◌then◌else◌}
 use mathlib.Core.Path.{◌≡◌, refl}
 use mathlib.Core.Bool.{Bool, true, false}
 use Prim.Native.Nat.{◌≤◌, ◌<◌}
 use native.Mathlib.Omega.{arith}
 use borrow.Author.Tests.{ltb-false}
-use Rattle.reading.specs.Basics.{ℕ, ◌+◌, List, [], ◌∷◌, Option, some, none, option_map, length, ltb, eqb, if◌then◌else◌, given, find, byte_at}
+use Rattle.reading.specs.Basics.{ℕ, List, [], Option, some, none, option_map, length, ltb, eqb, given, find, byte_at}
 use Rattle.reading.specs.Reading.{Answer, fine, fault, ◌and_then◌, Check, failing, checked, Command, obey, standing, needed}
 
 abbrev pub Ends : {A : Type 0} → ℕ → ℕ → Answer A → Type 0

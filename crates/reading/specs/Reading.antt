@@ -1,5 +1,6 @@
 -- How files are read: answers and outcomes, commands with their checks, the parts of a file.
-use Rattle.reading.specs.Basics.{ℕ, zero, suc, ◌+◌, ◌-◌, Bool, List, [], ◌∷◌, Option, none, some, option_map, length, ltb, eqb, if◌then◌else◌, given, any, find, byte_at}
+use Rattle.std.specs.Prelude.{◌+◌, ◌-◌, ◌∷◌, if◌then◌else◌}
+use Rattle.reading.specs.Basics.{ℕ, zero, suc, Bool, List, [], Option, none, some, option_map, length, ltb, eqb, given, any, find, byte_at}
 
 -- reading a piece of a file gives a value and the next place, or a fault's number and place
 pub data Answer (A : Type 0) : Type 0 where

@@ -1,10 +1,11 @@
 -- The bytes of the rows, where no row of a transition has more arcs than so many; and the loop that adds the bounds up. Assumes nothing.
+use Rattle.std.specs.Prelude.{◌+◌, ◌*◌, ◌∷◌, ◌++◌, if◌then◌else◌}
 use mathlib.Core.Path.{◌≡◌, refl, sym, ◌∙◌}
 use Prim.Native.Nat.{◌≤◌, ◌<◌}
 use native.Mathlib.Omega.{arith}
 use native.Mathlib.Nat.{zero-mul, suc-mul, mul-le-mul}
 use lib.ListN.{length-append}
-use Rattle.reading.specs.Basics.{ℕ, zero, suc, ◌+◌, ◌*◌, Bool, true, false, List, [], ◌∷◌, ◌++◌, flat_map, Option, none, some, length, get_or, if◌then◌else◌, given, keep, numbers_from, below, product}
+use Rattle.reading.specs.Basics.{ℕ, zero, suc, Bool, true, false, List, [], flat_map, Option, none, some, length, get_or, given, keep, numbers_from, below, product}
 use Rattle.firing.specs.Firing.{Weights}
 use Rattle.flat_file.specs.Flat.{row_bytes}
 use Rattle.flat_file.proofs.Written.{length-row}

@@ -1,10 +1,11 @@
 -- The rows' bytes are what each transition's bindings give, one after the other; and the loops that measure and write them. Assumes nothing.
+use Rattle.std.specs.Prelude.{◌+◌, ◌*◌, ◌-◌, ◌∷◌, ◌++◌}
 use mathlib.Core.Path.{◌≡◌, refl, sym, ap, ◌∙◌}
 use Prim.Native.Nat.{◌≤◌, ◌<◌}
 use native.Mathlib.Omega.{arith}
 use native.Mathlib.Nat.{add-zero}
 use lib.ListN.{length-append}
-use Rattle.reading.specs.Basics.{ℕ, zero, suc, ◌+◌, ◌*◌, ◌-◌, Bool, true, false, List, [], ◌∷◌, ◌++◌, map, flat_map, filter_map, Option, none, some, length, get_elem?, given, numbers_from, below, product}
+use Rattle.reading.specs.Basics.{ℕ, zero, suc, Bool, true, false, List, [], map, flat_map, filter_map, Option, none, some, length, get_elem?, given, numbers_from, below, product}
 use Rattle.firing.specs.Firing.{Weights}
 use Rattle.firing.specs.Arcs.{Row}
 use Rattle.firing.specs.internal.RowLists.{row_in}

@@ -1,9 +1,10 @@
 -- No binding gives an expression more arcs than its most. Assumes nothing.
+use Rattle.std.specs.Prelude.{◌+◌, ◌-◌, ◌*◌, ◌&&◌, if◌then◌else◌}
 use mathlib.Core.Path.{◌≡◌, refl, ap, ◌∙◌}
 use Prim.Native.Nat.{◌≤◌, ◌<◌}
 use native.Mathlib.Omega.{arith}
 use borrow.Author.Tests.{ltb-true, ltb-false, eq-eqb}
-use Rattle.reading.specs.Basics.{ℕ, zero, suc, ◌+◌, ◌-◌, ◌*◌, Bool, true, false, ◌&&◌, some, length, ltb, leb, eqb, if◌then◌else◌, keep, numbers_from}
+use Rattle.reading.specs.Basics.{ℕ, zero, suc, Bool, true, false, some, length, ltb, leb, eqb, keep, numbers_from}
 use Rattle.reading.proofs.Gives.{both_first, both_second}
 use Rattle.net.specs.Net.{Expression, one, two, all, plus, minus, times, Place, Net, colours_of, ceiling}
 use Rattle.net.specs.Values.{colour, pair_rank, weight}

@@ -1,7 +1,8 @@
 -- The most arcs of an arc expression, from what stands in the bytes: by cases on the reading. Assumes nothing.
+use Rattle.std.specs.Prelude.{◌+◌, ◌-◌, if◌then◌else◌}
 use mathlib.Core.Path.{◌≡◌, refl, sym, ap, ◌∙◌, subst}
 use Prim.Native.Nat.{◌≤◌, ◌<◌}
-use Rattle.reading.specs.Basics.{ℕ, ◌+◌, ◌-◌, Bool, true, false, List, length, eqb, if◌then◌else◌, byte_at, word_at}
+use Rattle.reading.specs.Basics.{ℕ, Bool, true, false, List, length, eqb, byte_at, word_at}
 use Rattle.reading.specs.Reading.{Answer, fine, fault, under}
 use Rattle.net.specs.Net.{Colour, Expression, plus, minus, times, Place, single, pair, Net}
 use Rattle.net.specs.Reader.{read_colour, read_expression, two_of, amount, capped}

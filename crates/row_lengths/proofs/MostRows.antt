@@ -1,10 +1,11 @@
 -- How many arcs the rows of a transition have at most: no more than its expressions give under any binding. Assumes nothing.
+use Rattle.std.specs.Prelude.{◌+◌, ◌*◌, ◌&&◌, ◌∷◌, if◌then◌else◌}
 use mathlib.Core.Path.{◌≡◌, refl, sym, ap, subst, ◌∙◌}
 use Prim.Native.Nat.{◌≤◌, ◌<◌}
 use native.Mathlib.Omega.{arith}
 use borrow.Author.Tests.{eqb-true}
 use lib.ListN.{length-append}
-use Rattle.reading.specs.Basics.{ℕ, ◌+◌, ◌*◌, Bool, true, false, ◌&&◌, List, [], ◌∷◌, flat_map, Option, none, some, option_map, length, get_or, take, eqb, if◌then◌else◌, find}
+use Rattle.reading.specs.Basics.{ℕ, Bool, true, false, List, [], flat_map, Option, none, some, option_map, length, get_or, take, eqb, find}
 use Rattle.reading.proofs.Lists.{In, at_below, get_d_at, at_in}
 use Rattle.reading.proofs.Gives.{both_second}
 use Rattle.reading.specs.Reading.{fine}

@@ -1,11 +1,12 @@
 -- Values stay in their ranges: colours in their sets, ranks in their places. Assumes nothing.
+use Rattle.std.specs.Prelude.{◌+◌, ◌-◌, ◌*◌, ◌&&◌, if◌then◌else◌}
 use mathlib.Core.Path.{◌≡◌, refl, ap}
 use Prim.Native.Nat.{◌≤◌, ◌<◌}
 use native.Mathlib.Omega.{arith}
 use mathlib.Core.Logic.{⊎_elim}
 use native.Mathlib.Nat.{mul-le-mul_right, mul-one, suc-mul, eq-or-lt_of_le}
 use borrow.Author.Tests.{ltb-true, eqb-true, eqb-false}
-use Rattle.reading.specs.Basics.{ℕ, ◌+◌, ◌-◌, ◌*◌, Bool, true, false, ◌&&◌, length, ltb, eqb, if◌then◌else◌}
+use Rattle.reading.specs.Basics.{ℕ, Bool, true, false, length, ltb, eqb}
 use Rattle.reading.proofs.Gives.{both_first, both_second}
 use Rattle.net.specs.Net.{Colour, variable, constant, successor, predecessor, one, two, Place, single, pair, Net, size_of, colours_of, set_of}
 use Rattle.net.specs.Values.{colour, pair_rank}

@@ -1,9 +1,10 @@
 -- What the colours of a binding give: each variable a colour of its set. Assumes nothing.
+use Rattle.std.specs.Prelude.{◌∷◌, if◌then◌else◌}
 use mathlib.Core.Path.{◌≡◌, refl}
 use Prim.Native.Nat.{◌<◌}
 use native.Mathlib.Omega.{arith}
 use borrow.Author.Tests.{eqb-true}
-use Rattle.reading.specs.Basics.{ℕ, Bool, true, false, List, [], ◌∷◌, map, get_or, eqb, if◌then◌else◌}
+use Rattle.reading.specs.Basics.{ℕ, Bool, true, false, List, [], map, get_or, eqb}
 use Rattle.reading.proofs.Lists.{In}
 use Rattle.net.specs.Net.{Net, size_of, variables_of, transition_at}
 use Rattle.net_file.specs.Limits.{Limits}

@@ -1,4 +1,5 @@
 -- Marks as the bits of words: what setting one changes, and the marks of all bindings. Assumes nothing.
+use Rattle.std.specs.Prelude.{◌+◌, ◌/◌, ◌%◌, ◌||◌, ◌&&◌, if◌then◌else◌}
 use mathlib.Core.Path.{◌≡◌, refl, sym, ap, ◌∙◌, subst}
 use mathlib.Core.Bool.{or-false, and-true, and-false}
 use native.Mathlib.Numerals.{add-one}
@@ -13,7 +14,7 @@ use lib.Dec.{lit<}
 use lib.ListN.{set}
 use lib.Pow.{low, shl-shr, pow-lt, pow-add, pow_pos}
 use lib.Seq.{get_or-set_same, get_or-set_other}
-use Rattle.reading.specs.Basics.{ℕ, zero, suc, ◌+◌, ◌/◌, ◌%◌, Bool, true, false, ◌||◌, ◌&&◌, eqb, ltb, if◌then◌else◌, List, length, get_or, replicate, keep, numbers_from, product}
+use Rattle.reading.specs.Basics.{ℕ, zero, suc, Bool, true, false, eqb, ltb, List, length, get_or, replicate, keep, numbers_from, product}
 use Rattle.net.specs.Net.{Net, sizes_of, transition_at}
 use Rattle.net.specs.internal.ReaderEnums.{member}
 use Rattle.reading.proofs.Clash.{clash}

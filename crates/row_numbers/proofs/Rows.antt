@@ -1,10 +1,11 @@
 -- The rows of a net and the orders that have them. Assumes nothing.
+use Rattle.std.specs.Prelude.{◌∷◌, ◌++◌}
 use mathlib.Core.Path.{◌≡◌, refl, sym, ap, ◌∙◌}
 use Prim.Native.Nat.{◌≤◌, ◌<◌}
 use native.Mathlib.Omega.{arith}
 use lib.ListN.{length-append}
 use lib.Seq.{length-take-le}
-use Rattle.reading.specs.Basics.{ℕ, List, [], ◌∷◌, ◌++◌, Option, none, some, option_map, length, get_elem?, given, position, same}
+use Rattle.reading.specs.Basics.{ℕ, List, [], Option, none, some, option_map, length, get_elem?, given, position, same}
 use Rattle.reading.proofs.Lists.{In, Apart, length-filter_map}
 use Rattle.firing.specs.Firing.{Weights}
 use Rattle.net.specs.Net.{Net}

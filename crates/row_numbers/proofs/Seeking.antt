@@ -1,8 +1,9 @@
 -- The search for the binding of a row. Assumes nothing.
+use Rattle.std.specs.Prelude.{◌+◌}
 use mathlib.Core.Path.{◌≡◌, ap, ◌∙◌, subst}
 use Prim.Native.Nat.{◌≤◌, ◌<◌, ◌-◌}
 use native.Mathlib.Omega.{arith}
-use Rattle.reading.specs.Basics.{ℕ, ◌+◌, true, List, none, some, length, product}
+use Rattle.reading.specs.Basics.{ℕ, true, List, none, some, length, product}
 use Rattle.net.specs.Net.{Net, sizes_of, transition_at}
 use Rattle.bindings.specs.Effect.{bindings}
 use Rattle.prepared.specs.internal.Prepared.{Prepared}

@@ -1,4 +1,5 @@
 -- The table of row numbers and the starts of transitions, as the walk fills them. Assumes nothing.
+use Rattle.std.specs.Prelude.{◌+◌}
 use mathlib.Core.Path.{◌≡◌, refl, sym, ap, ◌∙◌, subst}
 use mathlib.Core.Logic.{⊎_elim}
 use Prim.Native.Nat.{◌≤◌, ◌<◌, ◌-◌}
@@ -8,7 +9,7 @@ use native.Mathlib.Numerals.{add-one}
 use borrow.Author.Tests.{ltb-true, ltb-false}
 use lib.ListN.{set}
 use lib.Seq.{get_or-set_same, get_or-set_other}
-use Rattle.reading.specs.Basics.{ℕ, zero, suc, ◌+◌, Bool, true, false, ltb, List, some, length, get_or, get_elem?, product}
+use Rattle.reading.specs.Basics.{ℕ, zero, suc, Bool, true, false, ltb, List, some, length, get_or, get_elem?, product}
 use Rattle.reading.proofs.Lists.{below_at}
 use Rattle.net.specs.Net.{Net, sizes_of, transition_at}
 use Rattle.plan.specs.internal.Layout.{transitions_in}

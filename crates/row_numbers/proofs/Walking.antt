@@ -1,11 +1,12 @@
 -- The walk over all bindings in order: how many rows the first so many have, and what that says of row numbers and of orders. Assumes nothing.
+use Rattle.std.specs.Prelude.{◌+◌, ◌∷◌, ◌++◌}
 use mathlib.Core.Path.{◌≡◌, refl, sym, ap, ◌∙◌}
 use mathlib.Core.List.{append-nil, filter_map-append, filter_map-cons-none, filter_map-cons-some}
 use Prim.Native.Nat.{◌≤◌, ◌<◌}
 use native.Mathlib.Omega.{arith}
 use lib.ListN.{length-append, length-take}
 use lib.Seq.{take_all}
-use Rattle.reading.specs.Basics.{ℕ, zero, suc, ◌+◌, Bool, true, false, List, [], ◌∷◌, ◌++◌, filter_map, Option, none, some, option_map, length, take, drop, get_elem?, given, with}
+use Rattle.reading.specs.Basics.{ℕ, zero, suc, Bool, true, false, List, [], filter_map, Option, none, some, option_map, length, take, drop, get_elem?, given, with}
 use Rattle.reading.proofs.Lists.{Apart, at_in, length-filter_map}
 use Rattle.firing.specs.Firing.{Weights}
 use Rattle.firing.proofs.Running.{take-with, split_here}

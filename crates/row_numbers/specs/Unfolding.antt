@@ -1,5 +1,6 @@
 -- Unfolding a net, the images of orders, and the way back.
-use Rattle.reading.specs.Basics.{ℕ, zero, suc, ◌+◌, ◌*◌, ◌/◌, ◌%◌, List, [], ◌∷◌, ◌++◌, map, flat_map, filter_map, Option, option_map, length, get_elem?, ltb, leb, eqb, if◌then◌else◌, given, position, same, long, items, over}
+use Rattle.std.specs.Prelude.{◌+◌, ◌*◌, ◌/◌, ◌%◌, ◌∷◌, ◌++◌, if◌then◌else◌}
+use Rattle.reading.specs.Basics.{ℕ, zero, suc, List, [], map, flat_map, filter_map, Option, option_map, length, get_elem?, ltb, leb, eqb, given, position, same, long, items, over}
 use Rattle.reading.specs.Reading.{Outcome, accepted, refused, on, CallCheck, ◌when_not◌, permitted}
 use Rattle.firing.specs.Firing.{Weights}
 use Rattle.flat_file.specs.Flat.{Flat, write_flat}

@@ -1,6 +1,6 @@
 // Marks: a bit for each binding of a transition whose bindings do not all have rows, one after the other in words of 32.
-ghost use Rattle.std.specs.Prelude.{◌≡◌, true, false, ◌||◌, ◌&&◌, ℕ, ◌+◌, ◌≤◌, ◌<◌, length, eqb};
-ghost use Rattle.reading.specs.Basics.{product, if◌then◌else◌};
+ghost use Rattle.std.specs.Prelude.{◌≡◌, true, false, ◌||◌, ◌&&◌, ℕ, ◌+◌, ◌≤◌, ◌<◌, length, eqb, if◌then◌else◌};
+ghost use Rattle.reading.specs.Basics.{product};
 ghost use Rattle.net.specs.Net.{Net, sizes_of, transition_at};
 ghost use Rattle.prepared.specs.internal.Prepared.{Prepared};
 ghost use Rattle.bindings.specs.internal.Bindings.{Binds, numbered};

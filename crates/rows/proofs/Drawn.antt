@@ -1,11 +1,12 @@
 -- What the tables of a net give the code that loads an effect: one entry of the packed table, one kind. Assumes nothing.
+use Rattle.std.specs.Prelude.{◌+◌, ◌-◌, ◌*◌, ◌/◌, ◌%◌, ◌++◌}
 use mathlib.Core.Path.{◌≡◌, refl, sym, ap, subst, fun_ext, ◌∙◌}
 use Prim.Native.Nat.{◌≤◌, ◌<◌}
 use native.Mathlib.Omega.{arith}
 use borrow.Author.Tests.{eq-eqb, ne_eqb, ltb-true, ltb-false}
 use lib.ListN.{get_or-eq_default}
 use lib.Seq.{take_all}
-use Rattle.reading.specs.Basics.{ℕ, ◌+◌, ◌-◌, ◌*◌, ◌/◌, ◌%◌, Bool, true, false, List, [], ◌++◌, flat_map, Option, none, some, option_map, length, get_or, take, ltb, eqb}
+use Rattle.reading.specs.Basics.{ℕ, Bool, true, false, List, [], flat_map, Option, none, some, option_map, length, get_or, take, ltb, eqb}
 use Rattle.reading.specs.Reading.{fine}
 use Rattle.firing.specs.Arcs.{Arc}
 use Rattle.net.specs.Net as net

@@ -1,10 +1,11 @@
 -- The effect of a binding, from its guard and the arcs of its three kinds; and what firing its row gives. Assumes nothing.
+use Rattle.std.specs.Prelude.{◌+◌, ◌/◌, ◌*◌, ◌||◌, ◌∷◌, if◌then◌else◌}
 use mathlib.Core.Path.{◌≡◌, refl, sym, ap, subst, fun_ext, ◌∙◌}
 use mathlib.Core.List.Memᴰ
 use Prim.Native.Nat.{◌≤◌, ◌<◌}
 use native.Mathlib.Omega.{arith}
 use lib.Seq.{take-take}
-use Rattle.reading.specs.Basics.{ℕ, ◌+◌, ◌/◌, ◌*◌, Bool, true, false, ◌||◌, List, [], ◌∷◌, Option, none, some, length, take, get_elem?, if◌then◌else◌, given, any, find}
+use Rattle.reading.specs.Basics.{ℕ, Bool, true, false, List, [], Option, none, some, length, take, get_elem?, given, any, find}
 use Rattle.reading.proofs.Lists.{In, here, there, in_cases}
 use Rattle.firing.specs.Firing.{Weights, fired, fire}
 use Rattle.firing.specs.internal.Steps.{lacking}

@@ -1,9 +1,10 @@
 -- What follows from the tables of an accepted net, for the calls, and from a row that was loaded to be fired. Assumes nothing.
+use Rattle.std.specs.Prelude.{◌+◌, ◌*◌, ◌/◌}
 use mathlib.Core.Path.{◌≡◌, sym, ◌∙◌}
 use Prim.Native.Nat.{◌≤◌, ◌<◌}
 use native.Mathlib.Omega.{arith}
 use borrow.Author.Tests.{leb-true}
-use Rattle.reading.specs.Basics.{ℕ, ◌+◌, ◌*◌, ◌/◌, Bool, true, false, not, List, [], none, some, map, length, leb, any}
+use Rattle.reading.specs.Basics.{ℕ, Bool, true, false, not, List, [], none, some, map, length, leb, any}
 use Rattle.reading.specs.Reading.{accepted}
 use Rattle.reading.proofs.Clash.{not_true, not_false}
 use Rattle.firing.specs.Firing.{fired}

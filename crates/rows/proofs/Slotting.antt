@@ -1,11 +1,12 @@
 -- What the code's loop over the entries of the packed table tells of the slots that the rows of a net need. Assumes nothing.
+use Rattle.std.specs.Prelude.{◌+◌, ◌*◌, ◌/◌, ◌%◌, ◌∷◌, ◌++◌}
 use mathlib.Core.Path.{◌≡◌, refl, sym, ap, subst, ◌∙◌}
 use mathlib.Core.List.{append-nil}
 use Prim.Native.Nat.{◌≤◌, ◌<◌}
 use native.Mathlib.Omega.{arith}
 use borrow.Author.Tests.{ltb-true, ltb-false}
 use lib.ListN.{length-map}
-use Rattle.reading.specs.Basics.{ℕ, zero, suc, ◌+◌, ◌*◌, ◌/◌, ◌%◌, Bool, true, false, List, [], ◌∷◌, ◌++◌, map, flat_map, Option, none, some, option_map, length, get_or, take, sum, ltb, numbers_from}
+use Rattle.reading.specs.Basics.{ℕ, zero, suc, Bool, true, false, List, [], map, flat_map, Option, none, some, option_map, length, get_or, take, sum, ltb, numbers_from}
 use Rattle.net.specs.Net as net
 use Rattle.net.specs.Net.{Net, net, place_at, arc_on, no_transition, scope, transition_at}
 use Rattle.net.specs.Reader.{read_expression}

@@ -1,4 +1,5 @@
 -- The arcs over all flat places are, place by place, the arcs over each place's ranks. Assumes nothing.
+use Rattle.std.specs.Prelude.{◌+◌, ◌∷◌, ◌++◌, if◌then◌else◌}
 use mathlib.Core.Path.{◌≡◌, refl, sym, ap, ap₂, subst, ◌∙◌}
 use Prim.Native.Nat.{◌≤◌, ◌<◌}
 use native.Mathlib.Omega.{arith}
@@ -6,7 +7,7 @@ use native.Mathlib.Numerals.{add-one}
 use native.Mathlib.Nat.{mul-le-mul}
 use borrow.Author.Tests.{ltb-true}
 use lib.ListN.{length-append, length-map}
-use Rattle.reading.specs.Basics.{ℕ, zero, suc, ◌+◌, Bool, true, false, List, [], ◌∷◌, ◌++◌, map, flat_map, none, length, get_elem?, ltb, if◌then◌else◌, given, keep, numbers_from, below, product, every}
+use Rattle.reading.specs.Basics.{ℕ, zero, suc, Bool, true, false, List, [], map, flat_map, none, length, get_elem?, ltb, given, keep, numbers_from, below, product, every}
 use Rattle.reading.proofs.Lists.{map_same, map_from, length_from, flat_more}
 use Rattle.reading.proofs.Gives.{both_first, both_second}
 use Rattle.firing.specs.Arcs.{Arc, arcs_of}

@@ -1,10 +1,11 @@
 -- Arcs appended to two lent lists. Assumes nothing.
+use Rattle.std.specs.Prelude.{◌+◌, ◌-◌, ◌∷◌, ◌++◌}
 use mathlib.Core.Path.{◌≡◌, refl, sym, ap, ap₂, ◌∙◌}
 use Prim.Native.Nat.{◌≤◌, ◌<◌}
 use native.Mathlib.Omega.{arith}
 use lib.ListN.{set, length-set, length-append}
 use lib.Seq.{take-set-le, take-take, get_or-take, get_or-set_same}
-use Rattle.reading.specs.Basics.{ℕ, zero, suc, ◌+◌, ◌-◌, List, [], ◌∷◌, ◌++◌, map, length, get_or, take, numbers_from}
+use Rattle.reading.specs.Basics.{ℕ, zero, suc, List, [], map, length, get_or, take, numbers_from}
 use Rattle.reading.proofs.Lists.{of_from, map_same}
 use Rattle.firing.specs.Arcs.{Arc}
 use Rattle.firing.specs.internal.RowLists.{arcs_in}

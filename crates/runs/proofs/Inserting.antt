@@ -1,10 +1,11 @@
 -- One term added to the run of terms before it, in two lent lists. Assumes nothing.
+use Rattle.std.specs.Prelude.{◌+◌, ◌-◌, ◌∷◌, ◌++◌}
 use mathlib.Core.Path.{◌≡◌, refl, sym, ap, ap₂, subst, ◌∙◌}
 use Prim.Native.Nat.{◌≤◌, ◌<◌}
 use native.Mathlib.Omega.{arith}
 use lib.ListN.{set, length-set, length-append}
 use lib.Seq.{take-set-le, get_or-set_same, get_or-set_other}
-use Rattle.reading.specs.Basics.{ℕ, ◌+◌, ◌-◌, false, List, [], ◌∷◌, ◌++◌, length, get_or, take}
+use Rattle.reading.specs.Basics.{ℕ, false, List, [], length, get_or, take}
 use Rattle.firing.specs.Arcs.{Arc}
 use Rattle.firing.specs.internal.RowLists.{arcs_in}
 use Rattle.runs.specs.internal.Terms.{limit, term, Terms, none, more, joined, join_by, ArcsAppended, MovedUp}

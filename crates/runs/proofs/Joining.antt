@@ -1,11 +1,12 @@
 -- Two multisets joined rank by rank, and a multiset times a factor. Assumes nothing.
+use Rattle.std.specs.Prelude.{◌+◌, ◌*◌, ◌∷◌, ◌++◌, if◌then◌else◌}
 use mathlib.Core.Path.{◌≡◌, refl, sym, ap, ap₂, ◌∙◌}
 use Prim.Native.Nat.{◌≤◌, ◌<◌}
 use native.Mathlib.Omega.{arith}
 use borrow.Author.Tests.{le-leb, ltb-true, ltb-false, lt-ltb, le-ltb, eqb-true, eqb-false, eq-eqb, ne_eqb}
 use mathlib.Core.List.{append-nil}
 use lib.ListN.{length-map}
-use Rattle.reading.specs.Basics.{ℕ, ◌+◌, ◌*◌, Bool, true, false, List, [], ◌∷◌, ◌++◌, map, length, ltb, eqb, if◌then◌else◌}
+use Rattle.reading.specs.Basics.{ℕ, Bool, true, false, List, [], map, length, ltb, eqb}
 use Rattle.firing.specs.Arcs.{Arc}
 use Rattle.runs.specs.internal.Terms.{limit, term, count_in, Terms, none, more, join_one, joined, join_by, times_all}
 

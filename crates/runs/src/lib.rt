@@ -1,8 +1,7 @@
 // Keeps terms, a rank and its count each, in two lent lists by rising rank: stored, multiplied, and two runs of them joined to one.
 #![tactic(auto)]
 
-ghost use Rattle.std.specs.Prelude.{◌≡◌, true, false, List, [], ◌∷◌, ℕ, ◌≤◌, ◌<◌, ◌+◌, ◌-◌, ◌*◌, length, get_or};
-ghost use Rattle.reading.specs.Basics.{if◌then◌else◌};
+ghost use Rattle.std.specs.Prelude.{◌≡◌, true, false, List, [], ◌∷◌, ℕ, ◌≤◌, ◌<◌, ◌+◌, ◌-◌, ◌*◌, length, get_or, if◌then◌else◌};
 ghost use Rattle.firing.specs.Arcs.{Arc};
 ghost use Rattle.firing.specs.internal.RowLists.{arcs_in};
 ghost use Rattle.runs.specs.internal.Terms.{limit, term, Terms, joined, join_by, times_all, ArcsAppended, MergedFirst, Apart, MovedUp};

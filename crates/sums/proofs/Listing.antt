@@ -1,11 +1,12 @@
 -- The terms of an arc expression, from what stands in the bytes: by cases on the reading. Assumes nothing.
+use Rattle.std.specs.Prelude.{◌+◌, ◌-◌, ◌*◌, ◌∷◌, if◌then◌else◌}
 use mathlib.Core.Path.{◌≡◌, refl, sym, ap, ◌∙◌, subst}
 use Prim.Native.Nat.{◌≤◌, ◌<◌}
 use native.Mathlib.Omega.{arith}
 use native.Mathlib.Nat.{mul-le-mul_left, le_trans, eq-or-lt_of_le}
 use mathlib.Core.Logic.{⊎_elim}
 use borrow.Author.Tests.{le-leb, ne_eqb, ltb-true, ltb-false}
-use Rattle.reading.specs.Basics.{ℕ, ◌+◌, ◌-◌, ◌*◌, Bool, true, false, List, [], ◌∷◌, length, ltb, eqb, if◌then◌else◌, byte_at, word_at}
+use Rattle.reading.specs.Basics.{ℕ, Bool, true, false, List, [], length, ltb, eqb, byte_at, word_at}
 use Rattle.reading.specs.Reading.{Answer, fine, fault, under}
 use Rattle.firing.specs.Arcs.{Arc}
 use Rattle.firing.specs.internal.RowLists.{arcs_in}

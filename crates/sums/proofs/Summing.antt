@@ -1,10 +1,11 @@
 -- A sum of counts gone through operand after operand: what each step adds to the terms, and two runs joined. Assumes nothing.
+use Rattle.std.specs.Prelude.{◌+◌, ◌-◌, ◌*◌, ◌&&◌, ◌∷◌, if◌then◌else◌}
 use mathlib.Core.Path.{◌≡◌, refl, sym, ap, subst, ◌∙◌}
 use mathlib.Core.List.{append-nil}
 use Prim.Native.Nat.{◌≤◌, ◌<◌}
 use native.Mathlib.Omega.{arith}
 use borrow.Author.Tests.{le-leb, ne_eqb, lt-ltb, ltb-true, ltb-false}
-use Rattle.reading.specs.Basics.{ℕ, zero, suc, ◌+◌, ◌-◌, ◌*◌, Bool, true, false, ◌&&◌, List, [], ◌∷◌, Option, some, none, length, ltb, eqb, if◌then◌else◌, given, with, byte_at, word_at}
+use Rattle.reading.specs.Basics.{ℕ, zero, suc, Bool, true, false, List, [], Option, some, none, length, ltb, eqb, given, with, byte_at, word_at}
 use Rattle.reading.specs.Reading.{Answer, fine, fault, under, Check, ◌unless◌, failing, Command, command, obey}
 use Rattle.reading.proofs.Lists.{end, also}
 use Rattle.reading.proofs.Commands.{known, needed_at}

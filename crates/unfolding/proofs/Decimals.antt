@@ -1,10 +1,11 @@
 -- A number in tens, digit by digit. Assumes nothing.
+use Rattle.std.specs.Prelude.{◌+◌, ◌-◌, ◌/◌, ◌%◌, ◌∷◌, ◌++◌, if◌then◌else◌}
 use mathlib.Core.Path.{◌≡◌}
 use Prim.Native.Nat.{◌≤◌, ◌<◌}
 use native.Mathlib.Omega.{arith}
 use borrow.Author.Tests.{lt-ltb, le-ltb}
 use lib.ListN.{length-append}
-use Rattle.reading.specs.Basics.{ℕ, zero, suc, ◌+◌, ◌-◌, ◌/◌, ◌%◌, List, [], ◌∷◌, ◌++◌, length, Bool, true, false, ltb, if◌then◌else◌}
+use Rattle.reading.specs.Basics.{ℕ, zero, suc, List, [], length, Bool, true, false, ltb}
 use Rattle.row_numbers.specs.Unfolding.{decimal}
 use Rattle.flat_file.specs.internal.Output.{Appended}
 use Rattle.flat_file.proofs.Appending.{append_none, append_then}

@@ -1,6 +1,7 @@
 -- The other edges of document 01, and some fine points, from the meanings by computation.
+use Rattle.std.specs.Prelude.{◌∷◌, ◌++◌}
 use mathlib.Core.Path.{refl}
-use Rattle.reading.specs.Basics.{ℕ, zero, suc, List, [], ◌∷◌, ◌++◌, replicate}
+use Rattle.reading.specs.Basics.{ℕ, zero, suc, List, [], replicate}
 use Rattle.unfolding.specs.Cases.{Case, unfolds, fires, order, spans, refuses, AllHold, meanings}
 
 -- edition 1, and the end

@@ -1,4 +1,5 @@
 -- The table of initial counts is the flat net's. Assumes nothing.
+use Rattle.std.specs.Prelude.{◌+◌, ◌∷◌, ◌++◌}
 use mathlib.Core.Path.{◌≡◌, refl, sym, ap, ap₂, ◌∙◌}
 use mathlib.Core.List.{append_assoc, append-nil, map-append}
 use Prim.Native.Nat.{◌≤◌, ◌<◌}
@@ -6,7 +7,7 @@ use native.Mathlib.Omega.{arith}
 use native.Mathlib.Nat.{add-zero}
 use native.Mathlib.Numerals.{add-one}
 use lib.Seq.{take-suc, take-length}
-use Rattle.reading.specs.Basics.{ℕ, zero, suc, ◌+◌, List, [], ◌∷◌, ◌++◌, map, flat_map, length, get_or, take, given, with, numbers_from, below, sum}
+use Rattle.reading.specs.Basics.{ℕ, zero, suc, List, [], map, flat_map, length, get_or, take, given, with, numbers_from, below, sum}
 use Rattle.reading.proofs.Lists.{map-map, map_same, of_from, flat_append}
 use Rattle.net.specs.Net.{Net, colours_of, place_at, flat_place_count, tokens_on}
 use Rattle.net_transitions.proofs.Spaces.{below_next}

@@ -1,11 +1,12 @@
 -- The line of a refusal spells its number and its place. Assumes nothing.
+use Rattle.std.specs.Prelude.{◌+◌, ◌*◌, ◌-◌, ◌/◌, ◌%◌, ◌∷◌, ◌++◌, if◌then◌else◌}
 use mathlib.Core.Path.{◌≡◌, refl, sym, ◌∙◌}
 use Prim.Native.Nat.{◌≤◌, ◌<◌, ◌^◌}
 use native.Mathlib.Omega.{arith}
 use native.Mathlib.Nat.{pow-suc}
 use borrow.Author.Tests.{ltb-true, ltb-false, le-leb}
 use lib.ListN.{length-append, get_or-append}
-use Rattle.reading.specs.Basics.{ℕ, zero, suc, ◌+◌, ◌*◌, ◌-◌, ◌/◌, ◌%◌, Bool, true, false, List, [], ◌∷◌, ◌++◌, length, ltb, leb, if◌then◌else◌, every, byte_at}
+use Rattle.reading.specs.Basics.{ℕ, zero, suc, Bool, true, false, List, [], length, ltb, leb, every, byte_at}
 use Rattle.reading.specs.Reading.{Outcome, accepted, refused, ◌when_not◌, refusing, permitted}
 use Rattle.reading.proofs.Commands.{both_hold}
 use Rattle.reading.proofs.Lists.{all_with, every_in, in_every}

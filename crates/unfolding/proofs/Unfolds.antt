@@ -1,11 +1,12 @@
 -- What the call that unfolds gives, from what was read, measured and written. Assumes nothing.
+use Rattle.std.specs.Prelude.{◌+◌, ◌*◌, ◌/◌, ◌∷◌, ◌++◌}
 use mathlib.Core.Path.{◌≡◌, refl, sym, ap, subst, ◌∙◌}
 use Prim.Native.Nat.{◌≤◌, ◌<◌}
 use native.Mathlib.Omega.{arith}
 use borrow.Author.Tests.{le-leb, lt-leb, leb-true, leb-false}
 use lib.ListN.{length-append}
 use lib.Seq.{length-take-le}
-use Rattle.reading.specs.Basics.{ℕ, ◌+◌, ◌*◌, ◌/◌, Bool, true, false, not, List, [], ◌∷◌, ◌++◌, flat_map, length, take, drop, leb, over}
+use Rattle.reading.specs.Basics.{ℕ, Bool, true, false, not, List, [], flat_map, length, take, drop, leb, over}
 use Rattle.reading.specs.Reading.{Outcome, accepted, refused, refusing}
 use Rattle.flat_file.specs.Flat.{write_flat}
 use Rattle.flat_file.proofs.Written.{place_bytes, length_places}

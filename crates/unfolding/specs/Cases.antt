@@ -1,6 +1,6 @@
 -- The cases marked *, as one list, and one result: they all follow from the meanings.
-use Rattle.std.specs.Prelude.{◌≡◌, refl}
-use Rattle.reading.specs.Basics.{ℕ, List, [], ◌∷◌, ◌++◌, map, flat_map, filter_map, Option-elim, length, replicate, numbers_from, below, any, every, keep, find, position, same}
+use Rattle.std.specs.Prelude.{◌≡◌, refl, ◌∷◌, ◌++◌}
+use Rattle.reading.specs.Basics.{ℕ, List, [], map, flat_map, filter_map, Option-elim, length, replicate, numbers_from, below, any, every, keep, find, position, same}
 use Rattle.reading.specs.Reading.{accepted, refused, on, failing, refusing, obey, standing, needed, repeat, file}
 use Rattle.firing.specs.Firing.{fire, run, ending, First, found, nothing, first}
 use Rattle.firing.specs.Calls.{fire_call, first_call}

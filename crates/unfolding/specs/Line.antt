@@ -1,6 +1,6 @@
 -- The line of a refusal, stated: its digits are the refusal's own numbers. Types only, no proof.
-use Rattle.std.specs.Prelude.{◌≡◌}
-use Rattle.reading.specs.Basics.{ℕ, ◌+◌, ◌*◌, ◌-◌, Bool, true, ◌&&◌, List, [], ◌∷◌, leb, every, byte_at}
+use Rattle.std.specs.Prelude.{◌≡◌, ◌+◌, ◌*◌, ◌-◌, ◌&&◌, ◌∷◌}
+use Rattle.reading.specs.Basics.{ℕ, Bool, true, List, [], leb, every, byte_at}
 use Rattle.reading.specs.Reading.{refused, permitted}
 use Rattle.net_file.specs.NetFile.{read_net}
 use Rattle.row_numbers.specs.Unfolding.{fits_program, decimal}

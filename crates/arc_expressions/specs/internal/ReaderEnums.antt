@@ -1,6 +1,6 @@
 -- What the reading of an arc expression tells, in the terms of the meanings.
-use Rattle.std.specs.Prelude.{◌≤◌}
-use Rattle.reading.specs.Basics.{ℕ, Bool, leb, if◌then◌else◌}
+use Rattle.std.specs.Prelude.{◌≤◌, if◌then◌else◌}
+use Rattle.reading.specs.Basics.{ℕ, Bool, leb}
 use Rattle.reading.specs.Reading.{Answer}
 use Rattle.net.specs.Net.{Expression, plus, minus, ceiling, in_expression}
 use Rattle.net.specs.internal.ReaderEnums.{told}

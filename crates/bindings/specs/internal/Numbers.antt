@@ -1,5 +1,6 @@
 -- Bindings by number: the colours of a number, the number of colours, and how many bindings stand before a transition's.
-use Rattle.reading.specs.Basics.{ℕ, ◌+◌, ◌*◌, ◌/◌, ◌%◌, List, [], ◌∷◌, take, product}
+use Rattle.std.specs.Prelude.{◌+◌, ◌*◌, ◌/◌, ◌%◌, ◌∷◌}
+use Rattle.reading.specs.Basics.{ℕ, List, [], take, product}
 use Rattle.net.specs.Net.{Net, binding_space}
 
 -- the colours of number i over these sizes; the last changes fastest

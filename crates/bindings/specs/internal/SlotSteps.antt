@@ -1,6 +1,6 @@
 -- What happens to the colour of one slot's variable.
-use Rattle.std.specs.Prelude.{◌≡◌, ◌≤◌, ◌<◌, set}
-use Rattle.reading.specs.Basics.{ℕ, ◌+◌, ◌/◌, ◌%◌, Bool, true, false, List, length, get_or, ltb}
+use Rattle.std.specs.Prelude.{◌≡◌, ◌≤◌, ◌<◌, set, ◌+◌, ◌/◌, ◌%◌}
+use Rattle.reading.specs.Basics.{ℕ, Bool, true, false, List, length, get_or, ltb}
 use Rattle.prepared.specs.internal.TransitionVariables.{slot_variable, slot_size}
 
 -- a slot's variable was given its next colour, or its first after the last: then the one before it goes on too

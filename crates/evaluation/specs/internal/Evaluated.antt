@@ -1,6 +1,6 @@
 -- What the code's results say of the trees in the bytes.
-use Rattle.std.specs.Prelude.{◌≡◌}
-use Rattle.reading.specs.Basics.{ℕ, ◌+◌, ◌-◌, Bool, true, false, List, get_or, eqb, if◌then◌else◌}
+use Rattle.std.specs.Prelude.{◌≡◌, ◌+◌, ◌-◌, if◌then◌else◌}
+use Rattle.reading.specs.Basics.{ℕ, Bool, true, false, List, get_or, eqb}
 use Rattle.reading.specs.Reading.{Answer, fine, fault}
 use Rattle.net.specs.Net.{Colour, Guard, Expression, Place, single, pair, Net, scope, set_of}
 use Rattle.plan.specs.internal.Layout.{sets_in, variables_in}

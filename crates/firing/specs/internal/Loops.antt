@@ -1,6 +1,6 @@
 -- What the loops of an engine promise to the calls above them.
-use Rattle.std.specs.Prelude.{◌≡◌}
-use Rattle.reading.specs.Basics.{ℕ, ◌+◌, List, map, length, ltb, if◌then◌else◌, over}
+use Rattle.std.specs.Prelude.{◌≡◌, ◌+◌, if◌then◌else◌}
+use Rattle.reading.specs.Basics.{ℕ, List, map, length, ltb, over}
 use Rattle.firing.specs.Firing.{Fired, run, ending, First, found, nothing}
 
 -- a list was fired: what it left of the marking and the lent answers

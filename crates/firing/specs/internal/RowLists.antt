@@ -1,5 +1,6 @@
 -- Rows in two lent lists, one of places and one of weights.
-use Rattle.reading.specs.Basics.{ℕ, ◌-◌, List, map, get_or, numbers_from}
+use Rattle.std.specs.Prelude.{◌-◌}
+use Rattle.reading.specs.Basics.{ℕ, List, map, get_or, numbers_from}
 use Rattle.firing.specs.Arcs.{Arc, Row, row}
 
 -- the arcs number a to b - 1 of the two lists

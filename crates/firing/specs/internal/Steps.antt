@@ -1,6 +1,6 @@
 -- Firing arc by arc: the three tests, and the change.
-use Rattle.reading.specs.Basics.{ℕ, ◌+◌, ◌-◌, ◌%◌, Bool, true, false, ◌&&◌, List, [], ◌∷◌, length, get_or, ltb, leb, if◌then◌else◌}
-use Rattle.std.specs.Prelude.{◌≡◌, ◌≤◌, ◌<◌, set}
+use Rattle.reading.specs.Basics.{ℕ, Bool, true, false, List, [], length, get_or, ltb, leb}
+use Rattle.std.specs.Prelude.{◌≡◌, ◌≤◌, ◌<◌, set, ◌+◌, ◌-◌, ◌%◌, ◌&&◌, ◌∷◌, if◌then◌else◌}
 use Rattle.firing.specs.Firing.{capacity}
 use Rattle.firing.specs.Arcs.{Arc, weight_in}
 use Rattle.firing.specs.internal.RowLists.{arcs_in}

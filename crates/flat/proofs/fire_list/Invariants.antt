@@ -1,5 +1,6 @@
+use Rattle.std.specs.Prelude.{◌-◌}
 use mathlib.Core.Path.{◌≡◌}
-use Rattle.reading.specs.Basics.{◌-◌, length, items}
+use Rattle.reading.specs.Basics.{length, items}
 use Rattle.firing.proofs.Running.{Running}
 use Rattle.flat_file.specs.Flat.{Flat, fire_image}
 use Rattle.flat_file.specs.internal.ReaderEnums.{FlatHeld}

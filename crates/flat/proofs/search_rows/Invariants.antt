@@ -1,5 +1,6 @@
+use Rattle.std.specs.Prelude.{◌-◌}
 use mathlib.Core.Path.{◌≡◌}
-use Rattle.reading.specs.Basics.{◌-◌, length, eqb, below}
+use Rattle.reading.specs.Basics.{length, eqb, below}
 use Prim.Native.Nat.{◌≤◌}
 use Rattle.firing.proofs.Running.{Searching}
 use Rattle.flat_file.specs.Flat.{Flat, fire_row}

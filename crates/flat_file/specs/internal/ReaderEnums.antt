@@ -1,6 +1,6 @@
 -- What the code's enums say, in the terms of the meanings.
-use Rattle.std.specs.Prelude.{◌≡◌, ◌⊎◌, ◌<◌, ◌≤◌, ◌/◌, min}
-use Rattle.reading.specs.Basics.{ℕ, zero, suc, ◌+◌, ◌*◌, Bool, true, false, ◌&&◌, List, [], ◌∷◌, Option, none, some, length, get_or, leb, eqb, if◌then◌else◌, with, any, byte_at}
+use Rattle.std.specs.Prelude.{◌≡◌, ◌⊎◌, ◌<◌, ◌≤◌, ◌/◌, min, ◌+◌, ◌*◌, ◌&&◌, ◌∷◌, if◌then◌else◌}
+use Rattle.reading.specs.Basics.{ℕ, zero, suc, Bool, true, false, List, [], Option, none, some, length, get_or, leb, eqb, with, any, byte_at}
 use Rattle.reading.specs.Reading.{Answer, fine, fault, ◌and_then◌, accepted, refused, ◌unless◌, checked, command, needed, whole}
 use Rattle.firing.specs.Arcs.{Arc, Row, row}
 use Rattle.flat_file.specs.Flat.{Flat, rise, place_part, arc_part, row_part, read_flat}

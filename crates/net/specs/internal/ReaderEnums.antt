@@ -1,6 +1,6 @@
 -- What the code's enums say, in the terms of the meanings.
-use Rattle.std.specs.Prelude.{◌^◌}
-use Rattle.reading.specs.Basics.{ℕ, zero, suc, ◌+◌, Bool, eqb, if◌then◌else◌, given, List, get_or, ◌/◌, ◌%◌}
+use Rattle.std.specs.Prelude.{◌^◌, ◌+◌, if◌then◌else◌, ◌/◌, ◌%◌}
+use Rattle.reading.specs.Basics.{ℕ, zero, suc, Bool, eqb, given, List, get_or}
 use Rattle.reading.specs.Reading.{Answer, fine, fault}
 use Rattle.net.specs.Net.{Colour, Guard, Net, Place, single, pair, set_of, in_colour, in_guard}
 use Rattle.net.specs.Reader.{width_of}

@@ -1,6 +1,6 @@
 -- What the reading of a whole net file tells, and what its tables hold.
-use Rattle.std.specs.Prelude.{◌≡◌, ◌≤◌, ◌<◌}
-use Rattle.reading.specs.Basics.{ℕ, List, [], ◌∷◌, length, get_or, take, eqb, any, byte_at}
+use Rattle.std.specs.Prelude.{◌≡◌, ◌≤◌, ◌<◌, ◌∷◌}
+use Rattle.reading.specs.Basics.{ℕ, List, [], length, get_or, take, eqb, any, byte_at}
 use Rattle.reading.specs.Reading.{Answer, fine, fault, ◌and_then◌, accepted, refused, ◌unless◌, checked, command, needed}
 use Rattle.net.specs.Net.{Net, place_at, binding_space, scope}
 use Rattle.net_file.specs.NetFile.{read_net}

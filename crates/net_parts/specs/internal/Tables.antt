@@ -1,6 +1,6 @@
 -- What the tables of a net hold of its places and tokens, that a reading leaves for later calls.
-use Rattle.std.specs.Prelude.{◌≡◌, ◌<◌, ◌≤◌}
-use Rattle.reading.specs.Basics.{ℕ, ◌+◌, ◌*◌, List, [], Option, none, some, given, with, map, sum, length, get_or, take}
+use Rattle.std.specs.Prelude.{◌≡◌, ◌<◌, ◌≤◌, ◌+◌, ◌*◌}
+use Rattle.reading.specs.Basics.{ℕ, List, [], Option, none, some, given, with, map, sum, length, get_or, take}
 use Rattle.reading.specs.Reading.{Answer, fine, fault, whole}
 use Rattle.net.specs.Net.{Place, Tokens, Net, colours_of, place_at, tokens_on, scope}
 use Rattle.net_parts.specs.Parts.{tokens_part}

@@ -1,6 +1,6 @@
 -- What the tables of a net hold of its arcs and transitions, that a reading leaves for later calls.
-use Rattle.std.specs.Prelude.{◌≡◌, ◌<◌, ◌≤◌}
-use Rattle.reading.specs.Basics.{ℕ, ◌+◌, ◌*◌, List, [], Option, none, some, option_map, if◌then◌else◌, with, any, length, get_or, eqb, byte_at}
+use Rattle.std.specs.Prelude.{◌≡◌, ◌<◌, ◌≤◌, ◌+◌, ◌*◌, if◌then◌else◌}
+use Rattle.reading.specs.Basics.{ℕ, List, [], Option, none, some, option_map, with, any, length, get_or, eqb, byte_at}
 use Rattle.reading.specs.Reading.{Answer, fine, fault, ◌and_then◌, whole}
 use Rattle.net.specs.Net.{Guard, always, Expression, Arc, Transition, Net, place_at, arc_on, in_expression, variables_of, binding_space, in_transition, no_transition, scope}
 use Rattle.net.specs.Reader.{read_guard, read_guard_if, read_expression}

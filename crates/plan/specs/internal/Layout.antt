@@ -1,6 +1,6 @@
 -- Where each thing stands in the table of a prepared net, of 3,584 entries.
-use Rattle.std.specs.Prelude.{◌≡◌, ◌≤◌, ◌<◌}
-use Rattle.reading.specs.Basics.{ℕ, ◌+◌, ◌*◌, ◌/◌, ◌%◌, Bool, List, map, length, get_or, take, drop, leb, ltb, eqb, if◌then◌else◌}
+use Rattle.std.specs.Prelude.{◌≡◌, ◌≤◌, ◌<◌, ◌+◌, ◌*◌, ◌/◌, ◌%◌, if◌then◌else◌}
+use Rattle.reading.specs.Basics.{ℕ, Bool, List, map, length, get_or, take, drop, leb, ltb, eqb}
 
 -- ---- entries 0 to 7: counts
 -- 0 sets, 1 variables, 2 places, 3 flat places, 4 transitions, 5 bindings, 6 the edition; a count past its limit is read as the limit

@@ -1,6 +1,6 @@
 -- What the tables of a net say of the net in a file.
-use Rattle.std.specs.Prelude.{◌≡◌, ◌<◌}
-use Rattle.reading.specs.Basics.{ℕ, ◌+◌, ◌*◌, List, map, option_map, length, get_or, take, sum}
+use Rattle.std.specs.Prelude.{◌≡◌, ◌<◌, ◌+◌, ◌*◌}
+use Rattle.reading.specs.Basics.{ℕ, List, map, option_map, length, get_or, take, sum}
 use Rattle.net.specs.Net.{Net, scope, colours_of, place_at, arc_on, transition_at}
 use Rattle.net.specs.Reader.{read_expression}
 use Rattle.net_file.specs.Limits.{Limits}

@@ -1,6 +1,6 @@
 -- What the parts of a table's filling leave in it.
-use Rattle.std.specs.Prelude.{◌≡◌, ◌≤◌, ◌<◌}
-use Rattle.reading.specs.Basics.{ℕ, ◌+◌, List, length, get_or}
+use Rattle.std.specs.Prelude.{◌≡◌, ◌≤◌, ◌<◌, ◌+◌}
+use Rattle.reading.specs.Basics.{ℕ, List, length, get_or}
 use Rattle.reading.specs.Reading.{refused}
 use Rattle.net.specs.Net.{Net, in_transition, transition_at}
 use Rattle.net.specs.internal.ReaderEnums.{bits}

@@ -1,6 +1,6 @@
 -- The packed table of arcs: of each row of 32 slots, one a place, only those that hold an arc, by rising place.
-use Rattle.std.specs.Prelude.{◌≡◌, ◌≤◌, ◌<◌}
-use Rattle.reading.specs.Basics.{ℕ, ◌+◌, ◌-◌, ◌*◌, ◌/◌, ◌%◌, Bool, not, List, [], ◌∷◌, ◌++◌, map, flat_map, length, get_or, take, ltb, eqb, if◌then◌else◌, below}
+use Rattle.std.specs.Prelude.{◌≡◌, ◌≤◌, ◌<◌, ◌+◌, ◌-◌, ◌*◌, ◌/◌, ◌%◌, ◌∷◌, ◌++◌, if◌then◌else◌}
+use Rattle.reading.specs.Basics.{ℕ, Bool, not, List, [], map, flat_map, length, get_or, take, ltb, eqb, below}
 
 -- what a place is like: where its flat places begin, how many ranks it has, and whether it is a pair
 abbrev pub shape_of : ℕ → ℕ → Bool → ℕ

@@ -1,6 +1,6 @@
 -- The one relation between a net file, its net and its prepared table.
-use Rattle.std.specs.Prelude.{◌≡◌, ◌<◌}
-use Rattle.reading.specs.Basics.{ℕ, ◌+◌, List, length, get_or}
+use Rattle.std.specs.Prelude.{◌≡◌, ◌<◌, ◌+◌}
+use Rattle.reading.specs.Basics.{ℕ, List, length, get_or}
 use Rattle.reading.specs.Reading.{accepted}
 use Rattle.net.specs.Net.{Net, colours_of, flat_place_count, place_at, tokens_on}
 use Rattle.evaluation.specs.internal.Evaluated.{is_pair}

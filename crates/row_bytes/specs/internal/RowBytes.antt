@@ -1,6 +1,6 @@
 -- The bytes of the rows, binding by binding; and what the code that measures and writes them knows of the net.
-use Rattle.std.specs.Prelude.{◌≡◌, ◌≤◌, ◌<◌}
-use Rattle.reading.specs.Basics.{ℕ, ◌+◌, true, List, [], flat_map, length, take, given, below, product}
+use Rattle.std.specs.Prelude.{◌≡◌, ◌≤◌, ◌<◌, ◌+◌}
+use Rattle.reading.specs.Basics.{ℕ, true, List, [], flat_map, length, take, given, below, product}
 use Rattle.reading.specs.Reading.{accepted}
 use Rattle.flat_file.specs.Flat.{row_bytes}
 use Rattle.net.specs.Net.{Net, sizes_of, flat_place_count, transition_at}

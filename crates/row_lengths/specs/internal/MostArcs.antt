@@ -1,6 +1,6 @@
 -- How many arcs an expression gives at most, whatever the binding.
-use Rattle.std.specs.Prelude.{◌≡◌}
-use Rattle.reading.specs.Basics.{ℕ, ◌+◌, ◌-◌, List, Option, none, some, ltb, leb, eqb, if◌then◌else◌, given, byte_at, word_at}
+use Rattle.std.specs.Prelude.{◌≡◌, ◌+◌, ◌-◌, if◌then◌else◌}
+use Rattle.reading.specs.Basics.{ℕ, List, Option, none, some, ltb, leb, eqb, given, byte_at, word_at}
 use Rattle.reading.specs.Reading.{Answer, fine, fault}
 use Rattle.net.specs.Reader.{read_expression}
 use Rattle.plan.specs.internal.Layout.{expression_in, ranks_in, pair_in}

@@ -1,6 +1,6 @@
 -- How many arcs the rows of a transition have at most, whatever the binding.
-use Rattle.std.specs.Prelude.{◌≡◌, ◌≤◌, ◌<◌}
-use Rattle.reading.specs.Basics.{ℕ, ◌+◌, ◌*◌, List, length, some, product}
+use Rattle.std.specs.Prelude.{◌≡◌, ◌≤◌, ◌<◌, ◌+◌, ◌*◌}
+use Rattle.reading.specs.Basics.{ℕ, List, length, some, product}
 use Rattle.firing.specs.Firing.{Weights}
 use Rattle.firing.specs.Arcs.{Row}
 use Rattle.net.specs.Net.{Net, sizes_of, transition_at}

@@ -1,6 +1,6 @@
 -- The marks: for each binding of a transition whose bindings do not all have rows, whether it has an effect.
-use Rattle.std.specs.Prelude.{◌≡◌, ◌≤◌, ◌<◌}
-use Rattle.reading.specs.Basics.{ℕ, ◌+◌, ◌/◌, ◌%◌, Bool, true, false, if◌then◌else◌, List, length, get_or, keep, below, product}
+use Rattle.std.specs.Prelude.{◌≡◌, ◌≤◌, ◌<◌, ◌+◌, ◌/◌, ◌%◌, if◌then◌else◌}
+use Rattle.reading.specs.Basics.{ℕ, Bool, true, false, List, length, get_or, keep, below, product}
 use Rattle.net.specs.Net.{Net, sizes_of, transition_at}
 use Rattle.net.specs.internal.ReaderEnums.{member}
 use Rattle.bindings.specs.internal.Legal.{every_row}

@@ -1,6 +1,6 @@
 -- What the walk over all bindings tells: the rows among the first so many, and their numbers.
-use Rattle.std.specs.Prelude.{◌≡◌, ◌≤◌, ◌<◌}
-use Rattle.reading.specs.Basics.{ℕ, zero, suc, ◌+◌, Bool, true, false, if◌then◌else◌, List, filter_map, option_map, none, some, length, take, get_or, given, product}
+use Rattle.std.specs.Prelude.{◌≡◌, ◌≤◌, ◌<◌, ◌+◌, if◌then◌else◌}
+use Rattle.reading.specs.Basics.{ℕ, zero, suc, Bool, true, false, List, filter_map, option_map, none, some, length, take, get_or, given, product}
 use Rattle.net.specs.Net.{Net, sizes_of, transition_at}
 use Rattle.bindings.specs.Effect.{bindings, effect}
 use Rattle.bindings.specs.Orders.{order_of}

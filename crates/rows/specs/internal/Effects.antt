@@ -1,6 +1,6 @@
 -- The arcs of a binding's effect, place by place, the slots that they need, and a row in the lent lists.
-use Rattle.std.specs.Prelude.{◌≡◌, ◌≤◌}
-use Rattle.reading.specs.Basics.{ℕ, zero, suc, ◌+◌, ◌*◌, ◌/◌, List, [], ◌∷◌, map, flat_map, some, length, leb, if◌then◌else◌, given, below}
+use Rattle.std.specs.Prelude.{◌≡◌, ◌≤◌, ◌+◌, ◌*◌, ◌/◌, ◌∷◌, if◌then◌else◌}
+use Rattle.reading.specs.Basics.{ℕ, zero, suc, List, [], map, flat_map, some, length, leb, given, below}
 use Rattle.firing.specs.Arcs.{Arc, arcs_of}
 use Rattle.firing.specs.internal.RowLists.{arcs_in, row_in}
 use Rattle.firing.specs.Firing.{Weights}

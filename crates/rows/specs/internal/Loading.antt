@@ -1,6 +1,6 @@
 -- What the code that loads an effect promises.
-use Rattle.std.specs.Prelude.{◌≡◌, ◌≤◌, ◌<◌}
-use Rattle.reading.specs.Basics.{ℕ, ◌+◌, ◌*◌, ◌/◌, false, List, [], length, any}
+use Rattle.std.specs.Prelude.{◌≡◌, ◌≤◌, ◌<◌, ◌+◌, ◌*◌, ◌/◌}
+use Rattle.reading.specs.Basics.{ℕ, false, List, [], length, any}
 use Rattle.firing.specs.Firing.{fired, fire}
 use Rattle.firing.specs.Arcs.{Proper, weights}
 use Rattle.firing.specs.internal.RowLists.{arcs_in, row_in}

@@ -1,6 +1,6 @@
 -- What the code tells of the slots that the rows of a net need in the lent lists: so many are enough.
-use Rattle.std.specs.Prelude.{◌≡◌, ◌≤◌, ◌<◌}
-use Rattle.reading.specs.Basics.{ℕ, ◌+◌, ◌*◌, List, map, length}
+use Rattle.std.specs.Prelude.{◌≡◌, ◌≤◌, ◌<◌, ◌+◌, ◌*◌}
+use Rattle.reading.specs.Basics.{ℕ, List, map, length}
 use Rattle.net.specs.Net.{Net, transition_at}
 use Rattle.prepared.specs.internal.Prepared.{Prepared}
 use Rattle.rows.specs.internal.Effects.{kind_slots, row_slots, greatest}

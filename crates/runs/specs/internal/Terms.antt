@@ -1,6 +1,6 @@
 -- A multiset of ranks: terms, a rank with its count each, by rising rank; and one count that every other rank has.
-use Rattle.std.specs.Prelude.{◌≡◌, ◌≤◌, ◌<◌}
-use Rattle.reading.specs.Basics.{ℕ, ◌+◌, ◌-◌, ◌*◌, Bool, false, List, [], ◌∷◌, ◌++◌, map, length, get_or, take, ltb, leb, eqb, if◌then◌else◌}
+use Rattle.std.specs.Prelude.{◌≡◌, ◌≤◌, ◌<◌, ◌+◌, ◌-◌, ◌*◌, ◌∷◌, ◌++◌, if◌then◌else◌}
+use Rattle.reading.specs.Basics.{ℕ, Bool, false, List, [], map, length, get_or, take, ltb, leb, eqb}
 use Rattle.firing.specs.Arcs.{Arc}
 use Rattle.firing.specs.internal.RowLists.{arcs_in}
 use Rattle.runs.specs.declared.Merged.{Merged}

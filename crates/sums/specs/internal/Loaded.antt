@@ -1,6 +1,6 @@
 -- What the code that evaluates arc expressions promises.
-use Rattle.std.specs.Prelude.{◌≡◌, ◌≤◌, ◌<◌}
-use Rattle.reading.specs.Basics.{ℕ, ◌+◌, ◌*◌, ◌/◌, Bool, List, [], ◌∷◌, map, length, ltb, if◌then◌else◌, keep, numbers_from}
+use Rattle.std.specs.Prelude.{◌≡◌, ◌≤◌, ◌<◌, ◌+◌, ◌*◌, ◌/◌, ◌∷◌, if◌then◌else◌}
+use Rattle.reading.specs.Basics.{ℕ, Bool, List, [], map, length, ltb, keep, numbers_from}
 use Rattle.reading.specs.Reading.{Answer, fine, fault}
 use Rattle.firing.specs.Arcs.{Arc}
 use Rattle.firing.specs.internal.RowLists.{arcs_in}

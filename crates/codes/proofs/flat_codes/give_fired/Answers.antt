@@ -1,5 +1,6 @@
+use Rattle.std.specs.Prelude.{◌∷◌}
 use mathlib.Core.Path.{sym, ap, ◌∙◌}
-use Rattle.reading.specs.Basics.{[], ◌∷◌}
+use Rattle.reading.specs.Basics.{[]}
 use Rattle.flat.specs.Replies.{fire_called}
 use Rattle.codes.specs.Codes.{fire_code}
 use Rattle.codes.proofs.flat_codes.give_fired.Goals as goal

@@ -1,5 +1,6 @@
+use Rattle.std.specs.Prelude.{◌∷◌}
 use mathlib.Core.Path.{sym, ap, ◌∙◌}
-use Rattle.reading.specs.Basics.{[], ◌∷◌}
+use Rattle.reading.specs.Basics.{[]}
 use Rattle.search.specs.Replies.{first_reply}
 use Rattle.codes.specs.Codes.{returned, first_order_code}
 use Rattle.codes.proofs.net_codes.give_first_order.Goals as goal

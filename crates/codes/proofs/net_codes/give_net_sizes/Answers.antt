@@ -1,5 +1,6 @@
+use Rattle.std.specs.Prelude.{◌∷◌}
 use mathlib.Core.Path.{sym, ap, ◌∙◌}
-use Rattle.reading.specs.Basics.{[], ◌∷◌}
+use Rattle.reading.specs.Basics.{[]}
 use Rattle.net_reader.specs.Replies.{net_reply}
 use Rattle.codes.specs.Codes.{net_code}
 use Rattle.codes.proofs.net_codes.give_net_sizes.Goals as goal

@@ -1,5 +1,6 @@
+use Rattle.std.specs.Prelude.{◌∷◌}
 use mathlib.Core.Path.{sym, ap, ◌∙◌}
-use Rattle.reading.specs.Basics.{[], ◌∷◌}
+use Rattle.reading.specs.Basics.{[]}
 use Rattle.coloured.specs.Replies.{fire_called}
 use Rattle.codes.specs.Codes.{fire_code}
 use Rattle.codes.proofs.net_codes.give_orders_fired.Goals as goal

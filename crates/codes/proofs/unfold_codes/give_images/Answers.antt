@@ -1,5 +1,6 @@
+use Rattle.std.specs.Prelude.{◌∷◌}
 use mathlib.Core.Path.{sym, ap, ◌∙◌}
-use Rattle.reading.specs.Basics.{[], ◌∷◌}
+use Rattle.reading.specs.Basics.{[]}
 use Rattle.images.specs.Replies.{images_called}
 use Rattle.codes.specs.Codes.{write_code}
 use Rattle.codes.proofs.unfold_codes.give_images.Goals as goal

@@ -1,5 +1,6 @@
+use Rattle.std.specs.Prelude.{◌∷◌}
 use mathlib.Core.Path.{sym, ap, ◌∙◌}
-use Rattle.reading.specs.Basics.{[], ◌∷◌}
+use Rattle.reading.specs.Basics.{[]}
 use Rattle.images.specs.Replies.{order_reply}
 use Rattle.codes.specs.Codes.{returned, row_order_code}
 use Rattle.codes.proofs.unfold_codes.give_row_order.Goals as goal

@@ -1,6 +1,7 @@
+use Rattle.std.specs.Prelude.{◌-◌}
 use mathlib.Core.Path.{◌≡◌}
 use Prim.Native.Nat.{◌≤◌, ◌<◌}
-use Rattle.reading.specs.Basics.{◌-◌, length, items}
+use Rattle.reading.specs.Basics.{length, items}
 use Rattle.firing.proofs.Running.{Running}
 use Rattle.net.specs.Net.{Net, flat_place_count}
 use Rattle.bindings.specs.Orders.{fire_order}

@@ -1,10 +1,10 @@
+use Rattle.std.specs.Prelude.{if◌then◌else◌}
 use Rattle.row_numbers.proofs.Tabled.{effect-told}
 use native.Mathlib.Omega.{arith}
 use native.Mathlib.Nat.{add-zero}
 use mathlib.Core.Path.{sym, ap, ◌∙◌}
 use Prim.Native.Nat.{◌+◌}
 use lib.Dec.{eqb}
-use Rattle.reading.specs.Basics.{if◌then◌else◌}
 use Rattle.row_numbers.specs.internal.Marks.{mark_at}
 use Rattle.row_numbers.proofs.Marking.{with-effect, without_effect}
 use Rattle.row_numbers.proofs.marks.mark_one.Goals as goal

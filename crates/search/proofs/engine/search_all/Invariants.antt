@@ -1,6 +1,7 @@
+use Rattle.std.specs.Prelude.{◌-◌, ◌*◌}
 use mathlib.Core.Path.{◌≡◌}
 use Prim.Native.Nat.{◌≤◌}
-use Rattle.reading.specs.Basics.{◌-◌, ◌*◌, length}
+use Rattle.reading.specs.Basics.{length}
 use Rattle.net.specs.Net.{Net, flat_place_count}
 use Rattle.rows.specs.internal.Effects.{room}
 use Rattle.prepared.specs.internal.Prepared.{Prepared}

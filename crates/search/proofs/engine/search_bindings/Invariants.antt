@@ -1,6 +1,7 @@
+use Rattle.std.specs.Prelude.{◌-◌}
 use mathlib.Core.Path.{◌≡◌}
 use Prim.Native.Nat.{◌≤◌, ◌<◌}
-use Rattle.reading.specs.Basics.{◌-◌, length, eqb, below, product}
+use Rattle.reading.specs.Basics.{length, eqb, below, product}
 use Rattle.firing.proofs.Running.{Searching}
 use Rattle.net.specs.Net.{Net, flat_place_count, sizes_of, transition_at}
 use Rattle.rows.specs.internal.Effects.{room}
