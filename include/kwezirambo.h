@@ -12,9 +12,10 @@
  * anything else that is lent to the same call; lists that are only read may overlap each other. A marking is aligned as uint16_t.
  * No call keeps a pointer, allocates memory or has state of its own, so calls on different buffers may run side by side.
  *
- * Stack, at most, on nets with expressions of 16 levels: kwz_fire_images and kwz_first_row take 315 KiB, kwz_images 282 KiB, kwz_unfold 152 KiB
- * and kwz_fire_orders and kwz_first_order 136 KiB (64 and 56 KiB where a row needs few arcs), kwz_net_sizes and kwz_row_order 24 KiB,
- * kwz_flat_sizes less than 1 KiB. Else it does not grow with the length of the file or the lists; 1 MiB is enough for any call.
+ * Stack, at most, on nets with expressions of 16 levels: kwz_fire_images and kwz_first_row take 315 KiB (11 KiB for a flat file of at most
+ * 2,048 bytes), kwz_images 282 KiB (28 KiB where transitions with a guard have at most 1,024 bindings), kwz_unfold 152 KiB and kwz_fire_orders
+ * and kwz_first_order 136 KiB (64 and 56 KiB where a row needs few arcs), kwz_net_sizes and kwz_row_order 24 KiB, kwz_flat_sizes less than 1 KiB.
+ * Beyond these two sizes it does not grow with the length of the file or the lists; 1 MiB is enough for any call.
  *
  * Refusal numbers. In a file the place is a byte's position; 12, 13 and 14 have place 0.
  *    1  the net file is longer than 16,384 bytes (place 16,384)
