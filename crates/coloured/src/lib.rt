@@ -87,6 +87,7 @@ fn fire_small(
 }
 
 // With lists that have room for every net. Kept apart (once_more).
+#[inline(never)]
 fn fire_large(
     file: &[u8],
     plan: &[u32; 3584],

@@ -193,6 +193,7 @@ fn fire_short(flat: &[u8], marking: &mut [u16], images: &[u8], answers: &mut [u8
 }
 
 // On any file. Kept apart (once_more).
+#[inline(never)]
 fn fire_long(
     flat: &[u8],
     marking: &mut [u16],
@@ -329,6 +330,7 @@ fn first_short(flat: &[u8], marking: &[u16]) -> FirstReply
 }
 
 // On any file. Kept apart (once_more).
+#[inline(never)]
 fn first_long(flat: &[u8], marking: &[u16], again: bool) -> FirstReply
     ensures { first_reply result ≡ first_row flat.now marking.now }
 {

@@ -61,6 +61,7 @@ fn images_short(file: &[u8], plan: &[u32; 3584], orders: &[u8], out: &mut [u8])
 }
 
 // On any net. Kept apart (once_more).
+#[inline(never)]
 fn images_long(file: &[u8], plan: &[u32; 3584], orders: &[u8], out: &mut [u8], again: bool)
     requires { length orders.now / 6 * 5 ≤ length out.old }
     ensures { (n : Net) → Prepared file.now n plan.now

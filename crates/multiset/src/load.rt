@@ -118,6 +118,7 @@ fn load_terms(
 // Appends the arcs of any expression but 0x40: its terms first, behind the room for its arcs.
 // A sum of counts is gone through operand after operand; where something else stands inside, the terms are listed by recursion.
 // Kept apart (once_more) from load_arc: the way of 0x40 stays short.
+#[inline(never)]
 fn load_listed(
     file: &[u8],
     plan: &[u32; 3584],

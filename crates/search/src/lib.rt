@@ -65,6 +65,7 @@ fn first_small(file: &[u8], plan: &[u32; 3584], marking: &[u16]) -> FirstReply
 }
 
 // With lists that have room for every net. Kept apart (once_more).
+#[inline(never)]
 fn first_large(file: &[u8], plan: &[u32; 3584], marking: &[u16], again: bool) -> FirstReply
     ensures { (n : Net) → Prepared file.now n plan.now
         → first_reply result ≡ first_order file.now marking.now }

@@ -71,6 +71,7 @@ fn write_small(file: &[u8], plan: &[u32; 3584], initial: &[u16], out: &mut [u8])
 }
 
 // With lists that have room for every net. Kept apart (once_more).
+#[inline(never)]
 fn write_large(
     file: &[u8],
     plan: &[u32; 3584],
