@@ -10,7 +10,7 @@ use net_calls::{
     first_order_case, images_case, net_sizes_case, order_case, orders_case, unfold_case,
 };
 use std::io;
-use std::io::{BufReader, BufWriter, Read, Write};
+use std::io::{Read, Write};
 use streams::{read_call, say_case};
 
 // Runs one call by its number, and answers whether there is such a call.
@@ -70,12 +70,12 @@ fn one_case<R: Read, W: Write>(from: &mut R, to: &mut W, number: u64) -> io::Res
 }
 
 fn main(rt: HostRuntime) -> io::Result<()> {
-    let mut from = BufReader::new(rt.alloc(), rt.stdin())?;
-    let mut to = BufWriter::new(rt.alloc(), rt.stdout())?;
+    let mut from = rt.stdin();
+    let mut to = rt.stdout();
     for number in 1..u64::MAX {
         if !one_case(&mut from, &mut to, number)? {
             break;
         }
     }
-    to.flush()
+    Ok(())
 }

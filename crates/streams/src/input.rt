@@ -2,7 +2,7 @@
 ghost use Rattle.std.specs.Prelude.{◌≡◌, ◌<◌, length};
 ghost use Rattle.std.specs.Counts.{IsPrefixLen};
 
-use std::io::{ErrorKind, Read};
+use std::io::Read;
 
 // A buffer for a file, or for what a call writes.
 pub fn file_buffer() -> [u8; 131072]
@@ -26,23 +26,15 @@ pub fn marking_buffer() -> [u16; 16384]
 }
 
 // Reads until buf is full, the input ends or a read fails, and answers how many bytes there are at the start of buf.
-// A read that a signal interrupts is made again.
 fn read_full<R: Read>(from: &mut R, buf: &mut [u8]) -> usize
     ensures { IsPrefixLen result buf.new }
 {
     let mut done = 0;
-    for _ in 0..u64::MAX {
-        if done >= buf.len() {
-            break;
-        }
+    while done < buf.len() {
         match from.read(&mut buf[done..]) {
             Ok(0) => break,
             Ok(more) => done += more,
-            Err(e) => {
-                if e.kind() != ErrorKind::Interrupted {
-                    break;
-                }
-            }
+            Err(_) => break,
         }
     }
     done

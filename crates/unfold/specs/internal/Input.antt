@@ -1,4 +1,4 @@
--- What reading standard input may give. No contract can say which bytes come.
+-- What reading an input may give. Of standard input no bytes are known, so of those no contract says which come.
 use Rattle.std.specs.Prelude.{◌≤◌, ◌<◌, take, Option}
 use Rattle.std.specs.Io.KnownBytes.{Consumes, IsAtEnd}
 use Rattle.reading.specs.Basics.{ℕ, List, length}

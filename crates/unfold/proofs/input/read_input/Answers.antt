@@ -2,11 +2,10 @@
 use Rattle.std.proofs.Common.{◌≡◌, ℕ, ◌+◌, ◌-◌, ◌≤◌, List, ◌++◌, arith, length, take, slice_range, sym, ap, ◌∙◌, subst, le_refl, drop_at, length-take-le}
 use Rattle.std.proofs.lemmas.Slice.{take-put_mid_below}
 use Rattle.std.specs.Io.KnownBytes.{Consumes}
-use Rattle.std.proofs.KnownBytes.{Consumes-trans, Consumes-kept}
+use Rattle.std.proofs.KnownBytes.{Consumes-trans}
 use borrow.Rule.Slice.PartMut.{put_mid, post_of}
 use lib.Seq.{take-add, take-append-le}
 use Rattle.unfold.proofs.input.read_input.Goals as goal
-use Rattle.unfold.proofs.input.read_input.Goals.{in-Ok, in-Err+else-ne}
 
 front : (a k : ℕ) (xs ys : List ℕ) → a ≤ length xs → take a (put_mid a k xs ys) ≡ take a xs
 front a k xs ys within = take-put_mid_below _ _ _ _ _ (le_refl _) within
@@ -23,9 +22,5 @@ joined a k n xs ys within fits =
     let all = put_mid a k xs ys in
     ap (λ l. take a xs ++ l) (sym (part a k n xs ys within fits)) ∙ ap (λ l. l ++ slice_range all a (a + n)) (sym (front a k xs ys within)) ∙ sym (take-add a ((a + n) - a) all) ∙ ap (λ m. take m all) same
 
-pub loop-preserved : goal.loop-preserved
-loop-preserved g c =
-    elim c.match-read.branch [
-      | in-Ok w ↦ (grind arith, rw w.done-is (subst (Consumes _ _) (joined _ _ _ _ _ c.loop.invariant.0 w.in-Ok.ensures.bound.0) (Consumes-trans _ _ _ _ _ c.loop.invariant.1 w.in-Ok.ensures.bytes.0)))
-      | in-Err+else-ne w ↦ (grind arith, rw w.done-is (subst (Consumes _ _) (sym (front _ _ _ _ c.loop.invariant.0)) (Consumes-kept _ _ _ _ c.loop.invariant.1 w.in-Err.ensures.bytes)))
-    ]
+pub loop-done-preserved : goal.loop-done-preserved
+loop-done-preserved g c = (grind arith, subst (Consumes _ _) (joined _ _ _ _ _ c.loop-done.invariant.0 c.in-Ok.ensures.bound.0) (Consumes-trans _ _ _ _ _ c.loop-done.invariant.1 c.in-Ok.ensures.bytes.0))
