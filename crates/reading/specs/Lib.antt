@@ -1,3 +1,4 @@
 -- The meaning.
 pub mod Basics
 pub mod Reading
+pub mod Refusals

@@ -2,8 +2,28 @@
 // Past the end a byte reads as 0, so none of these asks anything. Besides, what keeps a function apart from its caller.
 #![tactic(auto)]
 
-ghost use Rattle.std.specs.Prelude.{◌≡◌, true, ◌<◌, ◌+◌};
+mod refusal;
+
+ghost use Rattle.std.specs.Prelude.{◌≡◌, true, ◌<◌, ◌+◌, get_or, set};
 ghost use Rattle.reading.specs.Basics.{byte_at, word_at, long_at};
+
+pub use refusal::{Reason, Refusal, refused};
+
+// An element of a list, or another value past its end.
+pub fn element<T: Copy>(l: &[T], i: usize, other: T) -> T
+    ensures { result ≡ get_or l.now i other }
+{
+    l.get(i).copied().unwrap_or(other)
+}
+
+// Stores an element; past the end it stores nothing.
+pub fn store<T: Copy>(l: &mut [T], i: usize, value: T)
+    ensures { l.new ≡ set l.old i value }
+{
+    if i < l.len() {
+        l[i] = value;
+    }
+}
 
 // The u8 at a place.
 pub fn byte_at(file: &[u8], at: usize) -> usize
