@@ -29,10 +29,7 @@ pub fn store<T: Copy>(l: &mut [T], i: usize, value: T)
 pub fn byte_at(file: &[u8], at: usize) -> usize
     ensures { (result ≡ byte_at file.now at) × (result < 256) }
 {
-    if file.len() <= at {
-        return 0;
-    }
-    file[at] as usize
+    usize::from(element(file, at, 0))
 }
 
 // The u16 at a place.
@@ -62,5 +59,5 @@ pub fn long_at(file: &[u8], at: usize) -> usize
 pub fn once_more(file: &[u8], again: bool) -> bool
     ensures { result ≡ true → again ≡ true }
 {
-    if again { file.len() < 1 } else { false }
+    again && file.is_empty()
 }
