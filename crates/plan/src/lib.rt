@@ -3,29 +3,17 @@
 
 mod place;
 
-ghost use Rattle.std.specs.Prelude.{◌≡◌, ◌≤◌, ◌<◌, ◌+◌, ◌*◌, ◌/◌, ◌%◌, get_or};
-ghost use Rattle.plan.specs.internal.Layout.{transitions_in, flat_places_in, sets_in, variables_in, own_in, guards_in, packed_in, expression_in, start_in, ranks_in, pair_in};
+ghost use Rattle.std.specs.Prelude.{◌≡◌, ◌≤◌, ◌<◌, ◌+◌, ◌*◌, ◌/◌, ◌%◌, map, get_or, take, drop, MatchOption};
+ghost use Rattle.plan.specs.internal.Layout.{low, transitions_in, flat_places_in, sets_in, variables_in, own_in, guards_in, packed_in, expression_in, start_in, ranks_in, pair_in};
 
-pub use place::{place_bits, place_bytes, place_words};
-
-// An entry as a number that others are made of.
-fn wide(entry: u32) -> u64
-    ensures is { result ≡ entry }
-    ensures small { result < 4294967296 }
-{
-    entry as u64
-}
+pub use place::place_list;
 
 // How many transitions there are.
 pub fn transitions_of(plan: &[u32; 3584]) -> usize
     ensures is { result ≡ transitions_in plan.now }
     ensures small { result ≤ 32 }
 {
-    let count = wide(plan[4]);
-    if count <= 32 {
-        return count as usize;
-    }
-    32
+    (plan[4] as usize).min(32)
 }
 
 // How many flat places there are.
@@ -33,61 +21,67 @@ pub fn flat_places_of(plan: &[u32; 3584]) -> usize
     ensures is { result ≡ flat_places_in plan.now }
     ensures small { result ≤ 4096 }
 {
-    let count = wide(plan[3]);
-    if count <= 4096 {
-        return count as usize;
+    (plan[3] as usize).min(4096)
+}
+
+// The low byte of an entry of so many from a place on, 0 past the last.
+fn low_in(plan: &[u32; 3584], from: usize, count: u32, i: u8) -> u8
+    requires { from ≤ 24 }
+    ensures { result ≡ get_or (map low (take count (drop from plan.now))) i 0 }
+{
+    if u32::from(i) < count {
+        (plan[from + i as usize] % 256) as u8
+    } else {
+        0
     }
-    4096
 }
 
 // The size of a set, 0 past the last.
+#[tactic(auto, unfolding(crate::specs::internal::Layout::sets_in))]
 pub fn size_in(plan: &[u32; 3584], set: u8) -> u8
     ensures { result ≡ get_or (sets_in plan.now) set 0 }
 {
-    let i = set as usize;
-    if (i as u64) < wide(plan[0]) {
-        return (plan[8 + i] % 256) as u8;
-    }
-    0
+    low_in(plan, 8, plan[0], set)
 }
 
 // The set of a variable, 0 past the last.
+#[tactic(auto, unfolding(crate::specs::internal::Layout::variables_in))]
 pub fn set_in(plan: &[u32; 3584], v: u8) -> u8
     ensures { result ≡ get_or (variables_in plan.now) v 0 }
 {
-    let i = v as usize;
-    if (i as u64) < wide(plan[1]) {
-        return (plan[24 + i] % 256) as u8;
-    }
-    0
+    low_in(plan, 24, plan[1], v)
 }
 
-// Where a transition's guard stands in the file, 0 where it has none.
-pub fn guard_of(plan: &[u32; 3584], t: usize) -> usize
+// Where a transition's guard stands in the file, if it has one.
+#[tactic(auto, using(crate::proofs::Sections::guard_at))]
+pub fn guard_of(plan: &[u32; 3584], t: usize) -> Option<usize>
     requires { t < 32 }
-    ensures { result ≡ get_or (guards_in plan.now) t 0 }
+    ensures { MatchOption result (get_or (guards_in plan.now) t 0 ≡ 0) (λ place. (0 < place) × (place ≡ get_or (guards_in plan.now) t 0)) }
 {
-    wide(plan[120 + t]) as usize
+    let place = plan[120 + t];
+    (0 < place).then_some(place as usize)
 }
 
 // Slot k of a transition's own variables.
+#[tactic(auto, using(crate::proofs::Sections::own_at))]
 pub fn own_of(plan: &[u32; 3584], t: usize, k: usize) -> u64
     requires { (t < 32) × (k < 4) }
     ensures { result ≡ get_or (own_in plan.now) (t * 4 + k) 0 }
 {
-    wide(plan[152 + (t * 4 + k)])
+    u64::from(plan[152 + (t * 4 + k)])
 }
 
 // An entry of the packed arcs, with what its place is like.
+#[tactic(auto, using(crate::proofs::Sections::arc_none, crate::proofs::Sections::arc_told))]
 pub fn arc_of(plan: &[u32; 3584], i: usize) -> u64
     requires { i < 3072 }
     ensures { result ≡ get_or (packed_in plan.now) i 0 }
 {
-    let arc = wide(plan[512 + i]);
+    let arc = plan[512 + i];
     if arc < 1 {
         return 0;
     }
-    arc / 32 * 134217728 + wide(plan[56 + (arc % 32) as usize])
+    u64::from(arc / 32) * 134217728 + u64::from(plan[56 + (arc % 32) as usize])
 }
 
 // ---- an entry of the packed arcs

@@ -60,7 +60,12 @@ pub record OthersKept (from many : ℕ) (before after : List ℕ) : Type 0 where
   pub front : (i : ℕ) → i < from → get_or after i 0 ≡ get_or before i 0
   pub back : (i : ℕ) → from + many ≤ i → get_or after i 0 ≡ get_or before i 0
 
--- the entries of a list, from a place on
+-- what the entries of a list become, from a place on
+pub record PlacedBy {A : Type 0} (becomes : A → ℕ → Type 0) (from : ℕ) (values : List A) (before after : List ℕ) : Type 0 where
+  pub values_become : (i : ℕ) (other : A) → i < length values → becomes (get_or values i other) (get_or after (from + i) 0)
+  pub others_kept : OthersKept from (length values) before after
+
+-- the entries of a list of numbers, from a place on
 pub record Placed (from : ℕ) (values before after : List ℕ) : Type 0 where
   pub values_are : (i : ℕ) → i < length values → get_or after (from + i) 0 ≡ get_or values i 0
   pub kept : OthersKept from (length values) before after
