@@ -4,9 +4,10 @@ use mathlib.Core.Path.{◌≡◌, refl, sym, ap, ap₂, ◌∙◌}
 use Prim.Native.Nat.{◌≤◌, ◌<◌, ◌-◌}
 use native.Mathlib.Omega.{arith}
 use native.Mathlib.Numerals.{add-one}
-use native.Mathlib.Nat.{div-one, div-div-eq-div-mul, mul_comm}
-use lib.ListN.{drop_of_length-le}
+use native.Mathlib.Nat.{div-one, mod-one, div-div-eq-div-mul, mul_comm}
+use lib.ListN.{set, drop_of_length-le}
 use lib.Seq.{drop-cons}
+use Rattle.std.proofs.lemmas.List.{drop-set}
 use Rattle.reading.specs.Basics.{ℕ, zero, suc, List, [], length, get_or, take, drop, product}
 use Rattle.net.specs.Net.{Net}
 use Rattle.net_file.specs.Limits.{Limits}
@@ -14,7 +15,7 @@ use Rattle.prepared.specs.internal.TransitionVariables.{Owned, slot_size}
 use Rattle.bindings.specs.Orders.{order_of}
 use Rattle.bindings.specs.internal.Numbers.{digits}
 use Rattle.bindings.specs.internal.Bindings.{binding}
-use Rattle.bindings.specs.declared.order.Parted.{Parted}
+use Rattle.bindings.specs.internal.SlotSteps.{colours_at}
 use Rattle.bindings.proofs.Owning.{their_sizes, sizes_are, few_theirs, by_slot}
 
 -- ---- over a list of sizes
@@ -66,16 +67,21 @@ module _ (n : Net) (t i : ℕ) {own : List ℕ} (owned : Owned n own) (l : Limit
       record { rest = rw none (sym (div-one i)); are = refl }
 
   -- one slot more
-  pub gather_goes : {k slot left : ℕ} {colours : List ℕ} {r : Parted} → k < 4 → slot ≡ get_or own (t * 4 + k) 0 → (slot < 1 → r ≡ record { colour = 0; left = left })
-      → (1 ≤ slot → 1 ≤ slot_size slot → r ≡ record { colour = left % slot_size slot; left = left / slot_size slot })
-      → Gathering (their_sizes n t) i (k + 1) colours left → Gathering (their_sizes n t) i k (r.colour ∷ colours) r.left
-  gather_goes {k} {slot} {left} {colours} inside is unused used here = by_slot owned l lt inside is
-      (λ free past. rw (unused free) (gather_none inside here (omega (arith, sizes_are n t))))
+  pub gather_goes : {k slot left size : ℕ} (colours : List ℕ) → k < 4 → length colours ≡ 4 → slot ≡ get_or own (t * 4 + k) 0 → size ≡ colours_at slot
+      → Gathering (their_sizes n t) i (k + 1) (drop (k + 1) colours) left → Gathering (their_sizes n t) i k (drop k (set colours k (left % size))) (left / size)
+  gather_goes {k} {slot} {left} {size} colours inside four is all here = rw (drop-set colours k (left % size) (omega arith)) (by_slot owned l lt inside is
+      (λ free past.
+      let one : size ≡ 1 = omega arith in
+      rw (one, mod-one left, div-one left) (gather_none inside here (omega (arith, sizes_are n t))))
       (λ held.
+      let its : size ≡ slot_size slot = omega (arith, held.sized) in
       let whole : drop k (their_sizes n t) ≡ slot_size slot ∷ drop (k + 1) (their_sizes n t) =
       drop-cons (their_sizes n t) k 0 (omega (arith, held.inside, sizes_are n t)) ∙ ap₂ (λ x j. x ∷ drop j (their_sizes n t)) (sym held.size) (sym (add-one k)) in
-      rw (used held.some held.sized) (gather_one inside here (slot_size slot) whole))
+      rw its (gather_one inside here (slot_size slot) whole)))
 
   -- all four: the colours of the order
-  pub gather_ends : {a b c d left : ℕ} → Gathering (their_sizes n t) i 0 (a ∷ b ∷ c ∷ d ∷ []) left → 0x60 ∷ t ∷ a ∷ b ∷ c ∷ d ∷ [] ≡ order_of (binding t (digits (their_sizes n t) i))
-  gather_ends here = ap (λ l. 0x60 ∷ t ∷ l) (sym here.are)
+  pub gather_ends : {k left : ℕ} (colours : List ℕ) → k ≤ 0 → Gathering (their_sizes n t) i k (drop k colours) left → 0x60 ∷ t ∷ colours ≡ order_of (binding t (digits (their_sizes n t) i))
+  gather_ends {k} {left} colours none here =
+      let e : k ≡ 0 = omega arith in
+      let first : Gathering (their_sizes n t) i 0 colours left = rw e at here in
+      ap (λ l. 0x60 ∷ t ∷ l) (sym first.are)

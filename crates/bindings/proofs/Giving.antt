@@ -17,7 +17,7 @@ use Rattle.net_file.specs.Formed.{Formed}
 use Rattle.bindings.specs.Orders.{fits}
 use Rattle.bindings.specs.internal.Bindings.{Binds, binding, numbered}
 use Rattle.bindings.specs.internal.Numbers.{digits, number}
-use Rattle.bindings.specs.internal.SlotSteps.{Given}
+use Rattle.bindings.specs.internal.SlotSteps.{colours_at, Given}
 use Rattle.prepared.specs.internal.TransitionVariables.{Owned, slot_size}
 use Rattle.bindings.proofs.Digits.{number-below, digits_number, number_front}
 use Rattle.bindings.proofs.NamedOrders.{fits_padded}
@@ -121,10 +121,10 @@ module _ (n : Net) (t : ℕ) (orders : List ℕ) (at : ℕ) (whole : at + 4 ≤ 
     there_is : k < length named
     there_is = omega (arith, four)
 
-    pub give_goes : {size : ℕ} → (slot < 1 → size ≡ 1) → (1 ≤ slot → size ≡ slot_size slot) → r ≡ true → Giving (theirs n t) (their_sizes n t) named after (index * size + colour) (k + 1)
-    give_goes one sized e = by_slot owned l lt inside is
-        (λ free le. unused_goes given here colour_is there_is free (omega (arith, sizes_are n t)) le (one free) e)
-        (λ held. used_goes given here colour_is there_is (theirs_apart n t) (sizes_are n t) held (sized held.some) e)
+    pub give_goes : {size : ℕ} → size ≡ colours_at slot → r ≡ true → Giving (theirs n t) (their_sizes n t) named after (index * size + colour) (k + 1)
+    give_goes sized e = by_slot owned l lt inside is
+        (λ free le. unused_goes given here colour_is there_is free (omega (arith, sizes_are n t)) le (omega arith) e)
+        (λ held. used_goes given here colour_is there_is (theirs_apart n t) (sizes_are n t) held (omega (arith, held.sized)) e)
 
     pub give_fails : r ≡ false → fits (their_sizes n t) named ≡ false
     give_fails e = by_slot owned l lt inside is

@@ -1,5 +1,5 @@
 -- The binding that the order number i of a list names: by its command, its transition and its colours. Assumes nothing.
-use Rattle.std.specs.Prelude.{◌+◌, ◌*◌}
+use Rattle.std.specs.Prelude.{◌+◌, ◌*◌, Option, Some, None}
 use mathlib.Core.Path.{◌≡◌, sym, ap, subst, ◌∙◌}
 use Prim.Native.Nat.{◌≤◌, ◌<◌}
 use native.Mathlib.Omega.{arith}
@@ -8,14 +8,12 @@ use Rattle.reading.specs.Basics.{ℕ, Bool, true, false, List, none, some, lengt
 use Rattle.net.specs.Net.{Net}
 use Rattle.plan.specs.internal.Layout.{transitions_in, own_in}
 use Rattle.prepared.specs.internal.Prepared.{Prepared}
-use Rattle.prepared.specs.internal.TransitionVariables.{slot_size}
 use Rattle.prepared.proofs.Known.{its_limits, its_form}
 use Rattle.bindings.specs.Orders.{fits, named}
 use Rattle.bindings.specs.internal.Bindings.{binding}
 use Rattle.bindings.specs.internal.Naming.{Names, NamedTold, NamedRoom}
-use Rattle.bindings.specs.declared.binding.Named.{Named}
-use Rattle.bindings.specs.declared.binding.Named.TheVariants as name
-use Rattle.bindings.specs.internal.SlotSteps.{Given}
+use Rattle.bindings.specs.declared.binding.Numbered.{Numbered}
+use Rattle.bindings.specs.internal.SlotSteps.{colours_at, Given}
 use Rattle.bindings.proofs.Owning.{theirs, their_sizes}
 use Rattle.bindings.proofs.Ordering.{named_other, named_past, named_unfit, named_fit, order_colours, order_byte}
 use Rattle.bindings.proofs.Giving.{Giving, give_begins, give_goes, give_fails, give_fits, give_number, give_binds}
@@ -61,8 +59,8 @@ module _ {s plan : List ℕ} {n : Net} (ready : Prepared s n plan) (orders : Lis
     -- one slot more: its colour is one of its set, or not
     module _ {env after : List ℕ} {index k slot colour : ℕ} {r : Bool} (few : k < 4) (is : slot ≡ get_or (own_in plan) (t * 4 + k) 0) (byte : colour ≡ get_or orders (i * 6 + 2 + k) 0)
         (given : Given slot colour env after r) (here : GivenTo n orders i t env index k) where
-      pub name_goes : {size : ℕ} → (slot < 1 → size ≡ 1) → (1 ≤ slot → size ≡ slot_size slot) → r ≡ true → GivenTo n orders i t after (index * size + colour) (k + 1)
-      name_goes one sized e = give_goes n t orders (i * 6 + 2) four ready.owned (its_limits ready) inside few is byte given here one sized e
+      pub name_goes : {size : ℕ} → size ≡ colours_at slot → r ≡ true → GivenTo n orders i t after (index * size + colour) (k + 1)
+      name_goes sized e = give_goes n t orders (i * 6 + 2) four ready.owned (its_limits ready) inside few is byte given here sized e
 
       pub name_fails : r ≡ false → named n order ≡ none
       name_fails e = named_unfit n order (opening ∙ opens) below_it (fit_is (give_fails n t orders (i * 6 + 2) four ready.owned (its_limits ready) inside few is byte given here e))
@@ -85,12 +83,12 @@ module _ {s plan : List ℕ} {n : Net} (ready : Prepared s n plan) (orders : Lis
         }
 
 -- ---- what was told
-module _ (n : Net) (order env : List ℕ) {r : Named} where
-  pub told_nothing : r ≡ name.Nothing → NamedTold n order env r → named n order ≡ none
+module _ (n : Net) (order env : List ℕ) {r : Option Numbered} where
+  pub told_nothing : r ≡ None → NamedTold n order env r → named n order ≡ none
   told_nothing e told = subst (NamedTold n order env) e told
 
-  pub told_of : {t index : ℕ} → r ≡ name.Of t index → NamedTold n order env r → Names n order t index env
+  pub told_of : {b : Numbered} → r ≡ Some b → NamedTold n order env r → Names n order b.t b.index env
   told_of e told = subst (NamedTold n order env) e told
 
-pub told-room : {r : Named} {t index : ℕ} → r ≡ name.Of t index → NamedRoom r → t < 32
+pub told-room : {r : Option Numbered} {b : Numbered} → r ≡ Some b → NamedRoom r → b.t < 32
 told-room e room = subst NamedRoom e room

@@ -18,6 +18,7 @@ use Rattle.bindings.specs.Effect.{stands_for}
 use Rattle.bindings.specs.internal.Numbers.{digits}
 use Rattle.bindings.specs.internal.Bindings.{Binds, binding, numbered}
 use Rattle.prepared.specs.internal.TransitionVariables.{own_of, Owned, slot_variable, slot_size}
+use Rattle.bindings.specs.internal.SlotSteps.{colours_at}
 use Rattle.bindings.proofs.Digits.{product-with}
 use Rattle.prepared.proofs.Used.{used_below}
 use Rattle.reading.proofs.Clash.{clash}
@@ -184,17 +185,19 @@ pub fits_space : {space : ℕ} (k : ℕ) → space ≤ 255 ^ k → k ≤ 4 → s
 fits_space k le few = le_trans le (pow-le-pow_right {n = 255} (omega arith) few)
 
 module _ {n : Net} {own : List ℕ} (owned : Owned n own) (l : Limits n) {t : ℕ} (lt : t < length n.transitions) where
-  pub space_goes : {space r : ℕ} (k slot : ℕ) → k < 4 → slot ≡ get_or own (t * 4 + k) 0 → (slot < 1 → r ≡ 1) → (1 ≤ slot → r ≡ slot_size slot)
+  pub space_goes : {space r : ℕ} (k slot : ℕ) → k < 4 → slot ≡ get_or own (t * 4 + k) 0 → r ≡ colours_at slot
       → space ≡ product (take k (their_sizes n t)) → space * r ≡ product (take (k + 1) (their_sizes n t))
-  space_goes {space} {r} k slot less is unused used so =
+  space_goes {space} {r} k slot less is all so =
       by_slot owned l lt less is
       (λ free le.
       let past : length (their_sizes n t) ≤ k = omega (arith, sizes_are n t) in
       let more : length (their_sizes n t) ≤ k + 1 = omega arith in
-      rw (unused free) (mul-one space ∙ so ∙ ap product (take_all k (their_sizes n t) past ∙ sym (take_all (k + 1) (their_sizes n t) more))))
+      let one : r ≡ 1 = omega arith in
+      rw one (mul-one space ∙ so ∙ ap product (take_all k (their_sizes n t) past ∙ sym (take_all (k + 1) (their_sizes n t) more))))
       (λ held.
       let inside : k < length (their_sizes n t) = omega (arith, held.inside, sizes_are n t) in
-      rw (used held.some, held.size, so, add-one k)
+      let held_all : r ≡ slot_size slot = omega (arith, held.sized) in
+      rw (held_all, held.size, so, add-one k)
       (sym (ap product (take-suc (their_sizes n t) k 0 inside) ∙ product-with (take k (their_sizes n t)) (get_or (their_sizes n t) k 0))))
 
   pub space_ends : {space : ℕ} (k : ℕ) → 4 ≤ k → space ≡ product (take k (their_sizes n t)) → space ≡ product (their_sizes n t)

@@ -1,7 +1,11 @@
 -- What happens to the colour of one slot's variable.
-use Rattle.std.specs.Prelude.{◌≡◌, ◌≤◌, ◌<◌, set, ◌+◌, ◌/◌, ◌%◌}
+use Rattle.std.specs.Prelude.{◌≡◌, ◌≤◌, ◌<◌, max, set, ◌+◌, ◌/◌, ◌%◌}
 use Rattle.reading.specs.Basics.{ℕ, Bool, true, false, List, length, get_or, ltb}
 use Rattle.prepared.specs.internal.TransitionVariables.{slot_variable, slot_size}
+
+-- how many colours a slot's variable has; 1 where the slot is not used
+abbrev pub colours_at : ℕ → ℕ
+colours_at slot = max (slot_size slot) 1
 
 -- a slot's variable was given its next colour, or its first after the last: then the one before it goes on too
 pub record Turned (slot : ℕ) (env after : List ℕ) (r : Bool) : Type 0 where

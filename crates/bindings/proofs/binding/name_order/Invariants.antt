@@ -6,7 +6,4 @@ use Rattle.bindings.proofs.Naming.{GivenTo}
 use Rattle.bindings.proofs.binding.name_order.Given as goal
 
 abbrev pub invariant-loop-k : goal.invariant-loop-k
-invariant-loop-k l = (l.k ≤ 4) × (l.index < 256 ^ l.k) × ((s : List ℕ) (n : Net) → Prepared s n l.plan → GivenTo n l.orders l.i l.t l.env l.index l.k)
-
-abbrev pub decreases-loop-k : goal.decreases-loop-k
-decreases-loop-k l = 4 - l.k
+invariant-loop-k l = (l.index < 256 ^ l.k) × ((s : List ℕ) (n : Net) → Prepared s n l.plan → GivenTo n l.orders l.i l.t l.env l.index l.k)

@@ -11,7 +11,4 @@ use Rattle.bindings.proofs.Walking.{Walking}
 use Rattle.bindings.proofs.own.skip_bindings.Given as goal
 
 abbrev pub invariant-loop-k : goal.invariant-loop-k
-invariant-loop-k l = (l.k ≤ 4) × ((n : Net) (i : ℕ) → Owned n (own_in l.plan) → Limits n → l.t < length n.transitions → i + l.many < product (their_sizes n l.t) → Binds n (numbered n l.t i) l.initial.env → Walking (theirs n l.t) (their_sizes n l.t) l.env (i + l.many) l.rest l.k)
-
-abbrev pub decreases-loop-k : goal.decreases-loop-k
-decreases-loop-k l = l.k
+invariant-loop-k l = (n : Net) (i : ℕ) → Owned n (own_in l.plan) → Limits n → l.t < length n.transitions → i + l.many < product (their_sizes n l.t) → Binds n (numbered n l.t i) l.initial.env → Walking (theirs n l.t) (their_sizes n l.t) l.env (i + l.many) l.rest l.k

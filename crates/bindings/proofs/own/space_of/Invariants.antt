@@ -10,7 +10,4 @@ use Rattle.bindings.proofs.Owning.{their_sizes}
 use Rattle.bindings.proofs.own.space_of.Given as goal
 
 abbrev pub invariant-loop-k : goal.invariant-loop-k
-invariant-loop-k l = (l.k ≤ 4) × (l.space ≤ 255 ^ l.k) × ((n : Net) → Owned n (own_in l.plan) → Limits n → l.t < length n.transitions → l.space ≡ product (take l.k (their_sizes n l.t)))
-
-abbrev pub decreases-loop-k : goal.decreases-loop-k
-decreases-loop-k l = 4 - l.k
+invariant-loop-k l = (l.space ≤ 255 ^ l.k) × ((n : Net) → Owned n (own_in l.plan) → Limits n → l.t < length n.transitions → l.space ≡ product (take l.k (their_sizes n l.t)))
