@@ -5,13 +5,10 @@ use mathlib.Core.Logic.{⊎_elim}
 use Prim.Native.Nat.{◌≤◌, ◌<◌}
 use native.Mathlib.Omega.{arith}
 use native.Mathlib.Nat.{eq-or-lt_of_le}
-use Rattle.reading.specs.Basics.{ℕ, zero, suc, Bool, true, false, List, [], none, some, get_or, find, any, numbers_from, below}
+use Rattle.reading.specs.Basics.{ℕ, zero, suc, Bool, true, false, List, [], none, some, find, any, numbers_from, below}
 use Rattle.firing.specs.Arcs.{Arc, Rising, more}
-use Rattle.firing.specs.internal.RowLists.{arcs_in}
-use Rattle.firing.specs.internal.Steps.{arc_at, first_in}
-use Rattle.firing.proofs.Rows.{In, here, there, in_from, in_inside, weight_in_lem, arcs_more}
+use Rattle.firing.proofs.Rows.{In, here, there, in_from, in_inside, weight_in_lem}
 use Rattle.firing.proofs.Rule.{Shown, by_arcs}
-use Rattle.firing.proofs.Passes.{first_fails}
 
 -- ---- the first of some numbers
 -- none where a test holds of none
@@ -57,52 +54,28 @@ found_in t {a} (x ∷ l) e = go (t x) refl e (found_in t l)
     go true k q later = let z : x ≡ a = cc in rw (← z) (here, k)
     go false k q later = let r = later q in (there r.0, r.1)
 
--- the arc whose number a search tells
-module _ (places weights : List ℕ) (b : ℕ) (t : Arc → Bool) where
-  found_from : (k i : ℕ) → b - i ≡ k → i + first_in t (arcs_in places weights i b) < b
-      → find t (arcs_in places weights i b) ≡ some (arc_at places weights (i + first_in t (arcs_in places weights i b)))
-  unfolding find first_in
-  found_from zero i e h = absurd (omega arith)
-  found_from (suc k) i e h = rw more' (go (t (arc_at places weights i)) (rw more' at h) (found_from k (i + 1) (omega arith)))
+-- ---- a test of places that shows at arcs
+module _ {n : ℕ} {q : ℕ → Bool} {t : Arc → Bool} {arcs : List Arc} (shown : Shown n q t arcs) where
+  -- the first arc of which the test holds stands at the lowest place of which it holds
+  pub lowest_place : {a : Arc} → find t arcs ≡ some a → find q (below n) ≡ some a.place
+  lowest_place {a} found = find_lowest q 0 n a.place (omega arith) (omega (arith, inside)) (shown.same a is_in.0 ∙ is_in.1) lower
     where
-      more' : arcs_in places weights i b ≡ arc_at places weights i ∷ arcs_in places weights (i + 1) b
-      more' = arcs_more places weights b i (omega arith)
+      is_in : In a arcs × (t a ≡ true)
+      is_in = found_in t arcs found
 
-      rest : List Arc
-      rest = arcs_in places weights (i + 1) b
-
-      go : (s : Bool) → i + (if s then 0 else first_in t rest + 1) < b
-          → (i + 1 + first_in t rest < b → find t rest ≡ some (arc_at places weights (i + 1 + first_in t rest)))
-          → (if s then some (arc_at places weights i) else find t rest) ≡ some (arc_at places weights (i + (if s then 0 else first_in t rest + 1)))
-      go true l later = let z : i ≡ i + 0 = omega arith in ap (λ j. some (arc_at places weights j)) z
-      go false l later = later (omega arith) ∙ (let z : i + 1 + first_in t rest ≡ i + (first_in t rest + 1) = omega arith in ap (λ j. some (arc_at places weights j)) z)
-
--- ---- a test of places that shows at arcs in lent lists
-module _ (places weights : List ℕ) (b i : ℕ) {n : ℕ} (q : ℕ → Bool) (t : Arc → Bool) (shown : Shown n q t (arcs_in places weights i b)) {r : ℕ}
-    (told : r ≡ i + first_in t (arcs_in places weights i b)) where
-  -- a search that stopped at an arc tells the lowest place
-  pub lowest_place : r < b → find q (below n) ≡ some (get_or places r 0)
-  lowest_place h = find_lowest q 0 n (get_or places r 0) (omega arith) (omega (arith, inside)) (shown.same (arc_at places weights r) is_in.0 ∙ is_in.1) lower
-    where
-      found : find t (arcs_in places weights i b) ≡ some (arc_at places weights r)
-      found = rw told (found_from places weights b t (b - i) i refl (omega arith))
-
-      is_in : In (arc_at places weights r) (arcs_in places weights i b) × (t (arc_at places weights r) ≡ true)
-      is_in = found_in t (arcs_in places weights i b) found
-
-      inside : get_or places r 0 < n
+      inside : a.place < n
       inside = in_inside is_in.0 shown.rising
 
-      lower : (p : ℕ) → p < get_or places r 0 → q p ≡ false
+      lower : (p : ℕ) → p < a.place → q p ≡ false
       lower p l = go (q p) refl
         where
           go : (s : Bool) → q p ≡ s → q p ≡ false
           go true e =
-              let y = weight_in_lem (arcs_in places weights i b) p (shown.only p (omega (arith, inside)) e) in
+              let y = weight_in_lem arcs p (shown.only p (omega (arith, inside)) e) in
               let least = first_lowest t y.1 shown.rising found (sym (shown.same y.0 y.1) ∙ ap q y.2 ∙ e) in
               absurd (omega (arith, least, y.2))
           go false e = e
 
-  -- one that came to the end, that there is none
-  pub no_place : b ≤ r → find q (below n) ≡ none
-  no_place h = find_none q (below n) (by_arcs shown ∙ first_fails places weights b i t told h)
+  -- there is none where it holds of no arc
+  pub no_place : any t arcs ≡ false → find q (below n) ≡ none
+  no_place e = find_none q (below n) (by_arcs shown ∙ e)

@@ -1,15 +1,16 @@
--- Laws of rising arcs, and of arcs in lent lists. Assumes nothing.
-use Rattle.std.specs.Prelude.{◌+◌, ◌-◌, ◌<◌, ◌∷◌}
-use mathlib.Core.Path.{◌≡◌, refl, sym, ◌∙◌}
+-- Laws of rising arcs, and of arcs in a lent list. Assumes nothing.
+use Rattle.std.specs.Prelude.{◌+◌, ◌-◌, ◌<◌, ◌∷◌, ◌++◌, set}
+use Rattle.std.proofs.lemmas.List.{drop-drop, drop-take, take_all, take-set-le}
+use Rattle.std.proofs.Math.Seq.{take-add, drop-cons}
+use Rattle.std.proofs.Common.{add-one, length-take, length-drop, length-set, get_or-take, get_or-drop, get_or-set_same}
+use mathlib.Core.Path.{◌≡◌, refl, sym, ap, ap₂, ◌∙◌}
 use native.Mathlib.Omega.{arith}
+use native.Mathlib.Decide.{dec_lt}
 use Prim.Native.Nat.{◌≤◌}
-use lib.ListN.{length-map}
 use borrow.Author.Tests.{eq-eqb, ne_eqb, eqb-true, eqb-false}
-use Rattle.reading.specs.Basics.{ℕ, suc, Bool, true, false, List, [], length, eqb, find, numbers_from}
-use Rattle.reading.proofs.Lists.{length_from}
+use Rattle.reading.specs.Basics.{ℕ, suc, Bool, true, false, List, [], length, eqb, find, take, drop, get_or, with}
 use Rattle.firing.specs.Arcs.{Arc, Rising, none, more, weight_in}
 use Rattle.firing.specs.internal.RowLists.{arcs_in}
-use Rattle.firing.specs.internal.Steps.{arc_at}
 
 -- ---- the weight at a place
 pub weight_hit : (a : Arc) (l : List Arc) (p : ℕ) → a.place ≡ p → weight_in (a ∷ l) p ≡ a.weight
@@ -57,17 +58,71 @@ weight_in_lem (b ∷ l) p h = go (eqb b.place p) refl (weight_in_lem l p)
         let r = later (rw skip at h) in
         (r.0, there r.1, r.2, r.3 ∙ sym skip)
 
--- ---- arcs in lent lists
-module _ (places weights : List ℕ) (b : ℕ) where
-  pub arcs_more : (i : ℕ) → i < b → arcs_in places weights i b ≡ arc_at places weights i ∷ arcs_in places weights (i + 1) b
-  unfolding arcs_in numbers_from
-  arcs_more i h = let e : b - i ≡ suc (b - (i + 1)) = omega arith in rw e
+-- ---- arcs in a lent list
+module _ (arcs : List Arc) where
+  -- from the first on, and all
+  pub arcs_first : (b : ℕ) → arcs_in arcs 0 b ≡ take b arcs
+  unfolding arcs_in
+  arcs_first b = let e : b - 0 ≡ b = omega arith in ap (λ n. take n arcs) e
 
-  pub arcs_none : (i : ℕ) → b ≤ i → arcs_in places weights i b ≡ []
-  unfolding arcs_in numbers_from
-  arcs_none i h = let e : b - i ≡ 0 = omega arith in rw e
+  pub arcs_whole : arcs_in arcs 0 (length arcs) ≡ arcs
+  unfolding arcs_in
+  arcs_whole = take_all (length arcs - 0) arcs (omega arith)
 
--- how many there are
-pub length_arcs : (places weights : List ℕ) (a b : ℕ) → length (arcs_in places weights a b) ≡ b - a
-unfolding arcs_in
-length_arcs places weights a b = length-map (numbers_from a (b - a)) (arc_at places weights) ∙ length_from a (b - a)
+  -- how many there are
+  pub length_arcs : (a b : ℕ) → b ≤ length arcs → length (arcs_in arcs a b) ≡ b - a
+  unfolding arcs_in
+  length_arcs a b h = simp (length-take, length-drop) (omega arith)
+
+  -- the arc number i of them
+  pub at_arcs : (a b i : ℕ) (other : Arc) → i < b - a → get_or (arcs_in arcs a b) i other ≡ get_or arcs (a + i) other
+  unfolding arcs_in
+  at_arcs a b i other h = get_or-take (b - a) (drop a arcs) i other h ∙ get_or-drop a arcs i other
+
+  -- none, one, and one more in front or at the end
+  pub arcs_none : (a b : ℕ) → b ≤ a → arcs_in arcs a b ≡ []
+  unfolding arcs_in
+  arcs_none a b h = let e : b - a ≡ 0 = omega arith in rw e
+
+  pub arcs_more : (a b : ℕ) (other : Arc) → a < b → b ≤ length arcs → arcs_in arcs a b ≡ get_or arcs a other ∷ arcs_in arcs (a + 1) b
+  unfolding arcs_in
+  arcs_more a b other h k =
+      let lt : a < length arcs = omega arith in
+      let e : b - a ≡ suc (b - (a + 1)) = omega arith in
+      rw (drop-cons arcs a other lt, e, add-one)
+
+  -- those of the front alone
+  in_front : (a b : ℕ) → a ≤ b → arcs_in arcs a b ≡ drop a (take b arcs)
+  unfolding arcs_in
+  in_front a b h = let f : a + (b - a) ≡ b = omega arith in sym (drop-take a (b - a) arcs) ∙ ap (λ n. drop a (take n arcs)) f
+
+  -- split at a number
+  pub arcs_join : (a b c : ℕ) → a ≤ b → b ≤ c → arcs_in arcs a c ≡ arcs_in arcs a b ++ arcs_in arcs b c
+  unfolding arcs_in
+  arcs_join a b c h k =
+      let e : c - a ≡ (b - a) + (c - b) = omega arith in
+      let f : a + (b - a) ≡ b = omega arith in
+      rw (e, take-add (b - a) (c - b) (drop a arcs), drop-drop (b - a) a arcs, f)
+
+  pub arcs_next : (a b : ℕ) (other : Arc) → a ≤ b → b < length arcs → arcs_in arcs a (b + 1) ≡ with (arcs_in arcs a b) (get_or arcs b other)
+  arcs_next a b other h k =
+      arcs_join a b (b + 1) h (omega arith)
+      ∙ ap (λ (l : List Arc). arcs_in arcs a b ++ l) (arcs_more b (b + 1) other (omega arith) (omega arith) ∙ ap (λ (l : List Arc). get_or arcs b other ∷ l) (arcs_none (b + 1) (b + 1) (omega arith)))
+
+-- a list with the same front has the same arcs there
+pub arcs_front : (arcs others : List Arc) (a b : ℕ) → take b arcs ≡ take b others → arcs_in arcs a b ≡ arcs_in others a b
+arcs_front arcs others a b e =
+    elim (dec_lt b a) [
+      | yes h ↦ arcs_none arcs a b (omega arith) ∙ sym (arcs_none others a b (omega arith))
+      | no h ↦ in_front arcs a b (omega arith) ∙ ap (λ (l : List Arc). drop a l) e ∙ sym (in_front others a b (omega arith))
+    ]
+
+-- an arc is stored behind them, and as one more
+module _ (arcs : List Arc) (i : ℕ) (x : Arc) where
+  pub arcs_kept : (a b : ℕ) → b ≤ i → arcs_in (set arcs i x) a b ≡ arcs_in arcs a b
+  arcs_kept a b h = arcs_front (set arcs i x) arcs a b (take-set-le b arcs i x h)
+
+  pub arcs_with : (a : ℕ) → a ≤ i → i < length arcs → arcs_in (set arcs i x) a (i + 1) ≡ with (arcs_in arcs a i) x
+  arcs_with a h k =
+      let lt : i < length (set arcs i x) = omega (arith, length-set arcs i x) in
+      arcs_next (set arcs i x) a i x h lt ∙ ap₂ (λ (l : List Arc) (y : Arc). with l y) (arcs_kept a i (omega arith)) (get_or-set_same arcs i x x k)

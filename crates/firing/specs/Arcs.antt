@@ -2,11 +2,8 @@
 use Rattle.std.specs.Prelude.{◌≤◌, ◌<◌, ◌+◌, ◌∷◌}
 use Rattle.reading.specs.Basics.{ℕ, List, [], map, ltb, eqb, given, find, keep, below}
 use Rattle.firing.specs.Firing.{Weights}
-
 -- an arc of a row: a flat place, and the weight there
-pub record Arc : Type 0 where
-  pub place : ℕ
-  pub weight : ℕ
+pub use Rattle.firing.specs.declared.Arc.{Arc}
 
 -- a row: its arcs by kind
 pub record Row : Type 0 where

@@ -1,323 +1,206 @@
-// Fires one row that lies in two lent lists, one of places and one of weights, by the firing rule of specs/.
+// Fires one row that lies in a lent list of arcs, by the firing rule of specs/.
 #![tactic(auto)]
 
-ghost use Rattle.std.specs.Prelude.{◌≡◌, List, [], false, ℕ, ◌<◌, ◌≤◌, ◌+◌, ◌-◌, length, get_or, set};
+mod replies;
+
+ghost use Rattle.std.specs.Prelude.{◌≡◌, List, [], false, ℕ, ◌<◌, ◌-◌, length, get_or};
 ghost use Rattle.reading.specs.Basics.{any};
 ghost use Rattle.firing.specs.Firing.{fire, fired};
-ghost use Rattle.firing.specs.Arcs.{weights, Rising, Proper, weight_in};
-ghost use Rattle.firing.specs.internal.RowLists.{arcs_in, row_in};
-ghost use Rattle.firing.specs.internal.Steps.{Within, EndsWithin, told, arc_at, lacking, hindering, first_in, Sought, SmallCapacities, spilling, changed_by, changed, added};
+ghost use Rattle.firing.specs.Arcs.{Rising, Proper, row, weights, weight_in};
+ghost use Rattle.firing.specs.Replies.{answer_number};
+ghost use Rattle.firing.specs.internal.RowLists.{EndsWithin, row_in, row_held};
+ghost use Rattle.firing.specs.internal.Steps.{lacking, hindering, spilling, SmallCapacities, Sought, changed};
 
-// Where a row's takes, puts and hinders end in the lent lists; each kind starts where the one before it ends.
-#[derive(Clone, Copy)]
+use reading::{element, store};
+pub use replies::{Answer, Searched};
+
+// An arc of a row: a flat place, and the weight there.
+#[derive(Clone, Copy, Debug, Default, PartialEq, Eq)]
+pub struct Arc {
+    pub place: u16,
+    pub weight: u16,
+}
+
+impl Arc {
+    // The count at its place, 0 past the end.
+    fn count(self, m: &[u16]) -> u16
+        ensures { result ≡ get_or m.now self.place 0 }
+    {
+        element(m, usize::from(self.place), 0)
+    }
+
+    // Whether it, a take, is above its count.
+    fn lacks(self, m: &[u16]) -> bool
+        ensures { result ≡ lacking m.now self }
+    {
+        self.count(m) < self.weight
+    }
+
+    // Whether it, a hinder, has a weight above 0 and not above its count.
+    fn hinders(self, m: &[u16]) -> bool
+        ensures { result ≡ hindering m.now self }
+    {
+        0 < self.weight && self.weight <= self.count(m)
+    }
+
+    // Whether it, a put, brings its count above 65,535, where so much is taken there before.
+    fn spills(self, take: u16, m: &[u16]) -> bool
+        ensures { (takes : List _) → take ≡ weight_in takes self.place → result ≡ spilling [] m.now takes self }
+    {
+        let left = self.count(m).saturating_sub(take);
+        65535 < u32::from(left) + u32::from(self.weight)
+    }
+}
+
+// Where a row's takes, puts and hinders end in a lent list; each kind starts where the one before it ends.
+#[derive(Clone, Copy, Debug, PartialEq, Eq)]
 pub struct Ends {
     pub takes: usize,
     pub puts: usize,
     pub hinders: usize,
 }
 
-// An element, or 0 past the end.
-fn entry(l: &[u16], i: usize) -> usize
-    ensures { (result ≡ get_or l.now i 0) × (result < 65536) }
-{
-    if i < l.len() { l[i] as usize } else { 0 }
+// A row: its arcs by kind.
+#[derive(Clone, Copy)]
+pub struct RowArcs<'a> {
+    pub takes: &'a [Arc],
+    pub puts: &'a [Arc],
+    pub hinders: &'a [Arc],
 }
 
-// An element that is there.
-fn slot(l: &[u16], i: usize) -> usize
-    requires { i < length l.now }
-    ensures { (result ≡ get_or l.now i 0) × (result < 65536) }
+// The row whose kinds end there in a lent list.
+pub fn row_arcs(arcs: &[Arc], ends: Ends) -> RowArcs
+    requires { EndsWithin arcs.now ends.takes ends.puts ends.hinders }
+    ensures { row_held result ≡ row_in arcs.now ends.takes ends.puts ends.hinders }
 {
-    l[i] as usize
-}
-
-// Whether both lists reach to an end.
-fn within(places: &[u16], amounts: &[u16], end: usize) -> bool
-    ensures { told (Within places.now amounts.now end) result }
-{
-    if places.len() < end {
-        false
-    } else {
-        end <= amounts.len()
+    RowArcs {
+        takes: &arcs[..ends.takes],
+        puts: &arcs[ends.takes..ends.puts],
+        hinders: &arcs[ends.puts..ends.hinders],
     }
 }
 
-// Whether a row's kinds end in turn, and both lists reach to its end.
-fn ends_within(places: &[u16], amounts: &[u16], takes: usize, puts: usize, hinders: usize) -> bool
-    ensures { told (EndsWithin places.now amounts.now takes puts hinders) result }
+// Whether some take is above its count.
+pub fn some_lacks(takes: &[Arc], m: &[u16]) -> bool
+    ensures { result ≡ any (lacking m.now) takes.now }
 {
-    if puts < takes {
-        false
-    } else if hinders < puts {
-        false
-    } else {
-        within(places, amounts, hinders)
+    takes.iter().any(|arc| arc.lacks(m))
+}
+
+// Whether some hinder has a weight above 0 and not above its count.
+fn some_hinders(hinders: &[Arc], m: &[u16]) -> bool
+    ensures { result ≡ any (hindering m.now) hinders.now }
+{
+    hinders.iter().any(|arc| arc.hinders(m))
+}
+
+// The arcs from the first on whose place is not below p.
+fn seek(arcs: &[Arc], p: u16) -> &[Arc]
+    ensures { Sought arcs.now p result.now }
+{
+    let mut rest = arcs;
+    while let [arc, more @ ..] = rest
+        && arc.place < p
+    {
+        rest = more;
+    }
+    rest
+}
+
+// The weight at place p of rising arcs of which none stands below p.
+fn weight_at(arcs: &[Arc], p: u16) -> u16
+    ensures { (n : ℕ) → Rising n 0 arcs.now → Sought arcs.now p arcs.now → result ≡ weight_in arcs.now p }
+{
+    match arcs {
+        [arc, ..] if arc.place == p => arc.weight,
+        _ => 0,
     }
 }
 
-// The difference, or 0 where more is taken than is there.
-fn less(a: usize, b: usize) -> usize
-    ensures { result ≡ a - b }
-{
-    if b <= a { a - b } else { 0 }
-}
-
-// Whether the take number i is above its count.
-fn lacks(places: &[u16], amounts: &[u16], i: usize, m: &[u16]) -> bool
-    requires { Within places.now amounts.now (i + 1) }
-    ensures { result ≡ lacking m.now (arc_at places.now amounts.now i) }
-{
-    entry(m, slot(places, i)) < slot(amounts, i)
-}
-
-// The first take that is above its count, or the end.
-fn lacking_at(places: &[u16], amounts: &[u16], end: usize, m: &[u16]) -> usize
-    requires { Within places.now amounts.now end }
-    ensures { result ≡ first_in (lacking m.now) (arcs_in places.now amounts.now 0 end) }
-{
-    let mut i = 0;
-    while i < end {
-        if lacks(places, amounts, i, m) {
-            return i;
-        }
-        i += 1;
-    }
-    i
-}
-
-// Whether the hinder number i has a weight above 0 and not above its count.
-fn hinders(places: &[u16], amounts: &[u16], i: usize, m: &[u16]) -> bool
-    requires { Within places.now amounts.now (i + 1) }
-    ensures { result ≡ hindering m.now (arc_at places.now amounts.now i) }
-{
-    let weight = slot(amounts, i);
-    if weight < 1 {
-        return false;
-    }
-    weight <= entry(m, slot(places, i))
-}
-
-// The first hinder from `start` on that is above 0 and not above its count, or the end.
-fn hindering_at(places: &[u16], amounts: &[u16], start: usize, end: usize, m: &[u16]) -> usize
-    requires { Within places.now amounts.now end }
-    ensures { result ≡ start + first_in (hindering m.now) (arcs_in places.now amounts.now start end) }
-{
-    let mut i = start;
-    while i < end {
-        if hinders(places, amounts, i, m) {
-            return i;
-        }
-        i += 1;
-    }
-    i
-}
-
-// The first arc from `from` on whose place is not below p, or the end.
-fn seek(places: &[u16], from: usize, end: usize, p: usize) -> usize
-    requires { end ≤ length places.now }
-    ensures { Sought places.now from end p result }
-{
-    let mut t = from;
-    while t < end {
-        if p <= slot(places, t) {
-            return t;
-        }
-        t += 1;
-    }
-    t
-}
-
-// The weight at place p of rising arcs from t on, of which none stands below p.
-fn weight_at(places: &[u16], amounts: &[u16], t: usize, end: usize, p: usize) -> usize
-    requires { Within places.now amounts.now end }
-    ensures here { (n : ℕ) → Rising n 0 (arcs_in places.now amounts.now t end)
-        → (t < end → p ≤ get_or places.now t 0) → result ≡ weight_in (arcs_in places.now amounts.now t end) p }
-{
-    if end <= t {
-        return 0;
-    }
-    if slot(places, t) == p {
-        return slot(amounts, t);
-    }
-    0
-}
-
-// Whether the put number i brings its count above 65,535, where the take at its place, if there is one, has number t.
-fn spills(places: &[u16], amounts: &[u16], t: usize, takes: usize, i: usize, m: &[u16]) -> bool
-    requires within { Within places.now amounts.now takes }
-    requires within_2 { Within places.now amounts.now (i + 1) }
-    ensures { (n : ℕ) → Rising n 0 (arcs_in places.now amounts.now t takes)
-        → (t < takes → get_or places.now i 0 ≤ get_or places.now t 0)
-        → result ≡ spilling [] m.now (arcs_in places.now amounts.now t takes) (arc_at places.now amounts.now i) }
-{
-    let p = slot(places, i);
-    let left = less(entry(m, p), weight_at(places, amounts, t, takes, p));
-    65535 < left + slot(amounts, i)
-}
-
-// The first put that brings its count above 65,535, or the end. The take at its place is looked for only where the count with the put does not fit.
+// Whether some put brings its count above 65,535. The take at its place is looked for only where the count with the put does not fit.
 // Takes and puts stand by rising place, so each take is passed once.
-fn spilling_at(places: &[u16], amounts: &[u16], takes: usize, puts: usize, m: &[u16]) -> usize
-    requires takes_le_puts { takes ≤ puts }
-    requires within { Within places.now amounts.now puts }
-    ensures { (n : ℕ) → Rising n 0 (arcs_in places.now amounts.now 0 takes)
-        → Rising n 0 (arcs_in places.now amounts.now takes puts)
-        → result ≡ takes + first_in (spilling [] m.now (arcs_in places.now amounts.now 0 takes))
-        (arcs_in places.now amounts.now takes puts) }
+fn some_spills(takes: &[Arc], puts: &[Arc], m: &[u16]) -> bool
+    ensures { (n : ℕ) → Rising n 0 takes.now → Rising n 0 puts.now → result ≡ any (spilling [] m.now takes.now) puts.now }
 {
-    let mut t = 0;
-    let mut i = takes;
-    while i < puts {
-        let p = slot(places, i);
-        if 65535 < entry(m, p) + slot(amounts, i) {
-            t = seek(places, t, takes, p);
-            if spills(places, amounts, t, takes, i, m) {
-                return i;
+    let mut rest = takes;
+    for put in puts {
+        if put.spills(0, m) {
+            rest = seek(rest, put.place);
+            if put.spills(weight_at(rest, put.place), m) {
+                return true;
             }
         }
-        i += 1;
-    }
-    i
-}
-
-// Stores a count; past the end it stores nothing.
-fn store(m: &mut [u16], p: usize, count: u16)
-    ensures { m.new ≡ set m.old p count }
-{
-    if p < m.len() {
-        m[p] = count;
-    }
-}
-
-// Takes the take number i from its count.
-fn take_one(places: &[u16], amounts: &[u16], i: usize, m: &mut [u16])
-    requires { Within places.now amounts.now (i + 1) }
-    ensures { m.new ≡ changed_by ◌-◌ (arc_at places.now amounts.now i) m.old }
-{
-    let p = slot(places, i);
-    let count = less(entry(m, p), slot(amounts, i));
-    store(m, p, count as u16);
-}
-
-// Takes every take from its count.
-fn take_all(places: &[u16], amounts: &[u16], end: usize, m: &mut [u16])
-    requires { Within places.now amounts.now end }
-    ensures { m.new ≡ changed ◌-◌ (arcs_in places.now amounts.now 0 end) m.old }
-{
-    let mut i = 0;
-    while i < end {
-        take_one(places, amounts, i, m);
-        i += 1;
-    }
-}
-
-// Adds the put number i to its count.
-fn put_one(places: &[u16], amounts: &[u16], i: usize, m: &mut [u16])
-    requires { Within places.now amounts.now (i + 1) }
-    ensures { m.new ≡ changed_by added (arc_at places.now amounts.now i) m.old }
-{
-    let p = slot(places, i);
-    let count = entry(m, p) + slot(amounts, i);
-    store(m, p, (count % 65536) as u16);
-}
-
-// Adds every put to its count.
-fn put_all(places: &[u16], amounts: &[u16], start: usize, end: usize, m: &mut [u16])
-    requires { Within places.now amounts.now end }
-    ensures { m.new ≡ changed added (arcs_in places.now amounts.now start end) m.old }
-{
-    let mut i = start;
-    while i < end {
-        put_one(places, amounts, i, m);
-        i += 1;
-    }
-}
-
-// The answer to a row of which no take is lacking: 4, 5 or 0.
-fn rest_answer(
-    places: &[u16],
-    amounts: &[u16],
-    takes: usize,
-    puts: usize,
-    hinders: usize,
-    m: &[u16],
-) -> u8
-    requires { EndsWithin places.now amounts.now takes puts hinders }
-    ensures { Proper (length m.now) (row_in places.now amounts.now takes puts hinders)
-        → any (lacking m.now) (arcs_in places.now amounts.now 0 takes) ≡ false
-        → result ≡ (fire [] (weights (row_in places.now amounts.now takes puts hinders)) m.now).answer }
-{
-    if hindering_at(places, amounts, puts, hinders, m) != hinders {
-        return 4;
-    }
-    if spilling_at(places, amounts, takes, puts, m) != puts {
-        return 5;
-    }
-    0
-}
-
-// Moves the marking by a row's takes and puts where the row was answered 0.
-pub fn move_row(places: &[u16], amounts: &[u16], takes: usize, puts: usize, a: u8, m: &mut [u16])
-    requires takes_le_puts { takes ≤ puts }
-    requires within { Within places.now amounts.now puts }
-    ensures { (caps : List ℕ) (hinders : ℕ) → SmallCapacities caps → Proper (length m.old) (row_in places.now amounts.now takes puts hinders)
-        → a ≡ (fire caps (weights (row_in places.now amounts.now takes puts hinders)) m.old).answer
-        → fired a m.new ≡ fire caps (weights (row_in places.now amounts.now takes puts hinders)) m.old }
-{
-    if a == 0 {
-        take_all(places, amounts, takes, m);
-        put_all(places, amounts, takes, puts, m);
-    }
-}
-
-// The answer of the firing rule to a row: 3, 4, 5 or 0.
-pub fn answer(places: &[u16], amounts: &[u16], ends: Ends, m: &[u16]) -> u8
-    requires { EndsWithin places.now amounts.now ends.takes ends.puts ends.hinders }
-    ensures { Proper (length m.now) (row_in places.now amounts.now ends.takes ends.puts ends.hinders)
-        → result ≡ (fire [] (weights (row_in places.now amounts.now ends.takes ends.puts ends.hinders)) m.now).answer }
-{
-    if lacking_at(places, amounts, ends.takes, m) != ends.takes {
-        return 3;
-    }
-    rest_answer(places, amounts, ends.takes, ends.puts, ends.hinders, m)
-}
-
-// ---- for callers that cannot say that the lists reach so far: it is tested once
-// Whether some take is above its count; no, where the lists are too short.
-pub fn some_lacks(places: &[u16], amounts: &[u16], end: usize, m: &[u16]) -> bool
-    ensures { Within places.now amounts.now end
-        → result ≡ any (lacking m.now) (arcs_in places.now amounts.now 0 end) }
-{
-    if within(places, amounts, end) {
-        return lacking_at(places, amounts, end, m) != end;
     }
     false
 }
 
-// The answer to a row of which no take is lacking; 0 where the lists are too short.
-pub fn answer_rest(places: &[u16], amounts: &[u16], ends: Ends, m: &[u16]) -> u8
-    ensures { EndsWithin places.now amounts.now ends.takes ends.puts ends.hinders
-        → Proper (length m.now) (row_in places.now amounts.now ends.takes ends.puts ends.hinders)
-        → any (lacking m.now) (arcs_in places.now amounts.now 0 ends.takes) ≡ false
-        → result ≡ (fire [] (weights (row_in places.now amounts.now ends.takes ends.puts ends.hinders)) m.now).answer }
+// Changes the count at each arc's place by its weight, arc by arc.
+fn change<F: Fn(u16, u16) -> u16>(arcs: &[Arc], f: F, m: &mut [u16])
+    requires { F.IsAlwaysCallable f }
+    ensures { (g : ℕ → ℕ → ℕ) → ((x y r : ℕ) → x < 65536 → y < 65536 → F.post f x y r → r ≡ g x y) → m.new ≡ changed g arcs.now m.old }
 {
-    if ends_within(places, amounts, ends.takes, ends.puts, ends.hinders) {
-        return rest_answer(places, amounts, ends.takes, ends.puts, ends.hinders, m);
+    for arc in arcs {
+        let count = f(arc.count(m), arc.weight);
+        store(m, usize::from(arc.place), count);
     }
-    0
 }
 
-// Fires a row of which no take is lacking: its answer, and the marking after it. Nothing is moved where the lists are too short.
-pub fn fire_rest(places: &[u16], amounts: &[u16], ends: Ends, m: &mut [u16]) -> u8
-    ensures { EndsWithin places.now amounts.now ends.takes ends.puts ends.hinders
-        → Proper (length m.old) (row_in places.now amounts.now ends.takes ends.puts ends.hinders)
-        → any (lacking m.old) (arcs_in places.now amounts.now 0 ends.takes) ≡ false
-        → fired result m.new ≡ fire [] (weights (row_in places.now amounts.now ends.takes ends.puts ends.hinders)) m.old }
+// The answer to a row of which no take is lacking.
+fn rest_answer(row: RowArcs, m: &[u16]) -> Answer
+    ensures { Proper (length m.now) (row_held row.entry)
+        → any (lacking m.now) row.entry.takes.now ≡ false
+        → answer_number result ≡ (fire [] (weights (row_held row.entry)) m.now).answer }
 {
-    if ends_within(places, amounts, ends.takes, ends.puts, ends.hinders) {
-        let a = rest_answer(places, amounts, ends.takes, ends.puts, ends.hinders, m);
-        move_row(places, amounts, ends.takes, ends.puts, a, m);
-        return a;
+    if some_hinders(row.hinders, m) {
+        Answer::Hindered
+    } else if some_spills(row.takes, row.puts, m) {
+        Answer::Spilling
+    } else {
+        Answer::Fired
     }
-    0
+}
+
+// The answer of the firing rule to a row.
+pub fn answer(row: RowArcs, m: &[u16]) -> Answer
+    ensures { Proper (length m.now) (row_held row.entry)
+        → answer_number result ≡ (fire [] (weights (row_held row.entry)) m.now).answer }
+{
+    if some_lacks(row.takes, m) {
+        return Answer::Lacking;
+    }
+    rest_answer(row, m)
+}
+
+// Moves the marking by a row's takes and puts, where the row was answered 0.
+pub fn move_row(takes: &[Arc], puts: &[Arc], m: &mut [u16])
+    ensures { (caps : List ℕ) (hinders : List _) → SmallCapacities caps → Proper (length m.old) (row takes.now puts.now hinders)
+        → 0 ≡ (fire caps (weights (row takes.now puts.now hinders)) m.old).answer
+        → fired 0 m.new ≡ fire caps (weights (row takes.now puts.now hinders)) m.old }
+{
+    change(takes, |count, weight| count.saturating_sub(weight), m);
+    change(puts, |count, weight| count.wrapping_add(weight), m);
+}
+
+// Fires a row of which no take is lacking: its answer, and the marking after it.
+pub fn fire_rest(row: RowArcs, m: &mut [u16]) -> Answer
+    ensures { Proper (length m.old) (row_held row.entry)
+        → any (lacking m.old) row.entry.takes.now ≡ false
+        → fired (answer_number result) m.new ≡ fire [] (weights (row_held row.entry)) m.old }
+{
+    let answer = rest_answer(row, m);
+    if answer == Answer::Fired {
+        move_row(row.takes, row.puts, m);
+    }
+    answer
+}
+
+// Fires a row: its answer, and the marking after it.
+pub fn fire_row(row: RowArcs, m: &mut [u16]) -> Answer
+    ensures { Proper (length m.old) (row_held row.entry)
+        → fired (answer_number result) m.new ≡ fire [] (weights (row_held row.entry)) m.old }
+{
+    if some_lacks(row.takes, m) {
+        return Answer::Lacking;
+    }
+    fire_rest(row, m)
 }

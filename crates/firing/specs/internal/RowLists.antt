@@ -1,12 +1,21 @@
--- Rows in two lent lists, one of places and one of weights.
-use Rattle.std.specs.Prelude.{◌-◌}
-use Rattle.reading.specs.Basics.{ℕ, List, map, get_or, numbers_from}
+-- Rows in one lent list of arcs.
+use Rattle.std.specs.Prelude.{◌≡◌, ◌≤◌, ◌-◌}
+use Rattle.reading.specs.Basics.{ℕ, List, length, take, drop}
 use Rattle.firing.specs.Arcs.{Arc, Row, row}
+use Rattle.firing.specs.declared.RowArcs.{RowArcs}
 
--- the arcs number a to b - 1 of the two lists
-unfoldable pub arcs_in : List ℕ → List ℕ → ℕ → ℕ → List Arc
-arcs_in places weights a b = map (λ i. record { place = get_or places i 0; weight = get_or weights i 0 }) (numbers_from a (b - a))
+-- the arcs number a to b - 1 of the list
+unfoldable pub arcs_in : List Arc → ℕ → ℕ → List Arc
+arcs_in arcs a b = take (b - a) (drop a arcs)
 
 -- the row whose takes, puts and hinders stand there one after the other, each kind up to its end
-abbrev pub row_in : List ℕ → List ℕ → ℕ → ℕ → ℕ → Row
-row_in places weights takes puts hinders = row (arcs_in places weights 0 takes) (arcs_in places weights takes puts) (arcs_in places weights puts hinders)
+abbrev pub row_in : List Arc → ℕ → ℕ → ℕ → Row
+row_in arcs takes puts hinders = row (arcs_in arcs 0 takes) (arcs_in arcs takes puts) (arcs_in arcs puts hinders)
+
+-- a row's kinds end in turn, and the list reaches to its end
+abbrev pub EndsWithin : List Arc → ℕ → ℕ → ℕ → Type 0
+EndsWithin arcs takes puts hinders = (takes ≤ puts) × (puts ≤ hinders) × (hinders ≤ length arcs)
+
+-- the row that three slices hold
+abbrev pub row_held : RowArcs → Row
+row_held r = row r.takes.now r.puts.now r.hinders.now

@@ -1,28 +1,8 @@
 -- Firing arc by arc: the three tests, and the change.
-use Rattle.reading.specs.Basics.{ℕ, Bool, true, false, List, [], length, get_or, ltb, leb}
-use Rattle.std.specs.Prelude.{◌≡◌, ◌≤◌, ◌<◌, set, ◌+◌, ◌-◌, ◌%◌, ◌&&◌, ◌∷◌, if◌then◌else◌}
+use Rattle.reading.specs.Basics.{ℕ, Bool, List, get_or, ltb, leb}
+use Rattle.std.specs.Prelude.{◌≡◌, ◌≤◌, ◌<◌, [], set, ◌+◌, ◌-◌, ◌%◌, ◌&&◌, ◌∷◌}
 use Rattle.firing.specs.Firing.{capacity}
 use Rattle.firing.specs.Arcs.{Arc, weight_in}
-use Rattle.firing.specs.internal.RowLists.{arcs_in}
-
--- ---- room in two lent lists, one of places and one of weights
--- both reach to an end
-abbrev pub Within : List ℕ → List ℕ → ℕ → Type 0
-Within places weights end = (end ≤ length places) × (end ≤ length weights)
-
--- a row's kinds end in turn, and both lists reach to its end
-abbrev pub EndsWithin : List ℕ → List ℕ → ℕ → ℕ → ℕ → Type 0
-EndsWithin places weights takes puts hinders = (takes ≤ puts) × (puts ≤ hinders) × Within places weights hinders
-
--- a test that tells a fact, or that it does not hold
-abbrev pub told : Type 0 → Bool → Type 0
-told P true = P
-told P false = P → ⊥
-
--- ---- the arcs
--- the arc number i of two lent lists
-abbrev pub arc_at : List ℕ → List ℕ → ℕ → Arc
-arc_at places weights i = record { place = get_or places i 0; weight = get_or weights i 0 }
 
 -- 3: a take is above its count
 abbrev pub lacking : List ℕ → Arc → Bool
@@ -40,15 +20,10 @@ spilling caps m takes a = ltb (capacity caps a.place) (get_or m a.place 0 - weig
 abbrev pub SmallCapacities : List ℕ → Type 0
 SmallCapacities caps = (p : ℕ) → capacity caps p < 65536
 
--- the number of the first arc of which a test holds; how many there are where it holds of none
-unfoldable pub first_in : (Arc → Bool) → List Arc → ℕ
-first_in test [] = 0
-first_in test (a ∷ l) = if test a then 0 else first_in test l + 1
-
--- t is the first from a number on whose place is not below p, or the end: it passes no weight at p or a later place
-pub record Sought (places : List ℕ) (from end p t : ℕ) : Type 0 where
-  pub passed : (weights : List ℕ) (q : ℕ) → p ≤ q → weight_in (arcs_in places weights from end) q ≡ weight_in (arcs_in places weights t end) q
-  pub stopped : t < end → p ≤ get_or places t 0
+-- the arcs without those in front whose place is below p: no weight at p or a later place is passed
+pub record Sought (arcs : List Arc) (p : ℕ) (rest : List Arc) : Type 0 where
+  pub passed : (q : ℕ) → p ≤ q → weight_in arcs q ≡ weight_in rest q
+  pub stopped : (a : Arc) (l : List Arc) → rest ≡ a ∷ l → p ≤ a.place
 
 -- the marking after an arc, and after arc by arc, has changed the count at its place
 abbrev pub changed_by : (ℕ → ℕ → ℕ) → Arc → List ℕ → List ℕ
