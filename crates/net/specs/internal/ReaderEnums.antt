@@ -1,11 +1,15 @@
 -- What the code's enums say, in the terms of the meanings.
-use Rattle.std.specs.Prelude.{◌^◌, ◌+◌, if◌then◌else◌, ◌/◌, ◌%◌}
+use Rattle.std.specs.Prelude.{◌^◌, ◌+◌, if◌then◌else◌, ◌/◌, ◌%◌, Option, Some, None, Result}
 use Rattle.reading.specs.Basics.{ℕ, zero, suc, Bool, eqb, given, List, get_or}
-use Rattle.reading.specs.Reading.{Answer, fine, fault}
-use Rattle.net.specs.Net.{Colour, Guard, Net, Place, single, pair, set_of, in_colour, in_guard}
+use Rattle.reading.specs.Reading.{Answer}
+use Rattle.reading.specs.Refusals.{result_of}
+use Rattle.reading.specs.declared.refusal.Refusal.{Refusal}
+use Rattle.net.specs.Net.{Colour, Guard, Net, Place, single, pair, scope, set_of, in_colour, in_guard}
 use Rattle.net.specs.Reader.{width_of}
 use Rattle.net.specs.declared.Read.{Read}
-use Rattle.net.specs.declared.Read.TheVariants as read
+use Rattle.net.specs.declared.scope.Scope.{Scope}
+use Rattle.net.specs.declared.PlaceSets.{PlaceSets}
+use Rattle.net.specs.declared.PlaceSets.TheVariants.{One, Two}
 
 -- the numbers below n that pass a test, a bit for each
 unfoldable pub bits : (ℕ → Bool) → ℕ → ℕ
@@ -20,26 +24,29 @@ member uses v = eqb (uses / 2 ^ v % 2) 1
 abbrev pub size_in : List ℕ → List ℕ → ℕ → ℕ
 size_in sizes vars v = get_or sizes (get_or vars v 0) 0
 
--- an answer: the place after an expression, its measure, the variables that stand in it
-abbrev pub told : {A : Type 0} → (A → ℕ) → (ℕ → A → Bool) → Answer A → Read
-told measure stands (fine a next) = read.Whole next (measure a) (bits (λ v. stands v a) 32)
-told measure stands (fault number place) = read.Fault number place
+-- what expressions are read over: the sets and variables of a scope, and places
+abbrev pub scope_of : Scope → List Place → Net
+scope_of s places = scope s.sizes.now s.vars.now places
+
+-- a whole expression: the place after it, its measure, the variables that stand in it
+abbrev pub whole : {A : Type 0} → (A → ℕ) → (ℕ → A → Bool) → A → ℕ → Read
+whole measure stands a next = record { next = next; set = measure a; uses = bits (λ v. stands v a) 32 }
+
+abbrev pub told : {A : Type 0} → (A → ℕ) → (ℕ → A → Bool) → Answer A → Result Read Refusal
+told measure stands answer = result_of (whole measure stands) answer
 
 -- a colour tells its set, a guard nothing
-abbrev pub colour_told : Net → Answer Colour → Read
+abbrev pub colour_told : Net → Answer Colour → Result Read Refusal
 colour_told n answer = told (set_of n) in_colour answer
 
-abbrev pub guard_told : Answer Guard → Read
+abbrev pub guard_told : Answer Guard → Result Read Refusal
 guard_told answer = told (λ g. 0) in_guard answer
 
--- a place by its first and its second set; 255 where it has no second
-abbrev pub place_of : ℕ → ℕ → Place
-place_of first second = if eqb second 255 then single first else pair first second
+-- a place by its set, or its two sets
+abbrev pub place_in : PlaceSets → Place
+place_in (One set) = single set
+place_in (Two first second) = pair first second
 
--- the same of both sets in one word: the first, and 256 times the second
-abbrev pub place_in : ℕ → Place
-place_in kind = place_of (kind % 256) (kind / 256)
-
--- the width of a byte's operands, 255 where it is no command
-abbrev pub width_told : ℕ → ℕ
-width_told b = given (width_of b) 255 λ width. width
+-- the width of a byte's operands; none: no command
+abbrev pub width_told : ℕ → Option ℕ
+width_told b = given (width_of b) None λ width. Some width
