@@ -1,4 +1,3 @@
 pub mod Totals
 pub mod Placing
-pub mod Clearing
 pub mod Tokening

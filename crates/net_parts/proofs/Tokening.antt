@@ -1,5 +1,6 @@
 -- How tokens are read, and where the loop over them stands. Assumes nothing.
-use Rattle.std.specs.Prelude.{◌+◌, ◌∷◌, ◌++◌, if◌then◌else◌}
+use Rattle.std.specs.Prelude.{◌+◌, ◌∷◌, ◌++◌, if◌then◌else◌, Result, Ok, Err}
+use Rattle.std.specs.Prelude as std
 use mathlib.Core.Path.{◌≡◌, refl, sym, ap, ◌∙◌}
 use mathlib.Core.Bool.{Bool, true, false, ◌&&◌}
 use Prim.Native.Nat.{◌≤◌, ◌<◌, ◌-◌}
@@ -10,14 +11,15 @@ use lib.ListN.{set, length-set}
 use lib.Seq.{take-suc, take-add, get_or-set_same, get_or-set_other}
 use Rattle.reading.specs.Basics.{ℕ, List, [], Option, some, none, absent, map, sum, length, get_or, take, drop, with, find, eqb, ltb, byte_at, word_at}
 use Rattle.reading.specs.Reading.{fine, fault, whole}
+use Rattle.reading.specs.Refusals.{number_of}
+use Rattle.reading.specs.declared.refusal.Refusal.{Refusal}
 use Rattle.reading.proofs.Commands.{end, other, passes, done, fails, later, both_hold, first_fails, second_fails, standing_past, standing_none, stands_cut, stands_fails, stands_goes}
 use Rattle.reading.proofs.Parts.{Reading, begins, goes_on, ends, stops}
 use Rattle.net.specs.Net.{Place, single, Tokens, Net, colours_of, place_at, tokens_on}
 use Rattle.net.specs.Reader.{width_of}
 use Rattle.net_parts.specs.Parts.{tokens_part}
 use Rattle.net_parts.specs.internal.Tables.{start_of, Started, StartsRise, flat_at, count_of, flag, Holds, token_step, TokenRoom, TokensRead}
-use Rattle.net_parts.specs.declared.token.TokenStep.{TokenStep}
-use Rattle.net_parts.specs.declared.token.TokenStep.TheVariants.{Done, More, Stop}
+use Rattle.net_parts.specs.declared.token.TokenRead.{TokenRead}
 use Rattle.net.proofs.Shut.{commands}
 use Rattle.net_parts.proofs.Totals.{sum-with}
 
@@ -225,43 +227,42 @@ tokening_begins {s} {starts} {count} {total} {start} initial named a b f g = rec
   };
 }
 
-module _ {s starts : List ℕ} {count total start len : ℕ} {initial named : List ℕ} {at : ℕ} (here : TokenLoop s starts count total start len initial named at) (r : TokenStep)
+module _ {s starts : List ℕ} {count total start len : ℕ} {initial named : List ℕ} {at : ℕ} (here : TokenLoop s starts count total start len initial named at) (r : Result (std.Option TokenRead) Refusal)
     (is : (n : Net) (tokens : List Tokens) → Started n n.places starts count total → Holds n tokens flag starts named → tokens_part s n tokens at ≡ token_step tokens r)
     (room : TokenRoom starts named (length s) count at r) where
-  pub tokening_ends : r ≡ Done → (n : Net) → Started n n.places starts count total → TokensRead s n start starts initial at
+  pub tokening_ends : r ≡ Ok std.None → (n : Net) → Started n n.places starts count total → TokensRead s n start starts initial at
   tokening_ends e n begun =
       let now = here.each n begun in
       record { tokens = now.tokens; read = ends s (tokens_part s n) now.reading (rw e at (is n now.tokens begun now.names)); holds = now.counts }
 
-  pub tokening_stops : {k p : ℕ} → r ≡ Stop k p → (n : Net) → Started n n.places starts count total → fault k p ≡ whole s (tokens_part s n) [] start
+  pub tokening_stops : {f : Refusal} → r ≡ Err f → (n : Net) → Started n n.places starts count total → fault (number_of f.reason) f.place ≡ whole s (tokens_part s n) [] start
   tokening_stops e n begun =
       let now = here.each n begun in stops s (tokens_part s n) now.reading (rw e at room) (rw e at (is n now.tokens begun now.names))
 
-  pub token_below : StartsRise starts count total → {p rank amount flat next : ℕ} → r ≡ More p rank amount flat next → flat < 4096
-  token_below rises {p} e = let h = rw e at room in omega (arith, h.2, rises.bound p h.0, rises.small)
-
-  pub tokening_goes : StartsRise starts count total → {p rank amount flat next : ℕ} → r ≡ More p rank amount flat next
-      → TokenLoop s starts count total start len (set initial flat amount) (set named flat 1) next
-  tokening_goes rises {p} {rank} {amount} {flat} {next} e = record {
-    counted = length-set initial flat amount ∙ here.counted;
-    marked = length-set named flat 1 ∙ here.marked;
+  pub tokening_goes : StartsRise starts count total → {t : TokenRead} → r ≡ Ok (std.Some t)
+      → TokenLoop s starts count total start len (set initial t.flat t.count) (set named t.flat 1) t.next
+  tokening_goes rises {t} e = record {
+    counted = length-set initial t.flat t.count ∙ here.counted;
+    marked = length-set named t.flat 1 ∙ here.marked;
     each = λ n begun. step n begun (here.each n begun);
   }
     where
-      h : (p < count) × (flat ≡ get_or starts p 0 + rank) × (flat < get_or starts (p + 1) 0) × (at < next) × (next ≤ length s) × (get_or named flat 0 ≡ 0)
+      h : (t.place < count) × (t.flat ≡ get_or starts t.place 0 + t.rank) × (t.flat < get_or starts (t.place + 1) 0) × (at < t.next) × (t.next ≤ length s) × (get_or named t.flat 0 ≡ 0)
       h = rw e at room
 
-      below : flat < 4096
-      below = token_below rises e
+      below : t.flat < 4096
+      below = omega (arith, h.2, rises.bound t.place h.0, rises.small)
 
-      step : (n : Net) → Started n n.places starts count total → Tokening s n start starts initial named at → Tokening s n start starts (set initial flat amount) (set named flat 1) next
+      step : (n : Net) → Started n n.places starts count total → Tokening s n start starts initial named at
+          → Tokening s n start starts (set initial t.flat t.count) (set named t.flat 1) t.next
       step n begun now =
-          let fit : rank < colours_of n (place_at n p) = omega (arith, h.1, h.2, starts_next begun p h.0) in
-          let fresh : tokens_on now.tokens p rank ≡ none = unnamed (tokens_on now.tokens p rank) (sym (now.names p rank (omega (arith, h.0, begun.are)) fit (omega (arith, h.1, below, here.marked))) ∙ (rw h.1 at h.5)) in
-          let x : Tokens = record { place = p; rank = rank; count = amount } in
+          let fit : t.rank < colours_of n (place_at n t.place) = omega (arith, h.1, h.2, starts_next begun t.place h.0) in
+          let fresh : tokens_on now.tokens t.place t.rank ≡ none = unnamed (tokens_on now.tokens t.place t.rank)
+          (sym (now.names t.place t.rank (omega (arith, h.0, begun.are)) fit (omega (arith, h.1, below, here.marked))) ∙ (rw h.1 at h.5)) in
+          let x : Tokens = record { place = t.place; rank = t.rank; count = t.count } in
           record {
             tokens = with now.tokens x;
-            reading = goes_on s (tokens_part s n) (with now.tokens x) next now.reading h.3 h.4 (rw e at (is n now.tokens begun now.names));
+            reading = goes_on s (tokens_part s n) (with now.tokens x) t.next now.reading h.3 h.4 (rw e at (is n now.tokens begun now.names));
             counts = rw h.1 (holds_more begun count_of now.tokens initial x refl h.0 fit fresh now.counts);
             names = rw h.1 (holds_more begun flag now.tokens named x refl h.0 fit fresh now.names);
           }
