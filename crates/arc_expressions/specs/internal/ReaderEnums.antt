@@ -1,25 +1,29 @@
 -- What the reading of an arc expression tells, in the terms of the meanings.
-use Rattle.std.specs.Prelude.{◌≤◌, if◌then◌else◌}
-use Rattle.reading.specs.Basics.{ℕ, Bool, leb}
+use Rattle.std.specs.Prelude.{◌≤◌, if◌then◌else◌, Result, Ok, Err, IfOk}
+use Rattle.reading.specs.Basics.{ℕ, leb}
 use Rattle.reading.specs.Reading.{Answer}
+use Rattle.reading.specs.declared.refusal.Refusal.{Refusal}
+use Rattle.reading.specs.declared.refusal.Reason.TheVariants.{Overweight}
 use Rattle.net.specs.Net.{Expression, plus, minus, ceiling, in_expression}
 use Rattle.net.specs.internal.ReaderEnums.{told}
 use Rattle.net.specs.declared.Read.{Read}
-use Rattle.net.specs.declared.Read.TheVariants as read
+use Rattle.arc_expressions.specs.declared.expression.Join.{Join}
+use Rattle.arc_expressions.specs.declared.expression.Join.TheVariants.{Plus, Minus}
 
 -- an arc expression tells its ceiling
-abbrev pub expression_told : Answer Expression → Read
+abbrev pub expression_told : Answer Expression → Result Read Refusal
 expression_told answer = told ceiling in_expression answer
 
 -- no ceiling passes 65,535
-abbrev pub SmallCeiling : Read → Type 0
-SmallCeiling (read.Whole next measure uses) = measure ≤ 65535
-SmallCeiling (read.Fault number place) = Unit {0}
+abbrev pub SmallCeiling : Result Read Refusal → Type 0
+SmallCeiling result = IfOk result (λ r. r.set ≤ 65535)
 
 -- a ceiling that may not pass 65,535 (8)
-abbrev pub measured : ℕ → ℕ → ℕ → ℕ → Read
-measured at ceiling next uses = if leb ceiling 65535 then read.Whole next ceiling uses else read.Fault 8 at
+abbrev pub measured : ℕ → ℕ → ℕ → ℕ → Result Read Refusal
+measured at ceiling next uses =
+    if leb ceiling 65535 then Ok (record { next = next; set = ceiling; uses = uses }) else Err (record { reason = Overweight; place = at })
 
 -- the first less the second, or their sum
-abbrev pub joins : Bool → Expression → Expression → Expression
-joins less a b = if less then minus a b else plus a b
+abbrev pub joins : Join → Expression → Expression → Expression
+joins Plus a b = plus a b
+joins Minus a b = minus a b
