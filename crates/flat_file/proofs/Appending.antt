@@ -9,11 +9,13 @@ use native.Mathlib.Numerals.{add-one}
 use lib.ListN.{set, length-append, length-drop, length-take}
 use lib.Seq.{drop-cons, get_or-take, length-take-le}
 use Rattle.reading.specs.Basics.{ℕ, zero, suc, List, [], flat_map, length, get_or, take, drop, over}
-use Rattle.firing.specs.internal.RowLists.{arcs_in, row_in}
+use Rattle.firing.specs.declared.Arc.{Arc}
+use Rattle.firing.specs.Arcs.{Row}
+use Rattle.firing.specs.internal.RowLists.{EndsWithin, row_in}
 use Rattle.firing.proofs.Rows.{length_arcs}
 use Rattle.firing.proofs.Running.{over-set}
 use Rattle.flat_file.specs.Flat.{arc_bytes, row_bytes}
-use Rattle.flat_file.proofs.Written.{place_bytes, length_places, length-row, length_arc_bytes}
+use Rattle.flat_file.proofs.Written.{place_bytes, length_places, row_size, length-row, length_arc_bytes}
 use Rattle.flat_file.specs.internal.Output.{Appended}
 
 -- nothing
@@ -96,26 +98,21 @@ take_none l n i h = drop_none (take n l) i (omega (arith, length-take n l))
 
 -- ---- lengths
 -- the place behind some arcs
-pub next_arcs : (byte : ℕ) (places weights : List ℕ) (a b : ℕ) {entry exit : List ℕ} {at next : ℕ}
-    → Appended entry exit at next (flat_map (arc_bytes byte) (arcs_in places weights a b)) → next ≡ at + 5 * (b - a)
-next_arcs byte places weights a b x =
-    omega (arith, x.next_is, length_arc_bytes byte (arcs_in places weights a b), length_arcs places weights a b)
+pub next_arcs : (byte : ℕ) (l : List Arc) {entry exit : List ℕ} {at next : ℕ} → Appended entry exit at next (flat_map (arc_bytes byte) l) → next ≡ at + 5 * length l
+next_arcs byte l x = omega (arith, x.next_is, length_arc_bytes byte l)
 
 -- a row's bytes, by its ends
-pub length_row_in : (places weights : List ℕ) (takes puts hinders : ℕ) → takes ≤ puts → puts ≤ hinders
-    → length (row_bytes (row_in places weights takes puts hinders)) ≡ 1 + 5 * hinders
-length_row_in places weights takes puts hinders h k =
-    let t = length_arcs places weights 0 takes in
-    let p = length_arcs places weights takes puts in
-    let q = length_arcs places weights puts hinders in
-    omega (arith, length-row (row_in places weights takes puts hinders))
+pub length_row_in : (arcs : List Arc) (takes puts hinders : ℕ) → EndsWithin arcs takes puts hinders → length (row_bytes (row_in arcs takes puts hinders)) ≡ 1 + 5 * hinders
+length_row_in arcs takes puts hinders h =
+    let t = length_arcs arcs 0 takes (omega (arith, h)) in
+    let p = length_arcs arcs takes puts (omega (arith, h)) in
+    let q = length_arcs arcs puts hinders h.2 in
+    omega (arith, h, length-row (row_in arcs takes puts hinders))
 
 -- the place behind a row
-pub next_row : (places weights : List ℕ) (takes puts hinders : ℕ) {entry exit : List ℕ} {at next : ℕ} → takes ≤ puts → puts ≤ hinders
-    → Appended entry exit at next (row_bytes (row_in places weights takes puts hinders)) → next ≡ at + (1 + 5 * hinders)
-next_row places weights takes puts hinders h k x = omega (arith, x.next_is, length_row_in places weights takes puts hinders h k)
+pub next_row : (r : Row) {entry exit : List ℕ} {at next : ℕ} → Appended entry exit at next (row_bytes r) → next ≡ at + row_size r
+next_row r x = omega (arith, x.next_is, length-row r)
 
--- the place behind the first so many places' counts
-pub next_places : (initial : List ℕ) (count : ℕ) {entry exit : List ℕ} {at next : ℕ} → count ≤ length initial
-    → Appended entry exit at next (flat_map place_bytes (take count initial)) → next ≡ at + 3 * count
-next_places initial count h x = omega (arith, x.next_is, length_places (take count initial), length-take-le count initial h)
+-- the place behind the places' counts
+pub next_places : (initial : List ℕ) {entry exit : List ℕ} {at next : ℕ} → Appended entry exit at next (flat_map place_bytes initial) → next ≡ at + 3 * length initial
+next_places initial x = omega (arith, x.next_is, length_places initial)

@@ -1,23 +1,57 @@
 -- The places and the rows of a file read so far, and the file's parts in turn. Assumes nothing.
-use Rattle.std.specs.Prelude.{◌+◌, ◌*◌, ◌∷◌}
+use Rattle.std.specs.Prelude.{◌+◌, ◌-◌, ◌*◌, ◌∷◌, if◌then◌else◌, Option, Some, None, Result, Ok, Err}
 use mathlib.Core.Path.{◌≡◌, refl, sym, ap, ◌∙◌}
 use Prim.Native.Nat.{◌≤◌, ◌<◌}
 use native.Mathlib.Omega.{arith}
 use native.Mathlib.Decide.{dec_lt}
-use borrow.Author.Tests.{eq-eqb, ne_eqb}
+use borrow.Author.Tests.{eq-eqb, ne_eqb, ltb-true}
 use lib.ListN.{set, length-set, length-append, get_or-append}
 use lib.Seq.{get_or-set_same, get_or-set_other, get_or_at}
-use Rattle.reading.specs.Basics.{ℕ, List, [], some, length, get_or, find, with, byte_at, word_at}
-use Rattle.reading.specs.Reading.{Answer, fine, fault, under, ◌and_then◌, refused, outcome, command, whole, file}
+use Rattle.reading.specs.Basics.{ℕ, Bool, true, false, List, [], option_map, none, some, given, length, get_or, ltb, eqb, find, with, byte_at, word_at}
+use Rattle.reading.specs.Reading.{Answer, fine, fault, under, ◌and_then◌, refused, outcome, Check, ◌unless◌, failing, command, obey, standing, whole, file}
+use Rattle.reading.specs.Refusals.{number_of, answered}
+use Rattle.reading.specs.declared.refusal.Refusal.{Refusal}
 use Rattle.reading.proofs.Commands.{passes, done, fails, passing, failed, other, end, needed_past, needed_stray, needs_goes}
 use Rattle.reading.proofs.Parts.{Reading, begins, goes_on, ends, stops}
 use Rattle.firing.specs.Arcs.{Row, row}
 use Rattle.flat_file.specs.Flat.{Flat, place_part, arc_part, row_part, read_flat}
-use Rattle.flat_file.specs.internal.ReaderEnums.{step_told, StepRoom, PlacesHeld, arcs_at, RowsReadable, RowsHeld, opening, closing, part_told, Counts, scan_of, Scanned}
+use Rattle.flat_file.specs.internal.ReaderEnums.{step_of, step_told, StepRoom, PlacesHeld, PlacesRead, ArcsPassed, arcs_at, RowsReadable, RowsHeld, RowsRead, opening, closing, going, Scanned}
 use Rattle.flat_file.specs.declared.reader.Part.{Part}
-use Rattle.flat_file.specs.declared.reader.Part.TheVariants as part
-use Rattle.flat_file.specs.declared.reader.Step.{Step}
-use Rattle.flat_file.specs.declared.reader.Step.TheVariants.{Done, More, Stop}
+use Rattle.flat_file.specs.declared.reader.FlatSizes.{FlatSizes}
+
+-- ---- a step at one command, whatever follows it
+module _ {A : Type 0} (go : ℕ → Answer A) where
+  abbrev onto : Answer ℕ → Answer A
+  onto answer = answer and_then λ _ next. go next
+
+  told_goes : (step : Result (Option ℕ) Refusal) → option_map onto (step_told (λ next. fine next next) step) ≡ step_told go step
+  told_goes (Ok None) = refl
+  told_goes (Ok (Some next)) = refl
+  told_goes (Err e) = refl
+
+  obey_onto : (s : List ℕ) (byte width : ℕ) (checks : List Check) (at : ℕ)
+      → obey s at (command byte width checks go) ≡ onto (obey s at (command byte width checks (λ next. fine next next)))
+  unfolding obey
+  obey_onto s byte width checks at =
+      elim (ltb (length s) (at + (1 + width))) as (λ cut. (if cut then fault 2 (length s) else given (failing checks) (go (at + (1 + width))) λ number. fault number at)
+      ≡ onto (if cut then fault 2 (length s) else given (failing checks) (fine (at + (1 + width)) (at + (1 + width))) λ number. fault number at)) [
+        | true ↦ refl
+        | false ↦ elim (failing checks) as (λ k. given k (go (at + (1 + width))) (λ number. fault number at) ≡ onto (given k (fine (at + (1 + width)) (at + (1 + width))) λ number. fault number at)) [ none ↦ refl | some k ↦ refl ]
+      ]
+
+  standing_onto : (s : List ℕ) (byte width : ℕ) (checks : List Check) (at : ℕ)
+      → standing s (command byte width checks go ∷ []) at ≡ option_map onto (standing s (command byte width checks (λ next. fine next next) ∷ []) at)
+  unfolding standing find
+  standing_onto s byte width checks at =
+      elim (eqb (byte_at s at) byte) as (λ here. option_map (obey s at) (if here then some (command byte width checks go) else none)
+      ≡ option_map onto (option_map (obey s at) (if here then some (command byte width checks (λ next. fine next next)) else none))) [
+        | true ↦ ap some (obey_onto s byte width checks at)
+        | false ↦ refl
+      ]
+
+  pub step_goes : (s : List ℕ) (byte width : ℕ) (room : Bool) (at : ℕ) (step : Result (Option ℕ) Refusal) → step_of s byte width room at ≡ step_told (λ next. fine next next) step
+      → standing s (command byte (width - 1) ((4 unless room) ∷ []) go ∷ []) at ≡ step_told go step
+  step_goes s byte width room at step e = standing_onto s byte (width - 1) ((4 unless room) ∷ []) at ∙ ap (option_map onto) e ∙ told_goes step
 
 -- ---- the places so far
 pub record PlacesSoFar (s : List ℕ) (start count at : ℕ) : Type 0 where
@@ -33,10 +67,10 @@ pub places_begin : (s : List ℕ) (start : ℕ) → start ≤ length s → Place
 places_begin s start le = record { initial = []; sized = refl; few = omega arith; counted = omega arith; within = le; reading = begins s (place_part s) [] start }
 
 -- by the next step they end, have a fault, or go on
-module _ {s : List ℕ} {start count at : ℕ} (here : PlacesSoFar s start count at) {step : Step}
-    (is : (initial : List ℕ) → length initial ≡ count → place_part s initial at ≡ step_told (fine (with initial (word_at s (at + 1))) (at + 3)) step)
-    (room : StepRoom 4096 3 (length s) count at step) where
-  pub places_end : step ≡ Done → PlacesHeld s start count at
+module _ {s : List ℕ} {start count at : ℕ} (here : PlacesSoFar s start count at) {step : Result (Option ℕ) Refusal}
+    (is : (initial : List ℕ) → length initial ≡ count → place_part s initial at ≡ step_told (fine (with initial (word_at s (at + 1)))) step)
+    (room : StepRoom (ltb count 4096) 3 (length s) at step) where
+  pub places_end : step ≡ Ok None → PlacesHeld s start count at
   places_end e =
       record {
         initial = here.initial;
@@ -47,23 +81,23 @@ module _ {s : List ℕ} {start count at : ℕ} (here : PlacesSoFar s start count
         is = ends s (place_part s) here.reading (is here.initial here.sized ∙ ap (step_told _) e);
       }
 
-  pub places_stop : {k p : ℕ} → step ≡ Stop k p → fault k p ≡ whole s (place_part s) [] start
+  pub places_stop : {x : Refusal} → step ≡ Err x → PlacesRead s start (Err x)
   places_stop e = stops s (place_part s) here.reading (rw e at room) (is here.initial here.sized ∙ ap (step_told _) e)
 
-  module _ (e : step ≡ More) where
-    pub place_room : (count < 4096) × (at + 3 ≤ length s)
-    place_room = rw e at room
+  module _ {next : ℕ} (e : step ≡ Ok (Some next)) where
+    pub place_room : (count < 4096) × (next ≡ at + 3) × (next ≤ length s)
+    place_room = let r = rw e at room in (ltb-true count 4096 r.0, r.1, r.2)
 
-    pub place_more : PlacesSoFar s start (count + 1) (at + 3)
+    pub place_more : PlacesSoFar s start (count + 1) next
     place_more =
         let more = with here.initial (word_at s (at + 1)) in
         record {
           initial = more;
           sized = length-append here.initial (word_at s (at + 1) ∷ []) ∙ omega (arith, here.sized);
           few = omega (arith, place_room.0);
-          counted = omega (arith, here.counted);
-          within = place_room.1;
-          reading = goes_on s (place_part s) more (at + 3) here.reading (omega arith) place_room.1 (is here.initial here.sized ∙ ap (step_told _) e);
+          counted = omega (arith, here.counted, place_room.1);
+          within = place_room.2;
+          reading = goes_on s (place_part s) more next here.reading (omega (arith, place_room.1)) place_room.2 (is here.initial here.sized ∙ ap (step_told _) e);
         }
 
 -- ---- the rows so far, their starts in a list of so many
@@ -96,10 +130,10 @@ rows_begin s n start starts early le =
     }
 
 -- by the next step they end, have a fault, or go on with a row's arcs
-module _ {s : List ℕ} {n start size : ℕ} {starts : List ℕ} {count at : ℕ} (here : RowsSoFar s n start size starts count at) {step : Step}
-    (is : (places : ℕ) (before : List Row) → length before ≡ count → row_part s places before at ≡ step_told (under (with before) (whole s (arc_part s places) (row [] [] []) (at + 1))) step)
-    (room : StepRoom 65536 1 (length s) count at step) where
-  pub rows_end : step ≡ Done → RowsHeld s n start starts count at
+module _ {s : List ℕ} {n start size : ℕ} {starts : List ℕ} {count at : ℕ} (here : RowsSoFar s n start size starts count at) {step : Result (Option ℕ) Refusal}
+    (is : (places : ℕ) (before : List Row) → length before ≡ count → row_part s places before at ≡ step_told (λ first. under (with before) (arcs_at s places first)) step)
+    (room : StepRoom (ltb count 65536) 1 (length s) at step) where
+  pub rows_end : step ≡ Ok None → RowsHeld s n start starts count at
   rows_end e =
       record {
         rows = here.rows;
@@ -109,51 +143,57 @@ module _ {s : List ℕ} {n start size : ℕ} {starts : List ℕ} {count at : ℕ
         stands = here.stands;
       }
 
-  pub rows_stop : {k p : ℕ} → step ≡ Stop k p → fault k p ≡ whole s (row_part s n) [] start
+  pub rows_stop : {x : Refusal} → step ≡ Err x → RowsRead s n start starts (Err x)
   rows_stop e = stops s (row_part s n) here.reading (rw e at room) (is n here.rows here.sized ∙ ap (step_told _) e)
 
-  module _ (e : step ≡ More) where
-    pub row_room : (count < 65536) × (at + 1 ≤ length s)
-    row_room = rw e at room
+  module _ {first : ℕ} (e : step ≡ Ok (Some first)) where
+    pub row_room : (count < 65536) × (first ≡ at + 1) × (first ≤ length s)
+    row_room = let r = rw e at room in (ltb-true count 65536 r.0, r.1, r.2)
 
     -- where its arcs start is a u32
-    pub row_start : at + 1 < 4294967296
-    row_start = omega (arith, here.early, here.near, row_room.0)
+    pub row_start : first < 4294967296
+    row_start = omega (arith, here.early, here.near, row_room)
 
-    row_step : row_part s n here.rows at ≡ some (under (with here.rows) (whole s (arc_part s n) (row [] [] []) (at + 1)))
+    row_step : row_part s n here.rows at ≡ some (under (with here.rows) (arcs_at s n first))
     row_step = is n here.rows here.sized ∙ ap (step_told _) e
 
     -- its arcs have a fault
-    pub row_stop : {k p : ℕ} → fault k p ≡ whole s (arc_part s n) (row [] [] []) (at + 1) → fault k p ≡ whole s (row_part s n) [] start
-    row_stop f = stops s (row_part s n) here.reading (omega (arith, row_room.1)) (row_step ∙ rw (← f))
+    pub row_stop : (x : Refusal) → ArcsPassed s n first (Err x) → RowsRead s n start starts (Err x)
+    row_stop x f = stops s (row_part s n) here.reading (omega (arith, row_room)) (row_step ∙ rw (← f))
 
     -- its arcs are read
-    module _ {x : Row} {next : ℕ} (f : fine x next ≡ whole s (arc_part s n) (row [] [] []) (at + 1)) (inside : (at + 1 ≤ next) × (next ≤ at + 1 + 61440) × (at + 1 ≤ length s → next ≤ length s)) where
+    module _ {next : ℕ} (passed : ArcsPassed s n first (Ok next)) where
+      abbrev x : Row
+      x = passed.0.0
+
+      f : fine x next ≡ arcs_at s n first
+      f = passed.0.1
+
       pub row_inside : (at < next) × (next ≤ length s)
-      row_inside = (omega (arith, inside.0), inside.2 row_room.1)
+      row_inside = (omega (arith, passed.1, row_room.1), passed.3 row_room.2)
 
       -- every row so far, and this one, can be read again from its start
-      all_stand : RowsReadable s n (set starts count (at + 1)) (with here.rows x)
+      all_stand : RowsReadable s n (set starts count first) (with here.rows x)
       all_stand i lt room = elim (dec_lt i count) [ yes old ↦ earlier old | no new ↦ last (omega (arith, length-append here.rows (x ∷ []), here.sized)) ]
         where
           reached : i < length starts
-          reached = omega (arith, room, length-set starts count (at + 1))
+          reached = omega (arith, room, length-set starts count first)
 
-          earlier : i < count → (after : ℕ) × (arcs_at s n (get_or (set starts count (at + 1)) i 0) ≡ fine (get_or (with here.rows x) i (row [] [] [])) after)
-          earlier old = rw (get_or-set_other starts count i (at + 1) 0 (λ e. omega arith), get_or-append here.rows (x ∷ []) (row [] [] []) i (omega (arith, here.sized))) (here.stands i (omega (arith, here.sized)) reached)
+          earlier : i < count → (after : ℕ) × (arcs_at s n (get_or (set starts count first) i 0) ≡ fine (get_or (with here.rows x) i (row [] [] [])) after)
+          earlier old = rw (get_or-set_other starts count i first 0 (λ e. omega arith), get_or-append here.rows (x ∷ []) (row [] [] []) i (omega (arith, here.sized))) (here.stands i (omega (arith, here.sized)) reached)
 
-          last : i ≡ count → (after : ℕ) × (arcs_at s n (get_or (set starts count (at + 1)) i 0) ≡ fine (get_or (with here.rows x) i (row [] [] [])) after)
-          last new = (next, rw (new, get_or-set_same starts count (at + 1) 0 (omega (arith, reached)), get_or_at here.rows x [] (row [] [] []) count here.sized) (sym f))
+          last : i ≡ count → (after : ℕ) × (arcs_at s n (get_or (set starts count first) i 0) ≡ fine (get_or (with here.rows x) i (row [] [] [])) after)
+          last new = (next, rw (new, get_or-set_same starts count first 0 (omega (arith, reached)), get_or_at here.rows x [] (row [] [] []) count here.sized) (sym f))
 
-      pub row_more : RowsSoFar s n start size (set starts count (at + 1)) (count + 1) next
+      pub row_more : RowsSoFar s n start size (set starts count first) (count + 1) next
       row_more =
           record {
             rows = with here.rows x;
             sized = length-append here.rows (x ∷ []) ∙ omega (arith, here.sized);
             few = omega (arith, row_room.0);
-            long = length-set starts count (at + 1) ∙ here.long;
+            long = length-set starts count first ∙ here.long;
             early = here.early;
-            near = omega (arith, here.near, inside.1);
+            near = omega (arith, here.near, passed.2, row_room.1);
             counted = omega (arith, here.counted, row_inside.0);
             within = row_inside.1;
             reading = goes_on s (row_part s n) (with here.rows x) next here.reading row_inside.0 row_inside.1 (row_step ∙ rw (← f));
@@ -186,35 +226,40 @@ content s start =
     whole s (row_part s (length initial)) [] at and_then λ rows end.
     fine (record { initial = initial; rows = rows }) end
 
-module _ (s : List ℕ) {first : Part} (opened : (content : ℕ → Answer Flat) → opening s content ≡ part_told content first) where
-  pub not_opened : {k p : ℕ} → first ≡ part.Fault k p → read_flat s ≡ refused k p
+module _ (s : List ℕ) {first : Result ℕ Refusal} (is_opened : (content : ℕ → Answer Flat) → opening s content ≡ going content first) where
+  pub not_opened : {x : Refusal} → first ≡ Err x → read_flat s ≡ refused (number_of x.reason) x.place
   unfolding read_flat file
-  not_opened e = rw (opened (content s), e)
+  not_opened e = rw (is_opened (content s), e)
 
-  module _ {a b start : ℕ} (e : first ≡ part.Whole a b start) where
+  module _ {start : ℕ} (e : first ≡ Ok start) where
     read_on : read_flat s ≡ outcome (content s start and_then λ f at. closing s f at)
     unfolding read_flat file
-    read_on = rw (opened (content s), e)
+    read_on = rw (is_opened (content s), e)
 
-    pub places_refused : {k p : ℕ} → fault k p ≡ whole s (place_part s) [] start → read_flat s ≡ refused k p
-    places_refused f = read_on ∙ rw (← f)
+    pub places_refused : (x : Refusal) → PlacesRead s start (Err x) → read_flat s ≡ refused (number_of x.reason) x.place
+    places_refused x f = read_on ∙ rw (← f)
 
     module _ {count next : ℕ} (places : PlacesHeld s start count next) where
-      pub rows_refused : {k p : ℕ} → fault k p ≡ whole s (row_part s count) [] next → read_flat s ≡ refused k p
-      rows_refused f = read_on ∙ rw (← places.is, places.sized, ← f)
+      pub rows_refused : (starts : List ℕ) (x : Refusal) → RowsRead s count next starts (Err x) → read_flat s ≡ refused (number_of x.reason) x.place
+      rows_refused starts x f = read_on ∙ rw (← places.is, places.sized, ← f)
 
       -- what stands at the end decides
       module _ {starts : List ℕ} {rows end : ℕ} (held : RowsHeld s count next starts rows end) where
-        pub all_read : (last : Part) → ((f : Flat) → closing s f end ≡ part_told (fine f) last) → Counts count rows last → Scanned s starts (scan_of last)
-        all_read (part.Fault k p) closed counts = read_on ∙ rw (← places.is, places.sized, ← held.is, closed (record { initial = places.initial; rows = held.rows }))
-        all_read (part.Whole n m after) closed counts = (
-          record { initial = places.initial; rows = held.rows },
-          rw (counts.0, counts.1) (record {
-            is = read_on ∙ rw (← places.is, places.sized, ← held.is, closed (record { initial = places.initial; rows = held.rows }));
+        abbrev found : Flat
+        found = record { initial = places.initial; rows = held.rows }
+
+        pub not_closed : (x : Refusal) → closing s found end ≡ fault (number_of x.reason) x.place → read_flat s ≡ refused (number_of x.reason) x.place
+        not_closed x e = read_on ∙ rw (← places.is, places.sized, ← held.is, e)
+
+        pub all_read : closing s found end ≡ fine found (end + 1) → Scanned s starts (Ok (record { places = count; rows = rows }))
+        all_read e = (
+          found,
+          record {
+            is = read_on ∙ rw (← places.is, places.sized, ← held.is, e);
             places_are = places.sized;
             rows_are = held.sized;
             few_places = places.few;
             fits = held.fits;
             stands = λ i lt room. held.stands i (omega (arith, held.sized)) room;
-          }),
+          },
         )

@@ -11,9 +11,11 @@ use Rattle.reading.specs.Basics.{ℕ, true, List, [], flat_map, some, length, ta
 use Rattle.reading.specs.Reading.{Answer, fine, ◌and_then◌, accepted, Part, whole, file}
 use Rattle.reading.proofs.Lists.{end, also, in_one, flat_with}
 use Rattle.reading.proofs.Keeps.{both_true, then_went, under_went, standing_stood, repeat_keeps_at, file_stood, outcome_went}
-use Rattle.firing.specs.Arcs.{Arc, Row, row}
+use Rattle.firing.specs.declared.Arc.{Arc}
+use Rattle.firing.specs.Arcs.{Row, row}
 use Rattle.flat_file.specs.Flat.{Flat, place_part, rise, arc_part, row_part, read_flat, arc_bytes, row_bytes, write_flat, OneFile}
-use Rattle.flat_file.proofs.Written.{arc_there, place_bytes, arcs_bytes}
+use Rattle.flat_file.specs.internal.ReaderEnums.{arc_there}
+use Rattle.flat_file.proofs.Written.{place_bytes, arcs_bytes}
 
 -- ---- what is written
 -- of one more, behind x

@@ -12,7 +12,8 @@ use Rattle.reading.specs.Reading.{Answer, fine, under, ◌unless◌, failing, Co
 use Rattle.reading.proofs.Commands.{known, done, passes, end, other, both_hold, standing_none, stands_goes, needs_goes}
 use Rattle.reading.proofs.Lists.{In, here, any_in}
 use Rattle.reading.proofs.Parts.{Reading, begins, goes_on, ends}
-use Rattle.firing.specs.Arcs.{Arc, Row, row, Rising, none as risen, more, Proper}
+use Rattle.firing.specs.declared.Arc.{Arc}
+use Rattle.firing.specs.Arcs.{Row, row, Rising, none as risen, more, Proper}
 use Rattle.flat_file.specs.Flat.{Flat, Limits, place_part, rise, arc_part, row_part, read_flat, arc_bytes, row_bytes, write_flat}
 use Rattle.flat_file.proofs.Written.{word_there, byte_here, left, past, arc_there, place_bytes, arcs_bytes}
 

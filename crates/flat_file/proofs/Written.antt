@@ -5,7 +5,8 @@ use native.Mathlib.Omega.{arith}
 use lib.ListN.{length-append, length-drop}
 use lib.Seq.{get_or-drop, drop-drop, drop-append_seam}
 use Rattle.reading.specs.Basics.{ℕ, List, [], map, flat_map, length, drop, sum, byte_at, word_at, word}
-use Rattle.firing.specs.Arcs.{Arc, Row}
+use Rattle.firing.specs.declared.Arc.{Arc}
+use Rattle.firing.specs.Arcs.{Row}
 use Rattle.flat_file.specs.Flat.{Flat, arc_bytes, row_bytes, write_flat}
 
 -- ---- a place of a file from which t is left
@@ -33,10 +34,6 @@ past s at x t e = sym (drop-drop (length x) at s) ∙ ap (drop (length x)) e ∙
 -- a u16 comes back, of whatever size
 pub word_back : (n : ℕ) (t : List ℕ) → word_at (word n ++ t) 0 ≡ n
 word_back n t = omega arith
-
--- the arc that stands at a place
-abbrev pub arc_there : List ℕ → ℕ → Arc
-arc_there s at = record { place = word_at s (at + 1); weight = word_at s (at + 3) }
 
 -- ---- pieces
 -- the bytes of a flat place's count, and of a row's arcs

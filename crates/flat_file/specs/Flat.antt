@@ -3,7 +3,8 @@ use Rattle.std.specs.Prelude.{◌≡◌, ◌≤◌, ◌<◌, ◌+◌, ◌&&◌, 
 use Rattle.reading.specs.Basics.{ℕ, Bool, List, [], flat_map, length, get_or, ltb, eqb, with, below, every, byte_at, word_at, long_at, Bytes, word, items}
 use Rattle.reading.specs.Reading.{fine, ◌and_then◌, under, Outcome, accepted, refused, outcome, on, ◌unless◌, Command, command, standing, Part, whole, file}
 use Rattle.firing.specs.Firing.{Fired, fired, fire, First}
-use Rattle.firing.specs.Arcs.{Arc, Row, row, weights, Proper}
+use Rattle.firing.specs.declared.Arc.{Arc}
+use Rattle.firing.specs.Arcs.{Row, row, weights, Proper}
 use Rattle.firing.specs.Calls.{FireCall, marking_checks, fire_checks, fire_call, first_call}
 
 -- ---- the net

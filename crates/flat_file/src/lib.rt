@@ -4,5 +4,5 @@
 mod reader;
 mod write;
 
-pub use reader::{Scan, load_arcs, scan_file};
+pub use reader::{FlatSizes, load_arcs, scan_file};
 pub use write::{put_byte, put_bytes, put_word, write_end, write_head, write_places, write_row};

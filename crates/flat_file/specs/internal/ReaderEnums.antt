@@ -1,60 +1,74 @@
--- What the code's enums say, in the terms of the meanings.
-use Rattle.std.specs.Prelude.{◌≡◌, ◌⊎◌, ◌<◌, ◌≤◌, ◌/◌, min, ◌+◌, ◌*◌, ◌&&◌, ◌∷◌, if◌then◌else◌}
-use Rattle.reading.specs.Basics.{ℕ, zero, suc, Bool, true, false, List, [], Option, none, some, length, get_or, leb, eqb, with, any, byte_at}
-use Rattle.reading.specs.Reading.{Answer, fine, fault, ◌and_then◌, accepted, refused, ◌unless◌, checked, command, needed, whole}
-use Rattle.firing.specs.Arcs.{Arc, Row, row}
+-- What the reader's kinds and Results say, in the terms of the meanings.
+use Rattle.std.specs.Prelude.{◌≡◌, ◌⊎◌, ◌<◌, ◌≤◌, ◌/◌, min, ◌+◌, ◌-◌, ◌*◌, ◌&&◌, ◌∷◌, Option, Some, None, Result, Ok, Err}
+use Rattle.reading.specs.Basics.{ℕ, Bool, true, List, [], none, some, length, get_or, leb, eqb, with, any, byte_at, word_at}
+use Rattle.reading.specs.Basics as math
+use Rattle.reading.specs.Reading.{Answer, fine, fault, ◌and_then◌, accepted, refused, ◌unless◌, checked, command, standing, needed, whole}
+use Rattle.reading.specs.Refusals.{number_of}
+use Rattle.reading.specs.declared.refusal.Refusal.{Refusal}
+use Rattle.firing.specs.declared.Arc.{Arc}
+use Rattle.firing.specs.Arcs.{Row, row}
 use Rattle.flat_file.specs.Flat.{Flat, rise, place_part, arc_part, row_part, read_flat}
-use Rattle.flat_file.specs.declared.reader.ArcStep.{ArcStep}
-use Rattle.flat_file.specs.declared.reader.ArcStep.TheVariants as arc_step_cases
-use Rattle.flat_file.specs.declared.reader.RowRead.{RowRead}
-use Rattle.flat_file.specs.declared.reader.RowRead.TheVariants as row_read
-use Rattle.flat_file.specs.declared.reader.Step.{Step}
-use Rattle.flat_file.specs.declared.reader.Step.TheVariants as step
+use Rattle.firing.specs.declared.Ends.{Ends}
+use Rattle.flat_file.specs.declared.reader.Kind.{Kind}
+use Rattle.flat_file.specs.declared.reader.Kind.TheVariants.{Take, Put, Hinder}
+use Rattle.flat_file.specs.declared.reader.ArcRead.{ArcRead}
 use Rattle.flat_file.specs.declared.reader.Part.{Part}
-use Rattle.flat_file.specs.declared.reader.Part.TheVariants as part
-use Rattle.flat_file.specs.declared.reader.Scan.{Scan}
-use Rattle.flat_file.specs.declared.reader.Scan.TheVariants as scan
+use Rattle.flat_file.specs.declared.reader.FlatSizes.{FlatSizes}
 
 -- ---- one arc
--- an arc's command byte stands at a place, or another
-abbrev pub ArcHere : List ℕ → ℕ → Bool → Type 0
-ArcHere s at true = (at < length s) × (0x52 ≤ byte_at s at) × (byte_at s at ≤ 0x54)
-ArcHere s at false = (byte_at s at < 0x52) ⊎ (0x54 < byte_at s at)
+-- a kind's number, and its command byte
+abbrev pub kind_number : Kind → ℕ
+kind_number Take = 0
+kind_number Put = 1
+kind_number Hinder = 2
 
--- an arc of a kind (0 takes, 1 puts, 2 hinders) at a place keeps a row's order
-abbrev pub in_order : ℕ → Row → ℕ → Bool
-in_order zero r p = rise r.takes p && eqb (length r.puts) 0 && eqb (length r.hinders) 0
-in_order (suc zero) r p = rise r.puts p && eqb (length r.hinders) 0
-in_order (suc (suc kind)) r p = rise r.hinders p
+abbrev pub kind_byte : Kind → ℕ
+kind_byte kind = 0x52 + kind_number kind
+
+-- an arc's command byte stands at a place, or another
+abbrev pub ArcHere : List ℕ → ℕ → Option Kind → Type 0
+ArcHere s at (Some kind) = (at < length s) × (byte_at s at ≡ kind_byte kind)
+ArcHere s at None = (byte_at s at < 0x52) ⊎ (0x54 < byte_at s at)
+
+-- an arc of a kind at a place keeps a row's order
+abbrev pub in_order : Kind → Row → ℕ → Bool
+in_order Take r p = rise r.takes p && eqb (length r.puts) 0 && eqb (length r.hinders) 0
+in_order Put r p = rise r.puts p && eqb (length r.hinders) 0
+in_order Hinder r p = rise r.hinders p
 
 -- a row with one more arc of a kind
-abbrev pub added : ℕ → Row → Arc → Row
-added zero r a = row (with r.takes a) r.puts r.hinders
-added (suc zero) r a = row r.takes (with r.puts a) r.hinders
-added (suc (suc kind)) r a = row r.takes r.puts (with r.hinders a)
+abbrev pub added : Kind → Row → Arc → Row
+added Take r a = row (with r.takes a) r.puts r.hinders
+added Put r a = row r.takes (with r.puts a) r.hinders
+added Hinder r a = row r.takes r.puts (with r.hinders a)
 
 -- an arc's key: kinds in turn, and places in each
-abbrev pub key : ℕ → ℕ → ℕ
-key kind p = kind * 65536 + p
+abbrev pub key : Kind → ℕ → ℕ
+key kind p = kind_number kind * 65536 + p
 
 -- the least key with which an arc keeps a row's order
 abbrev pub Least : Row → ℕ → Type 0
-Least r least = (kind p : ℕ) → kind ≤ 2 → p < 65536 → in_order kind r p ≡ leb least (key kind p)
+Least r least = (kind : Kind) (p : ℕ) → p < 65536 → in_order kind r p ≡ leb least (key kind p)
 
-abbrev pub arc : ℕ → ℕ → Arc
-arc place weight = record { place = place; weight = weight }
+-- the arc that stands behind a command byte
+abbrev pub arc_there : List ℕ → ℕ → Arc
+arc_there s at = record { place = word_at s (at + 1); weight = word_at s (at + 3) }
 
 -- a step from a row, with the place after the arc
-abbrev pub arc_step : ℕ → Row → ArcStep → Option (Answer Row)
-arc_step next r arc_step_cases.Done = none
-arc_step next r (arc_step_cases.Arc kind place weight) = some (fine (added kind r (arc place weight)) next)
-arc_step next r (arc_step_cases.Stop number place) = some (fault number place)
+abbrev pub arc_step : ℕ → Row → Result (Option ArcRead) Refusal → math.Option (Answer Row)
+arc_step next r (Ok None) = none
+arc_step next r (Ok (Some read)) = some (fine (added read.kind r read.arc) next)
+arc_step next r (Err e) = some (fault (number_of e.reason) e.place)
+
+-- what the checks of an arc have shown
+abbrev pub Checked : ℕ → ℕ → ℕ → ℕ → ArcRead → Type 0
+Checked len count at least read = (read.arc.place < count) × (0 < read.arc.weight) × (least ≤ key read.kind read.arc.place) × (at + 5 ≤ len)
 
 -- what the checks of a step have shown
-abbrev pub ArcRoom : ℕ → ℕ → ℕ → ℕ → ArcStep → Type 0
-ArcRoom len count at least arc_step_cases.Done = Unit {0}
-ArcRoom len count at least (arc_step_cases.Arc kind place weight) = (kind ≤ 2) × (place < count) × (0 < weight) × (least ≤ key kind place) × (at + 5 ≤ len)
-ArcRoom len count at least (arc_step_cases.Stop number place) = at < len
+abbrev pub ArcRoom : ℕ → ℕ → ℕ → ℕ → Result (Option ArcRead) Refusal → Type 0
+ArcRoom len count at least (Ok None) = Unit {0}
+ArcRoom len count at least (Ok (Some read)) = Checked len count at least read
+ArcRoom len count at least (Err e) = at < len
 
 -- ---- room in the lent lists
 -- the most rows in a file of so many bytes, and the most arcs in one of its rows
@@ -70,9 +84,9 @@ abbrev pub arcs_at : List ℕ → ℕ → ℕ → Answer Row
 arcs_at s places at = whole s (arc_part s places) (row [] [] []) at
 
 -- they end at a place not before the first of them, at most 12,288 arcs behind it, and within the file where that does; or have a fault
-abbrev pub ArcsPassed : List ℕ → ℕ → ℕ → RowRead → Type 0
-ArcsPassed s n at (row_read.Whole next) = ((r : Row) × (fine r next ≡ arcs_at s n at)) × (at ≤ next) × (next ≤ at + 61440) × (at ≤ length s → next ≤ length s)
-ArcsPassed s n at (row_read.Fault number place) = fault number place ≡ arcs_at s n at
+abbrev pub ArcsPassed : List ℕ → ℕ → ℕ → Result ℕ Refusal → Type 0
+ArcsPassed s n at (Ok next) = ((r : Row) × (fine r next ≡ arcs_at s n at)) × (at ≤ next) × (next ≤ at + 61440) × (at ≤ length s → next ≤ length s)
+ArcsPassed s n at (Err e) = fault (number_of e.reason) e.place ≡ arcs_at s n at
 
 -- over at most 4,096 flat places they have no fault
 pub record ArcsStand (s : List ℕ) (at : ℕ) : Type 0 where
@@ -86,22 +100,28 @@ pub record ArcsStand (s : List ℕ) (at : ℕ) : Type 0 where
 abbrev pub RowsStand : List ℕ → List ℕ → ℕ → Type 0
 RowsStand s starts rows = (i : ℕ) → i < rows → ArcsStand s (get_or starts i 0)
 
--- the end of a kind after one more arc of some kind
-abbrev pub later_end : ℕ → ℕ → ℕ → ℕ → ℕ
-later_end kind of more was = if leb kind of then more else was
+-- where the kinds end after one more arc of some kind
+abbrev pub later_ends : Kind → Ends → Ends
+later_ends Take was = record { takes = was.hinders + 1; puts = was.hinders + 1; hinders = was.hinders + 1 }
+later_ends Put was = record { takes = was.takes; puts = was.hinders + 1; hinders = was.hinders + 1 }
+later_ends Hinder was = record { takes = was.takes; puts = was.puts; hinders = was.hinders + 1 }
 
 -- ---- the places and the rows
--- a step that goes on with an answer
-abbrev pub step_told : {A : Type 0} → Answer A → Step → Option (Answer A)
-step_told answer step.Done = none
-step_told answer step.More = some answer
-step_told answer (step.Stop number place) = some (fault number place)
+-- a step at a command of a width, where there is room for it
+abbrev pub step_of : List ℕ → ℕ → ℕ → Bool → ℕ → math.Option (Answer ℕ)
+step_of s byte width room at = standing s (command byte (width - 1) ((4 unless room) ∷ []) (λ next. fine next next) ∷ []) at
 
--- a step that goes on has room among so many, and for so many bytes in the file
-abbrev pub StepRoom : ℕ → ℕ → ℕ → ℕ → ℕ → Step → Type 0
-StepRoom limit width len count at step.Done = Unit {0}
-StepRoom limit width len count at step.More = (count < limit) × (at + width ≤ len)
-StepRoom limit width len count at (step.Stop number place) = at < len
+-- a step goes on behind the command with an answer
+abbrev pub step_told : {A : Type 0} → (ℕ → Answer A) → Result (Option ℕ) Refusal → math.Option (Answer A)
+step_told go (Ok None) = none
+step_told go (Ok (Some next)) = some (go next)
+step_told go (Err e) = some (fault (number_of e.reason) e.place)
+
+-- a step that goes on has room, and so many bytes in the file
+abbrev pub StepRoom : Bool → ℕ → ℕ → ℕ → Result (Option ℕ) Refusal → Type 0
+StepRoom room width len at (Ok None) = Unit {0}
+StepRoom room width len at (Ok (Some next)) = (room ≡ true) × (next ≡ at + width) × (next ≤ len)
+StepRoom room width len at (Err e) = at < len
 
 -- so many flat places stand from a place to another
 pub record PlacesHeld (s : List ℕ) (start count next : ℕ) : Type 0 where
@@ -112,9 +132,9 @@ pub record PlacesHeld (s : List ℕ) (start count next : ℕ) : Type 0 where
   pub within : next ≤ length s
   pub is : fine initial next ≡ whole s (place_part s) [] start
 
-abbrev pub PlacesRead : List ℕ → ℕ → Part → Type 0
-PlacesRead s start (part.Whole places rows next) = PlacesHeld s start places next
-PlacesRead s start (part.Fault number place) = fault number place ≡ whole s (place_part s) [] start
+abbrev pub PlacesRead : List ℕ → ℕ → Result Part Refusal → Type 0
+PlacesRead s start (Ok p) = PlacesHeld s start p.count p.next
+PlacesRead s start (Err e) = fault (number_of e.reason) e.place ≡ whole s (place_part s) [] start
 
 -- where a row's arcs start, as far as the list of starts reaches, the row can be read again
 abbrev pub RowsReadable : List ℕ → ℕ → List ℕ → List Row → Type 0
@@ -129,14 +149,9 @@ pub record RowsHeld (s : List ℕ) (places start : ℕ) (starts : List ℕ) (cou
   pub is : fine rows next ≡ whole s (row_part s places) [] start
   pub stands : RowsReadable s places starts rows
 
-abbrev pub RowsRead : List ℕ → ℕ → ℕ → List ℕ → Part → Type 0
-RowsRead s n start starts (part.Whole places rows next) = RowsHeld s n start starts rows next
-RowsRead s n start starts (part.Fault number place) = fault number place ≡ whole s (row_part s n) [] start
-
--- the place after a row's arcs, or their fault
-abbrev pub row_end : ℕ → ℕ → RowRead → Part
-row_end places rows (row_read.Whole next) = part.Whole places rows next
-row_end places rows (row_read.Fault number place) = part.Fault number place
+abbrev pub RowsRead : List ℕ → ℕ → ℕ → List ℕ → Result Part Refusal → Type 0
+RowsRead s n start starts (Ok p) = RowsHeld s n start starts p.count p.next
+RowsRead s n start starts (Err e) = fault (number_of e.reason) e.place ≡ whole s (row_part s n) [] start
 
 -- ---- the whole file
 -- its opening command, and its end with nothing after it
@@ -147,23 +162,14 @@ abbrev pub closing : List ℕ → Flat → ℕ → Answer Flat
 closing s f at = needed s (command 0x5F 0 [] (fine f) ∷ []) at and_then λ f end. checked end ((15 unless eqb end (length s)) ∷ []) f end
 
 -- what follows at the place up to which a file was read
-abbrev pub part_told : {A : Type 0} → (ℕ → Answer A) → Part → Answer A
-part_told go (part.Whole places rows next) = go next
-part_told go (part.Fault number place) = fault number place
+abbrev pub going : {A : Type 0} → (ℕ → Answer A) → Result ℕ Refusal → Answer A
+going go (Ok next) = go next
+going go (Err e) = fault (number_of e.reason) e.place
 
 -- the opening command takes two bytes
-abbrev pub PartWithin : ℕ → Part → Type 0
-PartWithin len (part.Whole places rows next) = (next ≤ len) × (next ≤ 2)
-PartWithin len (part.Fault number place) = Unit {0}
-
--- so many flat places and rows were read
-abbrev pub Counts : ℕ → ℕ → Part → Type 0
-Counts n m (part.Whole places rows next) = (places ≡ n) × (rows ≡ m)
-Counts n m (part.Fault number place) = Unit {0}
-
-abbrev pub scan_of : Part → Scan
-scan_of (part.Whole places rows next) = scan.Net places rows
-scan_of (part.Fault number place) = scan.Refused number place
+abbrev pub OpenRoom : ℕ → Result ℕ Refusal → Type 0
+OpenRoom len (Ok next) = (next ≤ len) × (next ≤ 2)
+OpenRoom len (Err e) = Unit {0}
 
 -- a flat file's net of so many flat places and rows, with the start of each row's arcs as far as the list of starts reaches
 pub record FlatHeld (s starts : List ℕ) (places rows : ℕ) (f : Flat) : Type 0 where
@@ -174,6 +180,6 @@ pub record FlatHeld (s starts : List ℕ) (places rows : ℕ) (f : Flat) : Type 
   pub fits : rows ≤ most_rows (length s)
   pub stands : (i : ℕ) → i < rows → i < length starts → (next : ℕ) × (arcs_at s places (get_or starts i 0) ≡ fine (get_or f.rows i (row [] [] [])) next)
 
-abbrev pub Scanned : List ℕ → List ℕ → Scan → Type 0
-Scanned s starts (scan.Net places rows) = (f : Flat) × FlatHeld s starts places rows f
-Scanned s starts (scan.Refused number place) = read_flat s ≡ refused number place
+abbrev pub Scanned : List ℕ → List ℕ → Result FlatSizes Refusal → Type 0
+Scanned s starts (Ok sizes) = (f : Flat) × FlatHeld s starts sizes.places sizes.rows f
+Scanned s starts (Err e) = read_flat s ≡ refused (number_of e.reason) e.place
