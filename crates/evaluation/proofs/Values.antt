@@ -1,11 +1,13 @@
 -- What an evaluator gives, from what stands in the bytes: by cases on the reading. Assumes nothing.
 use Rattle.std.specs.Prelude.{◌+◌, ◌-◌, ◌&&◌, ◌||◌, ◌∷◌, if◌then◌else◌}
-use mathlib.Core.Path.{◌≡◌, refl, ap, subst}
+use mathlib.Core.Path.{◌≡◌, refl, sym, ap, subst, ◌∙◌}
 use Prim.Native.Nat.{◌≤◌, ◌<◌}
 use native.Mathlib.Omega.{arith}
 use borrow.Author.Tests.{leb-true, leb-false, eqb-true}
-use lib.ListN.{get_or-eq_default}
-use Rattle.reading.specs.Basics.{ℕ, Bool, true, false, not, List, [], Option, some, none, option_map, length, get_or, leb, ltb, eqb, given, find, byte_at}
+use lib.ListN.{length-drop, get_or-eq_default}
+use lib.Seq.{take_all, get_or-drop}
+use Rattle.std.specs.List.{slice_range}
+use Rattle.reading.specs.Basics.{ℕ, Bool, true, false, not, List, [], Option, some, none, option_map, length, get_or, drop, leb, ltb, eqb, given, find, byte_at}
 use Rattle.reading.specs.Reading.{Answer, fine, fault, ◌and_then◌, under, Check, ◌unless◌, failing, checked, Command, obey, standing, needed}
 use Rattle.reading.proofs.Commands.{known, needed_at, needed_past}
 use Rattle.reading.proofs.Within.{by_test}
@@ -13,6 +15,9 @@ use Rattle.net.specs.Net.{Colour, successor, predecessor, Guard, opposite, both,
 use Rattle.net.specs.Reader.{read_colour, read_guard, comparison}
 use Rattle.net.specs.Values.{colour, holds}
 use Rattle.evaluation.specs.internal.Evaluated.{after, before, bound, Valued, GuardHeld}
+use Rattle.evaluation.specs.internal.Comparing.{tree_of, test_of}
+use Rattle.evaluation.specs.declared.step.Comparison.{Comparison}
+use Rattle.evaluation.specs.declared.step.Comparison.TheVariants.{Equal, Less}
 use Rattle.evaluation.specs.declared.evaluate.Value.{Value}
 use Rattle.evaluation.specs.declared.evaluate.Tested.{Tested}
 use Rattle.net.proofs.Shut.{commands}
@@ -88,6 +93,12 @@ byte_inside s at b e h = go (leb (length s) at) refl
     go : (t : Bool) → leb (length s) at ≡ t → at < length s
     go true i = absurd (let z = get_or-eq_default s 0 (leb-true (length s) at i) in omega arith)
     go false i = omega (arith, leb-false (length s) at i)
+
+-- a byte of what stands from a place on
+part_byte : (s part : List ℕ) (from k : ℕ) → part ≡ slice_range s from (length s) → k < length part → get_or part k 0 ≡ get_or s (from + k) 0
+part_byte s part from k is lt =
+    let whole : part ≡ drop from s = is ∙ take_all (length s - from) (drop from s) (simp length-drop (omega arith)) in
+    rw whole (get_or-drop from s k 0)
 
 module _ (s : List ℕ) (n : Net) (env : List ℕ) (left at : ℕ) where
   -- 0x30 and 0x31
@@ -187,10 +198,23 @@ module _ (n : Net) (env : List ℕ) where
   less_holds a b = refl
 
 module _ (s : List ℕ) (n : Net) (env : List ℕ) (left at next : ℕ) (p q : Value) (first : Valued n env p (read_colour s n left next)) (second : Valued n env q (read_colour s n left p.next)) where
-  pub either_compared : (lesser : Bool) → GuardHeld n env (record { holds = if lesser then ltb p.colour q.colour else eqb p.colour q.colour; next = q.next })
-      (comparison n (read_colour s n left) (if lesser then less else equal) at next)
-  either_compared true = compared_of n env less ltb (less_holds n env) at (read_colour s n left) next p q first second
-  either_compared false = compared_of n env equal eqb (equal_holds n env) at (read_colour s n left) next p q first second
+  pub either_compared : (how : Comparison) → GuardHeld n env (record { holds = test_of how p.colour q.colour; next = q.next }) (comparison n (read_colour s n left) (tree_of how) at next)
+  either_compared Less = compared_of n env less ltb (less_holds n env) at (read_colour s n left) next p q first second
+  either_compared Equal = compared_of n env equal eqb (equal_holds n env) at (read_colour s n left) next p q first second
+
+-- two variables, by the bytes that stand from a place on
+pub variables_compared : (s part : List ℕ) (n : Net) (env : List ℕ) (left at next : ℕ) (how : Comparison)
+    → part ≡ slice_range s next (length s) → 4 ≤ length part → get_or part 0 0 ≡ 0x30 → get_or part 2 0 ≡ 0x30
+    → GuardHeld n env (record { holds = test_of how (get_or env (get_or part 1 0) 0) (get_or env (get_or part 3 0) 0); next = next + 4 }) (comparison n (read_colour s n left) (tree_of how) at next)
+variables_compared s part n env left at next how is four e f =
+    let byte = λ (k : ℕ) (lt : k < length part). part_byte s part next k is lt in
+    let zero_on : next + 0 ≡ next = omega arith in
+    let end : next + 4 ≡ next + 2 + 2 = omega arith in
+    let third : next + 3 ≡ next + 2 + 1 = omega arith in
+    let opens : byte_at s next ≡ 0x30 = rw zero_on at (sym (byte 0 (omega arith)) ∙ e) in
+    let x : get_or part 1 0 ≡ byte_at s (next + 1) = byte 1 (omega arith) in
+    let y : get_or part 3 0 ≡ byte_at s (next + 2 + 1) = byte 3 (omega arith) ∙ ap (byte_at s) third in
+    rw (x, y, end) (either_compared s n env left at next _ _ (variable_valued s n env left next opens) (variable_valued s n env left (next + 2) (sym (byte 2 (omega arith)) ∙ f)) how)
 
 module _ (s : List ℕ) (n : Net) (env : List ℕ) (left at : ℕ) where
   -- 0x20

@@ -2,5 +2,6 @@
 #![tactic(auto)]
 
 mod evaluate;
+mod step;
 
 pub use evaluate::{Ranked, Tested, eval_guard, eval_rank};

@@ -1,4 +1,4 @@
-use Rattle.evaluation.proofs.evaluate.+colour_at.Given as goal
+use Rattle.evaluation.proofs.evaluate.Bound.+colour_at.Given as goal
 
 abbrev pub decreases-colour_at : goal.decreases-colour_at
 decreases-colour_at l = l.left

@@ -2,7 +2,7 @@ use native.Mathlib.Omega.{arith}
 use Prim.Native.Nat.{◌≤◌}
 use native.Mathlib.Nat.{mul-le-mul}
 use Rattle.evaluation.proofs.Weights.{one_ranks, two_ranks}
-use Rattle.evaluation.proofs.evaluate.rank_at.Goals as goal
+use Rattle.evaluation.proofs.evaluate.Bound.rank_at.Goals as goal
 
 pub overflow_mul-result : goal.overflow_mul-result
 overflow_mul-result c = let h : c.colour_at-a.result.colour ≤ 510 = omega arith in let i : c.size_in-size.result ≤ 255 = omega arith in omega (arith, mul-le-mul h i)
