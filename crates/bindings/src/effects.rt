@@ -15,11 +15,10 @@ pub fn has_effect(file: &[u8], plan: &[u32; 3584], env: &[u8; 32], t: usize) -> 
     ensures { (n : Net) (colours : List ℕ) → Prepared file.now n plan.now → t < length n.transitions
         → Binds n (binding t colours) env.now → result ≡ legal n (binding t colours) }
 {
-    let guard = guard_of(plan, t);
-    if guard < 1 {
-        return true;
+    match guard_of(plan, t) {
+        None => true,
+        Some(guard) => eval_guard(file, plan, env, 16, guard).holds,
     }
-    eval_guard(file, plan, env, 16, guard).holds
 }
 
 // Whether each of a transition's bindings has an effect, whatever its colours: it has no guard.
@@ -27,5 +26,5 @@ pub fn every_binding_has_row(plan: &[u32; 3584], t: usize) -> bool
     requires { t < 32 }
     ensures { result ≡ every_row plan.now t }
 {
-    guard_of(plan, t) < 1
+    guard_of(plan, t).is_none()
 }
