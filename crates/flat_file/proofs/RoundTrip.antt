@@ -15,7 +15,8 @@ use Rattle.reading.proofs.Parts.{Reading, begins, goes_on, ends}
 use Rattle.firing.specs.declared.Arc.{Arc}
 use Rattle.firing.specs.Arcs.{Row, row, Rising, none as risen, more, Proper}
 use Rattle.flat_file.specs.Flat.{Flat, Limits, place_part, rise, arc_part, row_part, read_flat, arc_bytes, row_bytes, write_flat}
-use Rattle.flat_file.proofs.Written.{word_there, byte_here, left, past, arc_there, place_bytes, arcs_bytes}
+use Rattle.flat_file.specs.internal.ReaderEnums.{arc_there}
+use Rattle.flat_file.proofs.Written.{word_there, byte_here, left, past, place_bytes, arcs_bytes}
 
 -- what is left begins with a row, or with the end of the file
 data Edge : List ℕ → Type 0 where
