@@ -1,13 +1,17 @@
 -- Two multisets joined rank by rank, and a multiset times a factor. Assumes nothing.
-use Rattle.std.specs.Prelude.{◌+◌, ◌*◌, ◌∷◌, ◌++◌, if◌then◌else◌}
+use Rattle.std.specs.Prelude.{◌+◌, ◌-◌, ◌*◌, ◌∷◌, ◌++◌, if◌then◌else◌}
 use mathlib.Core.Path.{◌≡◌, refl, sym, ap, ap₂, ◌∙◌}
 use Prim.Native.Nat.{◌≤◌, ◌<◌}
 use native.Mathlib.Omega.{arith}
-use borrow.Author.Tests.{le-leb, ltb-true, ltb-false, lt-ltb, le-ltb, eqb-true, eqb-false, eq-eqb, ne_eqb}
+use borrow.Author.Tests.{le-leb, lt-leb, ltb-true, ltb-false, lt-ltb, le-ltb, eqb-true, eqb-false, eq-eqb, ne_eqb}
 use mathlib.Core.List.{append-nil}
 use lib.ListN.{length-map}
 use Rattle.reading.specs.Basics.{ℕ, Bool, true, false, List, [], map, length, ltb, eqb}
-use Rattle.firing.specs.Arcs.{Arc}
+use Rattle.firing.specs.declared.Arc.{Arc}
+use Rattle.std.proofs.lemmas.Bool.{cases_lt}
+use Rattle.std.proofs.Common.{inl, inr}
+use Rattle.runs.specs.declared.Operator.{Operator}
+use Rattle.runs.specs.declared.Operator.TheVariants.{Plus, Minus}
 use Rattle.runs.specs.internal.Terms.{limit, term, count_in, Terms, none, more, join_one, joined, join_by, times_all}
 
 -- ---- terms by rising rank
@@ -15,7 +19,7 @@ use Rattle.runs.specs.internal.Terms.{limit, term, count_in, Terms, none, more, 
 pub count_below : {count from : ℕ} {l : List Arc} → Terms count from l → (rest rank : ℕ) → rank < from → count_in l rest rank ≡ rest
 unfolding count_in
 count_below none rest rank h = refl
-count_below (more {a = a} {l = l} x y t) rest rank h = rw (ne_eqb a.place rank (λ e. omega arith)) (count_below t rest rank (omega arith))
+count_below (more {a = a} {l = l} x y w t) rest rank h = rw (ne_eqb a.place rank (λ e. omega arith)) (count_below t rest rank (omega arith))
 
 -- the first term's rank has its count, another rank that of the terms after it
 pub count_here : (a : Arc) (l : List Arc) (rest rank : ℕ) → a.place ≡ rank → count_in (a ∷ l) rest rank ≡ a.weight
@@ -29,29 +33,40 @@ count_there a l rest rank h = rw (ne_eqb a.place rank h)
 -- terms from a rank on are terms from a lower one on
 pub terms_from : {count from : ℕ} {l : List Arc} → Terms count from l → (low : ℕ) → low ≤ from → Terms count low l
 terms_from none low h = none
-terms_from (more {a = a} x y t) low h = more {from = low} {a = a} (omega arith) y t
+terms_from (more {a = a} x y w t) low h = more {from = low} {a = a} (omega arith) y w t
 
--- the first term's rank, and the terms after it
+-- the first term's rank, and the terms after it; its count
 pub terms_split : {count from : ℕ} {a : Arc} {l : List Arc} → Terms count from (a ∷ l) → (from ≤ a.place) × (a.place < count) × Terms count (a.place + 1) l
-terms_split (more x y t) = (x, y, t)
+terms_split (more x y w t) = (x, y, t)
+
+pub terms_weight : {count from : ℕ} {a : Arc} {l : List Arc} → Terms count from (a ∷ l) → a.weight ≤ 65535
+terms_weight (more x y w t) = w
 
 -- from, the last term's rank is no less, and where that is below a number, all are
 terms_last : {count from : ℕ} (l : List Arc) (z : Arc) → Terms count from (l ++ (z ∷ [])) → from ≤ z.place
-terms_last [] z (more x y t) = x
-terms_last {from = from} (a ∷ l) z (more x y t) = let h = terms_last {from = a.place + 1} l z t in omega arith
+terms_last [] z (more x y w t) = x
+terms_last {from = from} (a ∷ l) z (more x y w t) = let h = terms_last {from = a.place + 1} l z t in omega arith
 
 pub terms-below : {count from : ℕ} (l : List Arc) (z : Arc) (below : ℕ) → Terms count from (l ++ (z ∷ [])) → z.place < below → Terms below from (l ++ (z ∷ []))
-terms-below [] z below (more x y t) h = more {a = z} x h none
-terms-below {from = from} (a ∷ l) z below (more x y t) h = let k = terms_last l z t in more {a = a} x (omega arith) (terms-below {from = a.place + 1} l z below t h)
+terms-below [] z below (more x y w t) h = more {a = z} x h w none
+terms-below {from = from} (a ∷ l) z below (more x y w t) h = let k = terms_last l z t in more {a = a} x (omega arith) w (terms-below {from = a.place + 1} l z below t h)
 
 -- those before the last lie below its rank; a front of them
 pub terms-before : {count from : ℕ} (l : List Arc) (z : Arc) → Terms count from (l ++ (z ∷ [])) → Terms z.place from l
 terms-before [] z t = none
-terms-before {from = from} (a ∷ l) z (more x y t) = let h = terms_last l z t in more {a = a} x (omega arith) (terms-before {from = a.place + 1} l z t)
+terms-before {from = from} (a ∷ l) z (more x y w t) = let h = terms_last l z t in more {a = a} x (omega arith) w (terms-before {from = a.place + 1} l z t)
 
 pub terms_front : {count from : ℕ} (l m : List Arc) → Terms count from (l ++ m) → Terms count from l
 terms_front [] m t = none
-terms_front {from = from} (a ∷ l) m (more x y t) = more {a = a} x y (terms_front {from = a.place + 1} l m t)
+terms_front {from = from} (a ∷ l) m (more x y w t) = more {a = a} x y w (terms_front {from = a.place + 1} l m t)
+
+-- ---- joined counts are u16 again
+pub limit_fits : (w : ℕ) → limit w ≤ 65535
+limit_fits w = elim (cases_lt 65535 w) [ inl h ↦ rw (lt-leb w 65535 h) (omega arith) | inr h ↦ rw (le-leb w 65535 h) h ]
+
+pub join_fits : (op : Operator) (a b : ℕ) → a ≤ 65535 → join_by op a b ≤ 65535
+join_fits Plus a b h = limit_fits (a + b)
+join_fits Minus a b h = omega arith
 
 -- ---- every count through a function
 module _ (g : ℕ → ℕ) where
@@ -67,16 +82,16 @@ module _ (g : ℕ → ℕ) where
       by true e = refl
       by false e = e
 
-  each_rises : {count from : ℕ} {l : List Arc} → Terms count from l → Terms count from (each l)
-  each_rises none = none
-  each_rises (more x y t) = more x y (each_rises t)
+  each_rises : ((w : ℕ) → g w ≤ 65535) → {count from : ℕ} {l : List Arc} → Terms count from l → Terms count from (each l)
+  each_rises fits none = none
+  each_rises fits (more {a = a} x y w t) = more x y (fits a.weight) (each_rises fits t)
 
 -- ---- a multiset times a factor
 pub times_counts : (factor : ℕ) (l : List Arc) (rest rank : ℕ) → count_in (times_all factor l) (limit (factor * rest)) rank ≡ limit (factor * count_in l rest rank)
 times_counts factor l rest rank = each_counts (λ c. limit (factor * c)) l rest rank
 
 pub times_rises : (factor : ℕ) {count from : ℕ} {l : List Arc} → Terms count from l → Terms count from (times_all factor l)
-times_rises factor t = each_rises (λ c. limit (factor * c)) t
+times_rises factor t = each_rises (λ c. limit (factor * c)) (λ w. limit_fits (factor * w)) t
 
 pub times_few : (factor : ℕ) (l : List Arc) → length (times_all factor l) ≡ length l
 times_few factor l = length-map l (λ a. term a.place (limit (factor * a.weight)))
@@ -137,15 +152,15 @@ module _ (f : ℕ → ℕ → ℕ) (p q : ℕ) where
   joined_few = joined_by (λ l m r. length r ≤ length l + length m) (λ m. let e = length-map m (λ b. term b.place (f p b.weight)) in omega arith)
       (λ a l r h. omega arith) (λ a l b m r k h. omega arith) (λ a l b m r k h. omega arith) (λ a l b m r k h. omega arith)
 
-  -- by rising rank
-  pub joined_rises : {count from : ℕ} {l m : List Arc} → Terms count from l → Terms count from m → Terms count from (joined f p q l m)
+  -- by rising rank, where joined counts are u16
+  pub joined_rises : ((a b : ℕ) → a ≤ 65535 → f a b ≤ 65535) → p ≤ 65535 → {count from : ℕ} {l m : List Arc} → Terms count from l → Terms count from m → Terms count from (joined f p q l m)
   unfolding joined
-  joined_rises {count} {from} {l} {m} t u =
-      joined_by (λ l m r. (from : ℕ) → Terms count from l → Terms count from m → Terms count from r) (λ m from t u. each_rises (f p) u)
-      (λ a l r h from t u. let (x, y, v) = terms_split t in more x y (h (a.place + 1) v none))
-      (λ a l b m r k h from t u. let (x, y, v) = terms_split t in let (x', y', w) = terms_split u in more x y (h (a.place + 1) v (more {a = b} (omega arith) y' w)))
-      (λ a l b m r k h from t u. let (x, y, v) = terms_split t in let (x', y', w) = terms_split u in more x' y' (h (b.place + 1) (more {a = a} (omega arith) y v) w))
-      (λ a l b m r k h from t u. let (x, y, v) = terms_split t in let (x', y', w) = terms_split u in more x y (h (a.place + 1) v (terms_from w (a.place + 1) (omega arith))))
+  joined_rises fits small {count} {from} {l} {m} t u =
+      joined_by (λ l m r. (from : ℕ) → Terms count from l → Terms count from m → Terms count from r) (λ m from t u. each_rises (f p) (λ w. fits p w small) u)
+      (λ a l r h from t u. let (x, y, v) = terms_split t in more x y (fits a.weight q (terms_weight t)) (h (a.place + 1) v none))
+      (λ a l b m r k h from t u. let (x, y, v) = terms_split t in let (x', y', w) = terms_split u in more x y (fits a.weight q (terms_weight t)) (h (a.place + 1) v (more {a = b} (omega arith) y' (terms_weight u) w)))
+      (λ a l b m r k h from t u. let (x, y, v) = terms_split t in let (x', y', w) = terms_split u in more x' y' (fits p b.weight small) (h (b.place + 1) (more {a = a} (omega arith) y (terms_weight t) v) w))
+      (λ a l b m r k h from t u. let (x, y, v) = terms_split t in let (x', y', w) = terms_split u in more x y (fits a.weight b.weight (terms_weight t)) (h (a.place + 1) v (terms_from w (a.place + 1) (omega arith))))
       l m from t u
 
   -- each rank has the counts of both, joined
@@ -170,7 +185,7 @@ module _ (f : ℕ → ℕ → ℕ) (p q : ℕ) where
     same_first a l b m r k h from t u =
         let (x, y, v) = terms_split t in
         let (x', y', w) = terms_split u in
-        let s : Terms count (a.place + 1) (b ∷ m) = more {from = a.place + 1} {a = b} (omega arith) y' w in
+        let s : Terms count (a.place + 1) (b ∷ m) = more {from = a.place + 1} {a = b} (omega arith) y' (terms_weight u) w in
         by_rank a.place
         (λ e. count_here (term a.place (f a.weight q)) r (f p q) rank e ∙ ap₂ f (sym (count_here a l p rank e)) (sym (count_below s q rank (omega arith))))
         (λ n. count_there (term a.place (f a.weight q)) r (f p q) rank n ∙ h (a.place + 1) v s ∙ ap (λ c. f c (count_in (b ∷ m) q rank)) (sym (count_there a l p rank n)))
@@ -179,7 +194,7 @@ module _ (f : ℕ → ℕ → ℕ) (p q : ℕ) where
     same_second a l b m r k h from t u =
         let (x, y, v) = terms_split t in
         let (x', y', w) = terms_split u in
-        let s : Terms count (b.place + 1) (a ∷ l) = more {from = b.place + 1} {a = a} (omega arith) y v in
+        let s : Terms count (b.place + 1) (a ∷ l) = more {from = b.place + 1} {a = a} (omega arith) y (terms_weight t) v in
         by_rank b.place
         (λ e. count_here (term b.place (f p b.weight)) r (f p q) rank e ∙ ap₂ f (sym (count_below s p rank (omega arith))) (sym (count_here b m q rank e)))
         (λ n. count_there (term b.place (f p b.weight)) r (f p q) rank n ∙ h (b.place + 1) s w ∙ ap (f (count_in (a ∷ l) p rank)) (sym (count_there b m q rank n)))
@@ -202,30 +217,25 @@ module _ (f : ℕ → ℕ → ℕ) (p q : ℕ) where
       joined_by (Same count rank) (same_start count rank) (same_last count rank) (same_first count rank) (same_second count rank) (same_both count rank) l m from t u
 
 -- ---- a sum of which the first lies wholly below the second
--- counts of which none is above 65,535
-abbrev pub Small : List Arc → Type 0
-Small [] = Unit {0}
-Small (a ∷ l) = (a.weight ≤ 65535) × Small l
-
 -- nothing is added to a count
 add_none : (a : Arc) (n : ℕ) → a.weight ≤ 65535 → n ≡ a.weight → term a.place (limit n) ≡ a
 add_none a n h e = rw (e, le-leb a.weight 65535 h)
 
-add_all : (m : List Arc) → Small m → joined (join_by false) 0 0 [] m ≡ m
+add_all : {count from : ℕ} {m : List Arc} → Terms count from m → joined (join_by Plus) 0 0 [] m ≡ m
 unfolding joined
-add_all [] s = refl
-add_all (a ∷ m) (h, s) = ap₂ ◌∷◌ (add_none a (0 + a.weight) h (omega arith)) (add_all m s)
+add_all none = refl
+add_all (more {a = a} x y w t) = ap₂ ◌∷◌ (add_none a (0 + a.weight) w (omega arith)) (add_all t)
 
 -- the terms of the first that lie wholly below the second stay; the others are joined with it
-pub joined_pass : {count from middle : ℕ} (l k m : List Arc) → Terms middle from l → Terms count middle m → Small l → joined (join_by false) 0 0 (l ++ k) m ≡ l ++ joined (join_by false) 0 0 k m
-joined_pass [] k m t u r = refl
-joined_pass {from = from} (a ∷ l) k [] (more x y t) u (h, r) = joined_last (join_by false) 0 0 a (l ++ k) ∙ ap₂ ◌∷◌ (add_none a (a.weight + 0) h (omega arith)) (joined_pass {from = a.place + 1} l k [] t u r)
-joined_pass {from = from} (a ∷ l) k (b ∷ m) (more x y t) u (h, r) =
+pub joined_pass : {count from middle : ℕ} (l k m : List Arc) → Terms middle from l → Terms count middle m → joined (join_by Plus) 0 0 (l ++ k) m ≡ l ++ joined (join_by Plus) 0 0 k m
+joined_pass [] k m t u = refl
+joined_pass {from = from} (a ∷ l) k [] (more x y w t) u = joined_last (join_by Plus) 0 0 a (l ++ k) ∙ ap₂ ◌∷◌ (add_none a (a.weight + 0) w (omega arith)) (joined_pass {from = a.place + 1} l k [] t u)
+joined_pass {from = from} (a ∷ l) k (b ∷ m) (more x y w t) u =
     let (x', y', v) = terms_split u in
-    joined-first (join_by false) 0 0 a (l ++ k) b m (omega arith) ∙ ap₂ ◌∷◌ (add_none a (a.weight + 0) h (omega arith)) (joined_pass {from = a.place + 1} l k (b ∷ m) t u r)
+    joined-first (join_by Plus) 0 0 a (l ++ k) b m (omega arith) ∙ ap₂ ◌∷◌ (add_none a (a.weight + 0) w (omega arith)) (joined_pass {from = a.place + 1} l k (b ∷ m) t u)
 
-pub joined_apart : {count from middle : ℕ} (l m : List Arc) → Terms middle from l → Terms count middle m → Small l → Small m → joined (join_by false) 0 0 l m ≡ l ++ m
-joined_apart l m t u r s = ap (λ k. joined (join_by false) 0 0 k m) (sym (append-nil l)) ∙ joined_pass l [] m t u r ∙ ap (λ k. l ++ k) (add_all m s)
+pub joined_apart : {count from middle : ℕ} (l m : List Arc) → Terms middle from l → Terms count middle m → joined (join_by Plus) 0 0 l m ≡ l ++ m
+joined_apart l m t u = ap (λ k. joined (join_by Plus) 0 0 k m) (sym (append-nil l)) ∙ joined_pass l [] m t u ∙ ap (λ k. l ++ k) (add_all u)
 
 -- ---- one term added
 -- a rank below the first term's
@@ -234,14 +244,15 @@ Under rank [] = Unit {0}
 Under rank (a ∷ l) = rank < a.place
 
 -- nothing added; one term added to terms of higher ranks, and to terms whose first has its rank
-add_nothing : (l : List Arc) → Small l → joined (join_by false) 0 0 l [] ≡ l
+add_nothing : {count from : ℕ} {l : List Arc} → Terms count from l → joined (join_by Plus) 0 0 l [] ≡ l
 unfolding joined
-add_nothing [] s = refl
-add_nothing (a ∷ l) (h, s) = joined_last (join_by false) 0 0 a l ∙ ap₂ ◌∷◌ (add_none a (a.weight + 0) h (omega arith)) (add_nothing l s)
+add_nothing none = refl
+add_nothing (more {a = a} {l = l} x y w t) = joined_last (join_by Plus) 0 0 a l ∙ ap₂ ◌∷◌ (add_none a (a.weight + 0) w (omega arith)) (add_nothing t)
 
-pub add_under : (b : Arc) (l : List Arc) → b.weight ≤ 65535 → Small l → Under b.place l → joined (join_by false) 0 0 l (b ∷ []) ≡ b ∷ l
-add_under b [] h s u = add_all (b ∷ []) (h, tt)
-add_under b (a ∷ l) h s u = joined_second (join_by false) 0 0 a l b [] u ∙ ap₂ ◌∷◌ (add_none b (0 + b.weight) h (omega arith)) (add_nothing (a ∷ l) s)
+pub add_under : {count from : ℕ} (b : Arc) (l : List Arc) → b.weight ≤ 65535 → Terms count from l → Under b.place l → joined (join_by Plus) 0 0 l (b ∷ []) ≡ b ∷ l
+unfolding joined
+add_under b [] h t u = ap (λ a. a ∷ []) (add_none b (0 + b.weight) h (omega arith))
+add_under b (a ∷ l) h t u = joined_second (join_by Plus) 0 0 a l b [] u ∙ ap₂ ◌∷◌ (add_none b (0 + b.weight) h (omega arith)) (add_nothing t)
 
-pub add_same : (a b : Arc) (l : List Arc) → Small l → a.place ≡ b.place → joined (join_by false) 0 0 (a ∷ l) (b ∷ []) ≡ term a.place (limit (a.weight + b.weight)) ∷ l
-add_same a b l s e = joined_both (join_by false) 0 0 a l b [] e ∙ ap (λ k. term a.place (limit (a.weight + b.weight)) ∷ k) (add_nothing l s)
+pub add_same : {count from : ℕ} (a b : Arc) (l : List Arc) → Terms count from l → a.place ≡ b.place → joined (join_by Plus) 0 0 (a ∷ l) (b ∷ []) ≡ term a.place (limit (a.weight + b.weight)) ∷ l
+add_same a b l t e = joined_both (join_by Plus) 0 0 a l b [] e ∙ ap (λ k. term a.place (limit (a.weight + b.weight)) ∷ k) (add_nothing t)

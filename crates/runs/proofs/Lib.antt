@@ -1,4 +1,2 @@
 pub mod Appending
 pub mod Joining
-pub mod Merging
-pub mod Inserting

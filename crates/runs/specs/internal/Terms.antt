@@ -1,9 +1,10 @@
 -- A multiset of ranks: terms, a rank with its count each, by rising rank; and one count that every other rank has.
-use Rattle.std.specs.Prelude.{◌≡◌, ◌≤◌, ◌<◌, ◌+◌, ◌-◌, ◌*◌, ◌∷◌, ◌++◌, if◌then◌else◌}
-use Rattle.reading.specs.Basics.{ℕ, Bool, false, List, [], map, length, get_or, take, ltb, leb, eqb}
-use Rattle.firing.specs.Arcs.{Arc}
+use Rattle.std.specs.Prelude.{◌≡◌, ◌≤◌, ◌<◌, ◌+◌, ◌-◌, ◌*◌, ◌∷◌, if◌then◌else◌}
+use Rattle.reading.specs.Basics.{ℕ, List, [], map, length, get_or, take, ltb, leb, eqb}
+use Rattle.firing.specs.declared.Arc.{Arc}
 use Rattle.firing.specs.internal.RowLists.{arcs_in}
-use Rattle.runs.specs.declared.Merged.{Merged}
+use Rattle.runs.specs.declared.Operator.{Operator}
+use Rattle.runs.specs.declared.Operator.TheVariants.{Plus, Minus}
 
 -- ---- terms
 -- a rank and its count
@@ -15,10 +16,10 @@ unfoldable pub count_in : List Arc → ℕ → ℕ → ℕ
 count_in [] rest rank = rest
 count_in (a ∷ l) rest rank = if eqb a.place rank then a.weight else count_in l rest rank
 
--- by rising rank, from a rank on, all below a number
+-- by rising rank, from a rank on, all below a number; each count is a u16
 pub data Terms (count : ℕ) : ℕ → List Arc → Type 0 where
   none : {from : ℕ} → Terms count from []
-  more : {from : ℕ} {a : Arc} {l : List Arc} → from ≤ a.place → a.place < count → Terms count (a.place + 1) l → Terms count from (a ∷ l)
+  more : {from : ℕ} {a : Arc} {l : List Arc} → from ≤ a.place → a.place < count → a.weight ≤ 65535 → Terms count (a.place + 1) l → Terms count from (a ∷ l)
 
 -- ---- two multisets joined, rank by rank; p and q are what every other rank has
 -- a term of the first among the terms of the second; go is what follows it
@@ -38,39 +39,25 @@ abbrev pub limit : ℕ → ℕ
 limit w = if leb w 65535 then w else 0
 
 -- the sum, or the first less the second
-abbrev pub join_by : Bool → ℕ → ℕ → ℕ
-join_by less a b = if less then a - b else limit (a + b)
+abbrev pub join_by : Operator → ℕ → ℕ → ℕ
+join_by Plus a b = limit (a + b)
+join_by Minus a b = a - b
 
 -- every count times a factor
 abbrev pub times_all : ℕ → List Arc → List Arc
 times_all factor l = map (λ a. term a.place (limit (factor * a.weight))) l
 
 -- ---- lent lists
--- two lent lists to which arcs were appended after so many, up to r
-pub record ArcsAppended (arcs : List Arc) (places amounts : List ℕ) (used : ℕ) (places' amounts' : List ℕ) (r : ℕ) : Type 0 where
-  pub front : take used places' ≡ take used places
-  pub fronts : take used amounts' ≡ take used amounts
-  pub are : arcs_in places' amounts' used r ≡ arcs
+-- a lent list to which arcs were appended after so many, up to r
+pub record ArcsAppended (arcs : List Arc) (l : List Arc) (used : ℕ) (l' : List Arc) (r : ℕ) : Type 0 where
+  pub front : take used l' ≡ take used l
+  pub are : arcs_in l' used r ≡ arcs
   pub end : r ≡ used + length arcs
-  pub size : length places' ≡ length places
-  pub sizes : length amounts' ≡ length amounts
-
--- all of the first run was joined with what of the second stands between, as a front of both joined; the rest is that of the second
-pub record MergedFirst (f : ℕ → ℕ → ℕ) (p q : ℕ) (ranks counts : List ℕ) (start middle end : ℕ) (ranks' counts' : List ℕ) (r : Merged) : Type 0 where
-  pub list : List Arc
-  pub lie : ArcsAppended list ranks counts end ranks' counts' r.end
-  pub left : list ++ joined f p q [] (arcs_in ranks counts r.second end) ≡ joined f p q (arcs_in ranks counts start middle) (arcs_in ranks counts middle end)
-  pub room : length list + (end - r.second) ≤ end - start
+  pub size : length l' ≡ length l
 
 -- two runs lie joined to their sum: nothing else has a count, and the second comes after the first
-pub record Apart (less : Bool) (ranks : List ℕ) (start middle end p q : ℕ) : Type 0 where
-  pub sum : less ≡ false
+pub record Apart (op : Operator) (first second : List Arc) (p q : ℕ) : Type 0 where
+  pub sum : op ≡ Plus
   pub none_first : p ≡ 0
   pub none_second : q ≡ 0
-  pub after : start < middle → middle < end → get_or ranks (middle - 1) 0 < get_or ranks middle 0
-
--- the elements of a list from a number up to an end were moved on by one, over the one at the end
-pub record MovedUp (l₀ : List ℕ) (from end : ℕ) (l : List ℕ) : Type 0 where
-  pub size : length l ≡ length l₀
-  pub front : take from l ≡ take from l₀
-  pub up : (n : ℕ) → from ≤ n → n < end → get_or l (n + 1) 0 ≡ get_or l₀ n 0
+  pub after : 0 < length first → 0 < length second → (get_or first (length first - 1) (term 0 0)).place < (get_or second 0 (term 0 0)).place
