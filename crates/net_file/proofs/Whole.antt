@@ -5,6 +5,7 @@ use Prim.Native.Nat.{◌≤◌, ◌<◌}
 use native.Mathlib.Omega.{arith}
 use borrow.Author.Tests.{lt-ltb, le-ltb, eq-eqb, ne_eqb}
 use lib.Seq.{length-take-le, get_or-take}
+use Rattle.std.proofs.lemmas.List.{get_or-map}
 use Rattle.reading.specs.Basics.{ℕ, List, [], some, length, get_or, take, eqb, byte_at}
 use Rattle.reading.proofs.Commands.{end, other, passes, done, fails, needed_past, needed_stray, needs_cut, needs_fails, needs_goes}
 use Rattle.reading.proofs.Lists.{any_in, any_out, one_in, not_one}
@@ -15,14 +16,13 @@ use Rattle.net_parts.specs.Parts.{set_part, variable_part, place_part, tokens_pa
 use Rattle.net_transitions.specs.Transitions.{transition_part}
 use Rattle.net_file.specs.NetFile.{content, read_net}
 use Rattle.net.specs.internal.ReaderEnums.{place_in}
-use Rattle.net_parts.specs.internal.Tables.{places_of, Started, TokensRead, TokensTold}
+use Rattle.net.specs.declared.PlaceSets.{PlaceSets}
+use Rattle.net_parts.specs.internal.Tables.{places_of, Started, TokensRead}
 use Rattle.net_transitions.specs.internal.TransitionTables.{over, TransitionsRead}
-use Rattle.net_parts.specs.declared.Part.{Part}
-use Rattle.net_parts.specs.declared.Part.TheVariants as part
+use Rattle.net_file.specs.declared.file.Tables.{Tables}
 use Rattle.net_file.specs.internal.NetTables.{opened, closed, NetHolds}
 use Rattle.net.proofs.Shut.{commands}
 use Rattle.net.proofs.Answers.{checked_goes, checked_stops}
-use Rattle.net_transitions.proofs.Arcing.{place_at_lem}
 
 -- ---- part after part
 -- what the reading of a file comes down to: what is left of its content, and the last command
@@ -98,27 +98,23 @@ pub started_over : {sets variables : List ℕ} {places : List Place} {ts : List 
     → Started (scope sets [] []) places starts count total → Started (net sets variables places ts tokens) places starts count total
 started_over h = record { few = h.few; small = h.small; are = h.are; all = h.all; begin = h.begin }
 
--- what is told of tokens that were read
-pub tokens_by : (s : List ℕ) (n : Net) (start : ℕ) (starts initial : List ℕ) {r : Part} {count total next : ℕ} → r ≡ part.Whole count total next
-    → TokensTold s n start starts initial r → TokensRead s n start starts initial next
-tokens_by s n start starts initial e h = rw e at h
+module _ (s : List ℕ) (x : Tables) {sets variables places total : ℕ} (few_sets : sets ≤ 16) (few_variables : variables ≤ 32)
+    (sized : length x.kinds ≡ 32)
+    (started : Started (scope (take sets x.sizes) [] []) (places_of (take places x.kinds)) x.starts places total) where
+  place_by_lem : (p : ℕ) (d : PlaceSets) → p < places → place_in (get_or x.kinds p d) ≡ get_or (places_of (take places x.kinds)) p (single 0)
+  unfolding places_of
+  place_by_lem p d lt =
+      let a = length-take-le places x.kinds (omega (arith, started.few)) in
+      ap place_in (sym (get_or-take places x.kinds p d lt)) ∙ sym (get_or-map place_in (take places x.kinds) p d (single 0) (omega arith))
 
-module _ (s sizes vars kinds starts : List ℕ) {sets variables places total : ℕ} (few_sets : sets ≤ 16) (few_variables : variables ≤ 32)
-    (sized : length kinds ≡ 32)
-    (started : Started (scope (take sets sizes) [] []) (places_of (take places kinds)) starts places total) where
-  place_by_lem : (p : ℕ) → p < places → place_in (get_or kinds p 0) ≡ get_or (places_of (take places kinds)) p (single 0)
-  place_by_lem p lt =
-      let a = length-take-le places kinds (omega (arith, started.few)) in
-      ap place_in (sym (get_or-take places kinds p 0 lt)) ∙ sym (place_at_lem (take places kinds) p (omega arith))
-
-  module _ (heads arcs : List ℕ) {at count space more : ℕ} (t : TransitionsRead s (over (take sets sizes) (take variables vars) (take places kinds)) at heads arcs count space more) where
+  module _ (arcs : List ℕ) {at count space more : ℕ} (t : TransitionsRead s (over (take sets x.sizes) (take variables x.vars) (take places x.kinds)) at x.heads arcs count space more) where
     -- the net that tokens are read over
     abbrev pub before_tokens : Net
-    before_tokens = net (take sets sizes) (take variables vars) (places_of (take places kinds)) t.transitions []
+    before_tokens = net (take sets x.sizes) (take variables x.vars) (places_of (take places x.kinds)) t.transitions []
 
-    pub tables : (initial : List ℕ) {end : ℕ} (k : TokensRead s before_tokens more starts initial end)
-        → NetHolds s (net (take sets sizes) (take variables vars) (places_of (take places kinds)) t.transitions k.tokens)
-        sizes vars kinds starts heads arcs initial sets variables places total count space
+    pub tables : (initial : List ℕ) {end : ℕ} (k : TokensRead s before_tokens more x.starts initial end)
+        → NetHolds s (net (take sets x.sizes) (take variables x.vars) (places_of (take places x.kinds)) t.transitions k.tokens)
+        x arcs initial (record { sets = sets; variables = variables; places = places; total = total; transitions = count; space = space })
     tables initial k = record {
       few_sets = few_sets;
       few_variables = few_variables;
@@ -129,7 +125,7 @@ module _ (s sizes vars kinds starts : List ℕ) {sets variables places total : �
       place_is = place_by_lem;
       started = started_over started;
       transitions_are = t.are;
-      wide = space_same (take sets sizes) (take variables vars) (places_of (take places kinds)) t.transitions k.tokens ∙ t.wide;
+      wide = space_same (take sets x.sizes) (take variables x.vars) (places_of (take places x.kinds)) t.transitions k.tokens ∙ t.wide;
       bounded = t.bounded;
       holds = t.holds;
       counts = k.holds;

@@ -3,4 +3,4 @@
 
 mod file;
 
-pub use file::{NetRead, read_net};
+pub use file::{Counts, Tables, read_net};

@@ -1,38 +1,33 @@
 -- What the reading of a whole net file tells, and what its tables hold.
-use Rattle.std.specs.Prelude.{◌≡◌, ◌≤◌, ◌<◌, ◌∷◌}
+use Rattle.std.specs.Prelude.{◌≡◌, ◌≤◌, ◌<◌, ◌∷◌, Result, Ok, Err}
 use Rattle.reading.specs.Basics.{ℕ, List, [], length, get_or, take, eqb, any, byte_at}
 use Rattle.reading.specs.Reading.{Answer, fine, fault, ◌and_then◌, accepted, refused, ◌unless◌, checked, command, needed}
+use Rattle.reading.specs.Refusals.{number_of, answered}
+use Rattle.reading.specs.declared.refusal.Refusal.{Refusal}
 use Rattle.net.specs.Net.{Net, place_at, binding_space, scope}
 use Rattle.net_file.specs.NetFile.{read_net}
 use Rattle.net.specs.internal.ReaderEnums.{place_in}
+use Rattle.net.specs.declared.PlaceSets.{PlaceSets}
 use Rattle.net_parts.specs.internal.Tables.{places_of, Started, Holds, count_of}
 use Rattle.net_transitions.specs.internal.TransitionTables.{TransitionsHold}
-use Rattle.net_parts.specs.declared.Part.{Part}
-use Rattle.net_parts.specs.declared.Part.TheVariants as part
-use Rattle.net_file.specs.declared.file.NetRead.{NetRead}
-use Rattle.net_file.specs.declared.file.NetRead.TheVariants as net_read_cases
+use Rattle.net_file.specs.declared.file.Tables.{Tables}
+use Rattle.net_file.specs.declared.file.Counts.{Counts}
 
 -- ---- the first and the last command
 abbrev pub opened : List ℕ → (ℕ → Answer Net) → Answer Net
 opened s content = needed s (command 0x01 1 ((5 unless any (eqb (byte_at s 1)) (1 ∷ [])) ∷ []) content ∷ []) 0
 
-abbrev pub open_told : (ℕ → Answer Net) → Part → Answer Net
-open_told content (part.Whole count total next) = content next
-open_told content (part.Fault number place) = fault number place
+abbrev pub open_told : (ℕ → Answer Net) → Result ℕ Refusal → Answer Net
+open_told content (Ok next) = content next
+open_told content (Err r) = fault (number_of r.reason) r.place
 
 abbrev pub closed : List ℕ → Net → ℕ → Answer Net
 closed s n at =
     needed s (command 0x1F 0 [] (fine n) ∷ []) at and_then λ a end.
     checked end ((15 unless eqb end (length s)) ∷ []) a end
 
-abbrev pub close_told : Net → Part → Answer Net
-close_told n (part.Whole count total next) = fine n next
-close_told n (part.Fault number place) = fault number place
-
--- a fault of a part refuses the file; a part without one gives no number of the list
-abbrev pub refusal : Part → NetRead
-refusal (part.Whole count total next) = net_read_cases.Refused 0 next
-refusal (part.Fault number place) = net_read_cases.Refused number place
+abbrev pub close_told : List ℕ → Net → Result (Unit {0}) Refusal → Answer Net
+close_told s n r = answered (λ u. n) (λ u. length s) r
 
 -- ---- the whole net
 -- the net that guards and arcs are read over: its sets, its variables and its places
@@ -40,28 +35,27 @@ abbrev pub drawn : Net → Net
 drawn n = scope n.sets n.variables n.places
 
 -- what the tables hold of a net, each fact by itself
-pub record NetHolds (s : List ℕ) (n : Net) (sizes vars kinds starts heads arcs initial : List ℕ) (sets variables places total transitions space : ℕ) : Type 0 where
-  pub few_sets : sets ≤ 16
-  pub few_variables : variables ≤ 32
-  pub few_transitions : transitions ≤ 32
-  pub sets_are : take sets sizes ≡ n.sets
-  pub variables_are : take variables vars ≡ n.variables
-  pub places_are : places_of (take places kinds) ≡ n.places
-  pub place_is : (p : ℕ) → p < places → place_in (get_or kinds p 0) ≡ place_at n p
-  pub started : Started n n.places starts places total
-  pub transitions_are : length n.transitions ≡ transitions
-  pub wide : binding_space n n.transitions ≡ space
-  pub bounded : space ≤ 65536
-  pub holds : TransitionsHold s (drawn n) n.transitions heads arcs
-  pub counts : Holds n n.tokens count_of starts initial
+pub record NetHolds (s : List ℕ) (n : Net) (t : Tables) (arcs initial : List ℕ) (c : Counts) : Type 0 where
+  pub few_sets : c.sets ≤ 16
+  pub few_variables : c.variables ≤ 32
+  pub few_transitions : c.transitions ≤ 32
+  pub sets_are : take c.sets t.sizes ≡ n.sets
+  pub variables_are : take c.variables t.vars ≡ n.variables
+  pub places_are : places_of (take c.places t.kinds) ≡ n.places
+  pub place_is : (p : ℕ) (d : PlaceSets) → p < c.places → place_in (get_or t.kinds p d) ≡ place_at n p
+  pub started : Started n n.places t.starts c.places c.total
+  pub transitions_are : length n.transitions ≡ c.transitions
+  pub wide : binding_space n n.transitions ≡ c.space
+  pub bounded : c.space ≤ 65536
+  pub holds : TransitionsHold s (drawn n) n.transitions t.heads arcs
+  pub counts : Holds n n.tokens count_of t.starts initial
 
 -- a file that is accepted: its net, and the tables over it
-pub record NetHeld (s : List ℕ) (sizes vars kinds starts heads arcs initial : List ℕ) (sets variables places total transitions space : ℕ) : Type 0 where
+pub record NetHeld (s : List ℕ) (t : Tables) (arcs initial : List ℕ) (c : Counts) : Type 0 where
   pub value : Net
   pub read : read_net s ≡ accepted value
-  pub holds : NetHolds s value sizes vars kinds starts heads arcs initial sets variables places total transitions space
+  pub holds : NetHolds s value t arcs initial c
 
-abbrev pub NetTold : List ℕ → List ℕ → List ℕ → List ℕ → List ℕ → List ℕ → List ℕ → List ℕ → NetRead → Type 0
-NetTold s sizes vars kinds starts heads arcs initial (net_read_cases.Whole sets variables places total transitions space) =
-    NetHeld s sizes vars kinds starts heads arcs initial sets variables places total transitions space
-NetTold s sizes vars kinds starts heads arcs initial (net_read_cases.Refused number place) = read_net s ≡ refused number place
+abbrev pub NetTold : List ℕ → Tables → List ℕ → List ℕ → Result Counts Refusal → Type 0
+NetTold s t arcs initial (Ok c) = NetHeld s t arcs initial c
+NetTold s t arcs initial (Err r) = read_net s ≡ refused (number_of r.reason) r.place
