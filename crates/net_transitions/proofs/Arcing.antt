@@ -1,5 +1,5 @@
 -- How arcs are read, and where the loop over them stands. Assumes nothing.
-use Rattle.std.specs.Prelude.{◌+◌, ◌*◌, ◌∷◌}
+use Rattle.std.specs.Prelude.{◌+◌, ◌*◌, ◌∷◌, Result, Ok, Err}
 use mathlib.Core.Path.{◌≡◌, refl, sym, ap, fun_ext, ◌∙◌}
 use mathlib.Core.Bool.{Bool, true, false, ◌&&◌, ◌||◌}
 use Prim.Native.Nat.{◌≤◌, ◌<◌, ◌-◌}
@@ -15,14 +15,17 @@ use Rattle.reading.proofs.Parts.{Reading, begins, goes_on, ends, stops}
 use Rattle.net.specs.Net.{Expression, Place, single, Arc, Net, place_at, arc_on, ceiling, in_expression, scope}
 use Rattle.net.specs.Reader.{width_of, read_expression}
 use Rattle.net_transitions.specs.Transitions.{arc_part}
-use Rattle.net.specs.internal.ReaderEnums.{bits, told, place_in}
+use Rattle.net.specs.internal.ReaderEnums.{bits, told, place_in, scope_of}
+use Rattle.net.specs.internal.ReaderEnums.{whole as whole_read}
 use Rattle.arc_expressions.specs.internal.ReaderEnums.{expression_told}
 use Rattle.net_parts.specs.internal.Tables.{places_of}
-use Rattle.net_transitions.specs.internal.TransitionTables.{over, Standing, Slot, RowHolds, ArcRead, ArcTold, ArcRoom, ArcsRead}
+use Rattle.net_transitions.specs.internal.TransitionTables.{Refuses, over, Standing, Slot, RowHolds, ArcRead, ArcsRead}
+use Rattle.reading.specs.declared.refusal.Refusal.{Refusal}
+use Rattle.reading.specs.Refusals.{reason_of}
 use Rattle.net.specs.declared.Read.{Read}
-use Rattle.net.specs.declared.Read.TheVariants as read
+use Rattle.net.specs.declared.PlaceSets.{PlaceSets}
+use Rattle.net.specs.declared.scope.Scope.{Scope}
 use Rattle.net_transitions.specs.declared.arc.ArcStep.{ArcStep}
-use Rattle.net_transitions.specs.declared.arc.ArcStep.TheVariants.{Done, More, Stop}
 use Rattle.net.proofs.Shut.{commands}
 use Rattle.net.proofs.Answers.{bits_or}
 use Rattle.net_parts.proofs.Placing.{length_places}
@@ -30,11 +33,16 @@ use Rattle.net_parts.proofs.Tokening.{find_new, find-same}
 use Rattle.net.proofs.Inside.{expression_ends}
 
 -- the place of a number, by its sets
-pub place_at_lem : (kinds : List ℕ) (p : ℕ) → p < length kinds → get_or (places_of kinds) p (single 0) ≡ place_in (get_or kinds p 0)
+pub place_at_lem : (kinds : List PlaceSets) (p : ℕ) (instead : PlaceSets) → p < length kinds → get_or (places_of kinds) p (single 0) ≡ place_in (get_or kinds p instead)
 unfolding places_of
-place_at_lem [] p lt = absurd (omega arith)
-place_at_lem (k ∷ kinds) zero lt = refl
-place_at_lem (k ∷ kinds) (suc p) lt = place_at_lem kinds p (omega arith)
+place_at_lem [] p instead lt = absurd (omega arith)
+place_at_lem (k ∷ kinds) zero instead lt = refl
+place_at_lem (k ∷ kinds) (suc p) instead lt = place_at_lem kinds p instead (omega arith)
+
+-- ---- refusals
+-- a fault goes through what follows it
+pub refuses_on : {A B : Type 0} (f : Answer A → Answer B) → ((k p : ℕ) → f (fault k p) ≡ fault k p) → {x : Answer A} {r : Refusal} → Refuses (some x) r → Refuses (some (f x)) r
+refuses_on f same {x} {r} h = let e : x ≡ fault h.number r.place = cc in record { number = h.number; is = ap some (ap f e ∙ same h.number r.place); reason = h.reason }
 
 -- ---- slots
 pub slot_empty : {A : Type 0} (reads : ℕ → Answer A) (o : Option A) (at : ℕ) → at ≡ 0 → Slot reads o at → o ≡ none
@@ -120,13 +128,13 @@ pub record Heard {A : Type 0} (stands : ℕ → A → Bool) (x : Answer A) (next
   pub used : uses ≡ bits (λ v. stands v value) 32
 
 module _ {A : Type 0} (measure : A → ℕ) (stands : ℕ → A → Bool) where
-  pub heard : (x : Answer A) {next m uses : ℕ} → read.Whole next m uses ≡ told measure stands x → Heard stands x next uses
-  heard (fine a n) e = record { value = a; is = cc; used = cc }
+  pub heard : (x : Answer A) {r : Read} → Ok r ≡ told measure stands x → Heard stands x r.next r.uses
+  heard (fine a n) {r} e = let q : r ≡ whole_read measure stands a n = cc in record { value = a; is = ap (λ k. fine a k) (sym (ap (λ w. w.next) q)); used = ap (λ w. w.uses) q }
   heard (fault k p) e = absurd (let w : ◌≡◌ {A = ℕ} 0 1 = cc in omega arith)
 
-  pub heard_fault : (x : Answer A) {k p : ℕ} → read.Fault k p ≡ told measure stands x → x ≡ fault k p
-  heard_fault (fine a n) e = cc
-  heard_fault (fault k p) e = cc
+  pub heard_fault : (x : Answer A) {r : Refusal} → Err r ≡ told measure stands x → Refuses (some x) r
+  heard_fault (fine a n) e = absurd (let w : ◌≡◌ {A = ℕ} 0 1 = cc in omega arith)
+  heard_fault (fault k p) {r} e = let q : r ≡ record { reason = reason_of k; place = p } = cc in record { number = k; is = ap (λ place. some (fault k place)) (sym (ap (λ w. w.place) q)); reason = sym (ap (λ w. w.reason) q) }
 
 -- ---- the slots of a transition's arcs
 module _ (s : List ℕ) (n : Net) (arcs : List Arc) (slot : ℕ → ℕ) (holds : RowHolds s n arcs slot) (k p : ℕ) (of_three : k < 3) (known : p < length n.places) where
@@ -173,11 +181,11 @@ module _ (s : List ℕ) (n : Net) (arcs : List Arc) (at : ℕ) (row : List ℕ) 
     goes : arc_part s n arcs at ≡ some (under (λ e. with arcs (record { kind = 0x16 + k; place = p; expression = e })) (read_expression s n (place_at n p) 16 (at + 2)))
     goes = arcs_go s n arcs at k of_three stands whole-there p place_is known (row_free s n arcs (λ i. get_or row i 0) holds k p of_three known free)
 
-    pub arc_fault : {number place : ℕ} → read.Fault number place ≡ expression_told (read_expression s n (place_at n p) 16 (at + 2)) → arc_part s n arcs at ≡ some (fault number place)
-    arc_fault e = rw (heard_fault ceiling in_expression (read_expression s n (place_at n p) 16 (at + 2)) e) at goes
+    pub arc_fault : {r : Refusal} → Err r ≡ expression_told (read_expression s n (place_at n p) 16 (at + 2)) → Refuses (arc_part s n arcs at) r
+    arc_fault e = rw goes (refuses_on (under (λ e. with arcs (record { kind = 0x16 + k; place = p; expression = e }))) (λ k p. refl) (heard_fault ceiling in_expression (read_expression s n (place_at n p) 16 (at + 2)) e))
 
-    pub arc_read : {next m uses : ℕ} → read.Whole next m uses ≡ expression_told (read_expression s n (place_at n p) 16 (at + 2)) → ArcRead s n arcs at row (k * 32 + p) uses next
-    arc_read {next} {m} {uses} e =
+    pub arc_read : {r : Read} → Ok r ≡ expression_told (read_expression s n (place_at n p) 16 (at + 2)) → ArcRead s n arcs at row (k * 32 + p) r.uses r.next
+    arc_read {r} e =
         let h = heard ceiling in_expression (read_expression s n (place_at n p) 16 (at + 2)) e in
         record {
           kind = k;
@@ -193,7 +201,7 @@ module _ (s : List ℕ) (n : Net) (arcs : List Arc) (at : ℕ) (row : List ℕ) 
         }
 
 -- a whole expression ends within the file
-pub expression_within : (s : List ℕ) (n : Net) (place : Place) (left at : ℕ) {next m uses : ℕ} → read.Whole next m uses ≡ expression_told (read_expression s n place left at) → (at < next) × (next ≤ length s)
+pub expression_within : (s : List ℕ) (n : Net) (place : Place) (left at : ℕ) {r : Read} → Ok r ≡ expression_told (read_expression s n place left at) → (at < r.next) × (r.next ≤ length s)
 expression_within s n place left at e =
     let h = heard ceiling in_expression (read_expression s n place left at) e in rw h.is at (expression_ends s n place left at)
 
@@ -220,102 +228,49 @@ pub record Arcing (s : List ℕ) (n : Net) (start : ℕ) (row : List ℕ) (uses 
   pub holds : RowHolds s n arcs (λ i. get_or row i 0)
   pub used : uses ≡ bits (λ v. any (λ a. in_expression v a.expression) arcs) 32
 
--- ---- a row set to 0, place by place
-pub record Cleared (row : List ℕ) (places : ℕ) : Type 0 where
-  pub sized : length row ≡ 96
-  pub zeros : (k p : ℕ) → k < 3 → p < places → get_or row (k * 32 + p) 0 ≡ 0
-
--- what is 0 but at one slot is 0 everywhere, when that is set to 0
-set_zero : (l : List ℕ) (j i : ℕ) → j < length l → ((i ≡ j → ⊥) → get_or l i 0 ≡ 0) → get_or (set l j 0) i 0 ≡ 0
-set_zero l j i inside others = go (eqb i j) refl
-  where
-    go : (t : Bool) → eqb i j ≡ t → get_or (set l j 0) i 0 ≡ 0
-    go true e = rw (eqb-true i j e) (get_or-set_same l j 0 0 inside)
-    go false e = get_or-set_other l j i 0 0 (eqb-false i j e) ∙ others (eqb-false i j e)
-
-pub cleared_begins : (row : List ℕ) → length row ≡ 96 → Cleared row 0
-cleared_begins row sized = record { sized = sized; zeros = λ k p hk hp. absurd (omega arith) }
-
-pub cleared_goes : {row : List ℕ} {q : ℕ} → Cleared row q → q < 32 → Cleared (set (set (set row q 0) (32 + q) 0) (64 + q) 0) (q + 1)
-cleared_goes {row} {q} l lt = record {
-  sized = third;
-  zeros = λ k p hk hp.
-      set_zero two (64 + q) (k * 32 + p) (omega (arith, second)) (λ c. set_zero one (32 + q) (k * 32 + p) (omega (arith, first)) (λ b. set_zero row q (k * 32 + p) (omega (arith, l.sized)) (λ a. l.zeros k p hk (below k p hk hp a b c))));
-}
-  where
-    one : List ℕ
-    one = set row q 0
-
-    two : List ℕ
-    two = set one (32 + q) 0
-
-    first : length one ≡ 96
-    first = length-set row q 0 ∙ l.sized
-
-    second : length two ≡ 96
-    second = length-set one (32 + q) 0 ∙ first
-
-    third : length (set two (64 + q) 0) ≡ 96
-    third = length-set two (64 + q) 0 ∙ second
-
-    below : (k p : ℕ) → k < 3 → p < q + 1 → (k * 32 + p ≡ q → ⊥) → (k * 32 + p ≡ 32 + q → ⊥) → (k * 32 + p ≡ 64 + q → ⊥) → p < q
-    below k p hk hp a b c = go (ltb p q) refl
-      where
-        none_else : (k : ℕ) → k < 3 → q ≤ p → (k * 32 + p ≡ q → ⊥) → (k * 32 + p ≡ 32 + q → ⊥) → (k * 32 + p ≡ 64 + q → ⊥) → ⊥
-        none_else zero h le a b c = a (omega arith)
-        none_else (suc zero) h le a b c = b (omega arith)
-        none_else (suc (suc zero)) h le a b c = c (omega arith)
-        none_else (suc (suc (suc k))) h le a b c = omega arith
-
-        go : (t : Bool) → ltb p q ≡ t → p < q
-        go true e = ltb-true p q e
-        go false e = absurd (none_else k hk (ltb-false p q e) a b c)
-
-pub arcing_begins : (s : List ℕ) (n : Net) (start : ℕ) (row : List ℕ) → length row ≡ 96 → ((k p : ℕ) → k < 3 → p < length n.places → get_or row (k * 32 + p) 0 ≡ 0) → Arcing s n start row 0 start
+pub arcing_begins : (s : List ℕ) (n : Net) (start : ℕ) (row : List ℕ) → length row ≡ 96 → ((i : ℕ) → i < 96 → get_or row i 0 ≡ 0) → length n.places ≤ 32 → Arcing s n start row 0 start
 unfolding find any bits
-arcing_begins s n start row sized zeros = record {
+arcing_begins s n start row sized zeros few = record {
   arcs = [];
   sized = sized;
   after = omega arith;
   within = λ h. h;
   reading = begins s (arc_part s n) [] start;
-  holds = zeros;
+  holds = λ k p hk hp. zeros (k * 32 + p) (omega arith);
   used = refl;
 }
 
-module _ {s : List ℕ} {n : Net} {start : ℕ} {row : List ℕ} {uses at : ℕ} (here : Arcing s n start row uses at) (r : ArcStep)
-    (is : (arcs : List Arc) → RowHolds s n arcs (λ i. get_or row i 0) → ArcTold s n arcs at row r) (room : ArcRoom (length s) at r) where
-  pub arcing_ends : r ≡ Done → ArcsRead s n start row uses at
-  arcing_ends e = record {
+module _ {s : List ℕ} {n : Net} {start : ℕ} {row : List ℕ} {uses at : ℕ} (here : Arcing s n start row uses at) where
+  pub arcing_ends : ((arcs : List Arc) → RowHolds s n arcs (λ i. get_or row i 0) → arc_part s n arcs at ≡ none) → ArcsRead s n start row uses at
+  arcing_ends is = record {
     arcs = here.arcs;
-    read = ends s (arc_part s n) here.reading (rw e at (is here.arcs here.holds));
+    read = ends s (arc_part s n) here.reading (is here.arcs here.holds);
     holds = here.holds;
     used = here.used;
   }
 
-  pub arcing_stops : {k p : ℕ} → r ≡ Stop k p → fault k p ≡ whole s (arc_part s n) [] start
-  arcing_stops e = stops s (arc_part s n) here.reading (rw e at room) (rw e at (is here.arcs here.holds))
+  pub arcing_stops : {r : Refusal} → ((arcs : List Arc) → RowHolds s n arcs (λ i. get_or row i 0) → Refuses (arc_part s n arcs at) r) → at < length s → Refuses (some (whole s (arc_part s n) [] start)) r
+  arcing_stops is inside = let h = is here.arcs here.holds in record { number = h.number; is = ap some (sym (stops s (arc_part s n) here.reading inside h.is)); reason = h.reason }
 
-  pub arcing_goes : length n.places ≤ 32 → {slot more next : ℕ} → r ≡ More slot more next → Arcing s n start (set row slot (at + 2)) (bit_or uses more) next
-  arcing_goes few {slot} {more} {next} e = go (rw e at (is here.arcs here.holds)) (rw e at room)
+  pub arcing_goes : length n.places ≤ 32 → {a : ArcStep} → ((arcs : List Arc) → RowHolds s n arcs (λ i. get_or row i 0) → ArcRead s n arcs at row a.slot a.uses a.next)
+      → (a.slot < 96) × (at + 2 < a.next) × (a.next ≤ length s) → Arcing s n start (set row a.slot (at + 2)) (bit_or uses a.uses) a.next
+  arcing_goes few {a} is b =
+      let h = is here.arcs here.holds in
+      let x : Arc = record { kind = 0x16 + h.kind; place = h.place; expression = h.expression } in
+      record {
+        arcs = with here.arcs x;
+        sized = length-set row a.slot (at + 2) ∙ here.sized;
+        after = omega (arith, here.after, b.1);
+        within = λ w. b.2;
+        reading = goes_on s (arc_part s n) (with here.arcs x) a.next here.reading (omega (arith, b.1)) b.2 h.goes;
+        holds = rw h.is (row_more s n here.arcs row here.holds few here.sized h.kind h.place (at + 2) h.expression h.of_three h.known (omega arith)
+            (record { next = a.next; reads = h.reads }) (rw h.is at h.free));
+        used = joined x here.used h.used;
+      }
     where
-      joined : (x : Arc) → uses ≡ bits (λ v. any (λ a. in_expression v a.expression) here.arcs) 32 → more ≡ bits (λ v. in_expression v x.expression) 32
-          → bit_or uses more ≡ bits (λ v. any (λ a. in_expression v a.expression) (with here.arcs x)) 32
+      joined : (x : Arc) → uses ≡ bits (λ v. any (λ a. in_expression v a.expression) here.arcs) 32 → a.uses ≡ bits (λ v. in_expression v x.expression) 32
+          → bit_or uses a.uses ≡ bits (λ v. any (λ a. in_expression v a.expression) (with here.arcs x)) 32
       joined x p q = rw (p, q, bits_or) (ap (λ f. bits f 32) (fun_ext (λ v. sym (any-with (λ a. in_expression v a.expression) here.arcs x))))
-
-      go : ArcRead s n here.arcs at row slot more next → (slot < 96) × (at + 2 < next) × (next ≤ length s) → Arcing s n start (set row slot (at + 2)) (bit_or uses more) next
-      go h b =
-          let x : Arc = record { kind = 0x16 + h.kind; place = h.place; expression = h.expression } in
-          record {
-            arcs = with here.arcs x;
-            sized = length-set row slot (at + 2) ∙ here.sized;
-            after = omega (arith, here.after, b.1);
-            within = λ w. b.2;
-            reading = goes_on s (arc_part s n) (with here.arcs x) next here.reading (omega (arith, b.1)) b.2 h.goes;
-            holds = rw h.is (row_more s n here.arcs row here.holds few here.sized h.kind h.place (at + 2) h.expression h.of_three h.known (omega arith)
-                (record { next = next; reads = h.reads }) (rw h.is at h.free));
-            used = joined x here.used h.used;
-          }
 
 -- ---- a step of the code, over places by their sets
 module _ (s : List ℕ) (at : ℕ) (low : 0x16 ≤ byte_at s at) (high : byte_at s at ≤ 0x18) where
@@ -331,38 +286,46 @@ module _ (s : List ℕ) (at : ℕ) (low : 0x16 ≤ byte_at s at) (high : byte_at
   after-arc {next} is-next =
       by_kind (λ k. byte_at s at ≡ 0x16 + k → next ≡ at + 2) (byte_at s at - 0x16) kind_is (λ e. is-next 1 (ap width_of e)) (λ e. is-next 1 (ap width_of e)) (λ e. is-next 1 (ap width_of e)) stands_there
 
-module _ (s sizes vars kinds row : List ℕ) (at : ℕ) (low : 0x16 ≤ byte_at s at) (high : byte_at s at ≤ 0x18) {next : ℕ} (is-next : next ≡ at + 2) where
-  pub step_cut : length s < next → (arcs : List Arc) → arc_part s (over sizes vars kinds) arcs at ≡ some (fault 2 (length s))
-  step_cut lt arcs = arcs_cut s (over sizes vars kinds) arcs at (byte_at s at - 0x16) (kind_is s at low high) (stands_there s at low high) (rw is-next at lt)
+module _ (scope : Scope) (kinds : List PlaceSets) (row : List ℕ) (at : ℕ) (low : 0x16 ≤ byte_at scope.file.now at) (high : byte_at scope.file.now at ≤ 0x18) {next : ℕ} (is-next : next ≡ at + 2) where
+  abbrev s : List ℕ
+  s = scope.file.now
+
+  abbrev n : Net
+  n = over scope kinds
+
+  abbrev kind : ℕ
+  kind = byte_at s at - 0x16
+
+  abbrev place : ℕ
+  place = byte_at s (at + 1)
+
+  pub step_cut : length s < next → (arcs : List Arc) → arc_part s n arcs at ≡ some (fault 2 (length s))
+  step_cut lt arcs = arcs_cut s n arcs at kind (kind_is s at low high) (stands_there s at low high) (rw is-next at lt)
 
   module _ (whole-there : next ≤ length s) where
-    pub step_no_place : length kinds ≤ byte_at s (at + 1) → (arcs : List Arc) → arc_part s (over sizes vars kinds) arcs at ≡ some (fault 5 at)
-    step_no_place le arcs =
-        arcs_no_place s (over sizes vars kinds) arcs at (byte_at s at - 0x16) (kind_is s at low high) (stands_there s at low high) (rw is-next at whole-there) (byte_at s (at + 1)) refl (rw (length_places kinds) le)
+    pub step_no_place : length kinds ≤ place → (arcs : List Arc) → arc_part s n arcs at ≡ some (fault 5 at)
+    step_no_place le arcs = arcs_no_place s n arcs at kind (kind_is s at low high) (stands_there s at low high) (rw is-next at whole-there) place refl (rw (length_places kinds) le)
 
-    module _ (lt : byte_at s (at + 1) < length kinds) where
-      known_place : byte_at s (at + 1) < length (places_of kinds)
+    module _ (lt : place < length kinds) where
+      known_place : place < length (places_of kinds)
       known_place = rw (length_places kinds) lt
 
-      pub step_again : 0 < get_or row ((byte_at s at - 0x16) * 32 + byte_at s (at + 1)) 0 → (arcs : List Arc) → RowHolds s (over sizes vars kinds) arcs (λ i. get_or row i 0) → arc_part s (over sizes vars kinds) arcs at ≡ some (fault 9 at)
-      step_again full arcs holds = arc_again s (over sizes vars kinds) arcs at row holds (byte_at s at - 0x16) (kind_is s at low high) (stands_there s at low high) (rw is-next at whole-there) (byte_at s (at + 1)) refl known_place full
+      pub step_again : 0 < get_or row (kind * 32 + place) 0 → (arcs : List Arc) → RowHolds s n arcs (λ i. get_or row i 0) → arc_part s n arcs at ≡ some (fault 9 at)
+      step_again full arcs holds = arc_again s n arcs at row holds kind (kind_is s at low high) (stands_there s at low high) (rw is-next at whole-there) place refl known_place full
 
-      module _ (free : get_or row ((byte_at s at - 0x16) * 32 + byte_at s (at + 1)) 0 ≡ 0) {r : Read}
-          (e : (places : List Place) → r ≡ expression_told (read_expression s (scope sizes vars places) (place_in (get_or kinds (byte_at s (at + 1)) 0)) 16 next)) where
-        told_there : r ≡ expression_told (read_expression s (over sizes vars kinds) (place_at (over sizes vars kinds) (byte_at s (at + 1))) 16 (at + 2))
-        told_there = rw (place_at_lem kinds (byte_at s (at + 1)) lt) (rw is-next at (e (places_of kinds)))
+      module _ (free : get_or row (kind * 32 + place) 0 ≡ 0) (instead : PlaceSets) {x : Result Read Refusal}
+          (e : (places : List Place) → x ≡ expression_told (read_expression s (scope_of scope places) (place_in (get_or kinds place instead)) 16 next)) where
+        told_there : x ≡ expression_told (read_expression s n (place_at n place) 16 (at + 2))
+        told_there = rw (place_at_lem kinds place instead lt) (rw is-next at (e (places_of kinds)))
 
-        pub step_fault : {k p : ℕ} → r ≡ read.Fault k p → (arcs : List Arc) → RowHolds s (over sizes vars kinds) arcs (λ i. get_or row i 0) → arc_part s (over sizes vars kinds) arcs at ≡ some (fault k p)
-        step_fault q arcs holds =
-            arc_fault s (over sizes vars kinds) arcs at row holds (byte_at s at - 0x16) (kind_is s at low high) (stands_there s at low high) (rw is-next at whole-there) (byte_at s (at + 1)) refl known_place free (sym q ∙ told_there)
+        pub step_fault : {r : Refusal} → x ≡ Err r → (arcs : List Arc) → RowHolds s n arcs (λ i. get_or row i 0) → Refuses (arc_part s n arcs at) r
+        step_fault q arcs holds = arc_fault s n arcs at row holds kind (kind_is s at low high) (stands_there s at low high) (rw is-next at whole-there) place refl known_place free (sym q ∙ told_there)
 
-        pub step_read : {end m uses : ℕ} → r ≡ read.Whole end m uses → (arcs : List Arc) → RowHolds s (over sizes vars kinds) arcs (λ i. get_or row i 0)
-            → ArcRead s (over sizes vars kinds) arcs at row ((byte_at s at - 0x16) * 32 + byte_at s (at + 1)) uses end
-        step_read q arcs holds =
-            arc_read s (over sizes vars kinds) arcs at row holds (byte_at s at - 0x16) (kind_is s at low high) (stands_there s at low high) (rw is-next at whole-there) (byte_at s (at + 1)) refl known_place free (sym q ∙ told_there)
+        pub step_read : {r : Read} → x ≡ Ok r → (arcs : List Arc) → RowHolds s n arcs (λ i. get_or row i 0) → ArcRead s n arcs at row (kind * 32 + place) r.uses r.next
+        step_read q arcs holds = arc_read s n arcs at row holds kind (kind_is s at low high) (stands_there s at low high) (rw is-next at whole-there) place refl known_place free (sym q ∙ told_there)
 
-        pub step_within : {end m uses : ℕ} → r ≡ read.Whole end m uses → (at + 2 < end) × (end ≤ length s)
-        step_within q = expression_within s (over sizes vars kinds) (place_at (over sizes vars kinds) (byte_at s (at + 1))) 16 (at + 2) (sym q ∙ told_there)
+        pub step_within : {r : Read} → x ≡ Ok r → (at + 2 < r.next) × (r.next ≤ length s)
+        step_within q = expression_within s n (place_at n place) 16 (at + 2) (sym q ∙ told_there)
 
 -- ---- for callers: what a slot says of the arc of a kind on a place
 pub record ArcThere (s : List ℕ) (n : Net) (arcs : List Arc) (k p at : ℕ) : Type 0 where

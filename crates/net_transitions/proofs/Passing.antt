@@ -7,61 +7,40 @@ use native.Mathlib.Omega.{arith}
 use native.Mathlib.Nat.{eq-or-lt_of_le}
 use lib.ListN.{set, length-set, length-append, get_or-append}
 use lib.Seq.{get_or-append_seam, get_or-set_same, get_or-set_other}
-use Rattle.reading.specs.Basics.{ℕ, List, [], length, get_or, with}
-use Rattle.reading.specs.Reading.{fault, whole}
+use Rattle.reading.specs.Basics.{ℕ, List, [], none, some, length, get_or, with}
+use Rattle.reading.specs.Reading.{whole}
 use Rattle.reading.proofs.Parts.{Reading, begins, goes_on, ends, stops}
 use Rattle.net.specs.Net.{Transition, Net, binding_space, no_transition}
 use Rattle.net_transitions.specs.Transitions.{transition_part}
-use Rattle.net_transitions.specs.internal.TransitionTables.{TransitionHolds, TransitionRead, TransitionTold, TransitionRoom, TransitionFew, TransitionsHold, TransitionsRead}
+use Rattle.net_transitions.specs.internal.TransitionTables.{Refuses, TransitionHolds, TransitionRead, no_head, TransitionsHold, TransitionsRead}
 use Rattle.net_transitions.specs.declared.transition.TransitionStep.{TransitionStep}
-use Rattle.net_transitions.specs.declared.transition.TransitionStep.TheVariants.{Done, More, Stop}
+use Rattle.net_transitions.specs.declared.transitions.Head.{Head}
+use Rattle.reading.specs.declared.refusal.Refusal.{Refusal}
 use Rattle.net_transitions.proofs.Transitioning.{row_same}
 
--- a transition's variables and its guard's place put down: the entries are there, and those before are as they were
-abbrev pub headed : List ℕ → ℕ → ℕ → ℕ → List ℕ
-headed heads count used guard = set (set heads count used) (32 + count) guard
-
-module _ (heads : List ℕ) (count used guard : ℕ) (lt : count < 32) (sized : length heads ≡ 64) where
-  headed_sized : length (headed heads count used guard) ≡ 64
-  headed_sized = length-set (set heads count used) (32 + count) guard ∙ length-set heads count used ∙ sized
-
-  headed_guard : get_or (headed heads count used guard) (32 + count) 0 ≡ guard
-  headed_guard = get_or-set_same (set heads count used) (32 + count) guard 0 (omega (arith, length-set heads count used))
-
-  headed_uses : get_or (headed heads count used guard) count 0 ≡ used
-  headed_uses = get_or-set_other (set heads count used) (32 + count) count guard 0 (λ z. omega arith) ∙ get_or-set_same heads count used 0 (omega arith)
-
-  headed_other : (i : ℕ) → (i ≡ count → ⊥) → (i ≡ 32 + count → ⊥) → get_or (headed heads count used guard) i 0 ≡ get_or heads i 0
-  headed_other i ne nf = get_or-set_other (set heads count used) (32 + count) i guard 0 nf ∙ get_or-set_other heads count i used 0 ne
-
 -- one more transition, with its row in the table
-module _ (s : List ℕ) (n : Net) (few : length n.places ≤ 32) (heads arcs left : List ℕ) (ts : List Transition) (count : ℕ) (are : length ts ≡ count)
-    (room : count < 32) (sized : length heads ≡ 64) (kept : (i : ℕ) → i < count * 96 → get_or left i 0 ≡ get_or arcs i 0) where
-  pub transitions_more : (x : Transition) (guard used : ℕ) → TransitionHolds s n x guard used (λ i. get_or left (count * 96 + i) 0) → TransitionsHold s n ts heads arcs
-      → TransitionsHold s n (with ts x) (headed heads count used guard) left
-  transitions_more x guard used new here t lt = ⊎_elim last earlier (eq-or-lt_of_le (let h : t ≤ count = omega (arith, length-append ts (x ∷ [])) in h))
+module _ (s : List ℕ) (n : Net) (few : length n.places ≤ 32) (heads : List Head) (arcs left : List ℕ) (ts : List Transition) (count : ℕ) (are : length ts ≡ count)
+    (room : count < 32) (sized : length heads ≡ 32) (kept : (i : ℕ) → i < count * 96 → get_or left i 0 ≡ get_or arcs i 0) where
+  pub transitions_more : (x : Transition) (h : Head) → TransitionHolds s n x h.guard h.uses (λ i. get_or left (count * 96 + i) 0) → TransitionsHold s n ts heads arcs
+      → TransitionsHold s n (with ts x) (set heads count h) left
+  transitions_more x h new here t lt = ⊎_elim last earlier (eq-or-lt_of_le (let h : t ≤ count = omega (arith, length-append ts (x ∷ [])) in h))
     where
-      now : List ℕ
-      now = headed heads count used guard
+      now : List Head
+      now = set heads count h
 
-      is_there : TransitionHolds s n (get_or (with ts x) count no_transition) (get_or now (32 + count) 0) (get_or now count 0) (λ i. get_or left (count * 96 + i) 0)
+      is_there : TransitionHolds s n (get_or (with ts x) count no_transition) (get_or now count no_head).guard (get_or now count no_head).uses (λ i. get_or left (count * 96 + i) 0)
       is_there = rw (
         ap (λ k. get_or (with ts x) k no_transition) (sym are) ∙ get_or-append_seam ts x [] no_transition,
-        headed_guard heads count used guard room sized,
-        headed_uses heads count used guard room sized,
+        get_or-set_same heads count h no_head (omega arith),
       ) new
 
-      last : t ≡ count → TransitionHolds s n (get_or (with ts x) t no_transition) (get_or now (32 + t) 0) (get_or now t 0) (λ i. get_or left (t * 96 + i) 0)
+      last : t ≡ count → TransitionHolds s n (get_or (with ts x) t no_transition) (get_or now t no_head).guard (get_or now t no_head).uses (λ i. get_or left (t * 96 + i) 0)
       last e = rw e is_there
 
-      earlier : t < count → TransitionHolds s n (get_or (with ts x) t no_transition) (get_or now (32 + t) 0) (get_or now t 0) (λ i. get_or left (t * 96 + i) 0)
+      earlier : t < count → TransitionHolds s n (get_or (with ts x) t no_transition) (get_or now t no_head).guard (get_or now t no_head).uses (λ i. get_or left (t * 96 + i) 0)
       earlier l =
           let old = here t (omega arith) in
-          rw (
-            get_or-append ts (x ∷ []) no_transition t (omega arith),
-            headed_other heads count used guard room sized (32 + t) (λ z. omega arith) (λ z. omega arith),
-            headed_other heads count used guard room sized t (λ z. omega arith) (λ z. omega arith),
-          )
+          rw (get_or-append ts (x ∷ []) no_transition t (omega arith), get_or-set_other heads count t h no_head (λ z. omega arith))
           (record {
             guarded = old.guarded;
             arced = row_same s n few (λ i. get_or arcs (t * 96 + i) 0) (λ i. get_or left (t * 96 + i) 0) (λ i z. sym (kept (t * 96 + i) (omega arith))) _ old.arced;
@@ -70,7 +49,7 @@ module _ (s : List ℕ) (n : Net) (few : length n.places ≤ 32) (heads arcs lef
           })
 
 -- the rows of the transitions so far are as they were
-pub transitions_kept : (s : List ℕ) (n : Net) → length n.places ≤ 32 → (heads arcs left : List ℕ) (ts : List Transition) (count : ℕ) → length ts ≡ count
+pub transitions_kept : (s : List ℕ) (n : Net) → length n.places ≤ 32 → (heads : List Head) (arcs left : List ℕ) (ts : List Transition) (count : ℕ) → length ts ≡ count
     → ((i : ℕ) → i < count * 96 → get_or left i 0 ≡ get_or arcs i 0) → TransitionsHold s n ts heads arcs → TransitionsHold s n ts heads left
 transitions_kept s n few heads arcs left ts count are kept here t lt =
     let old = here t lt in
@@ -81,8 +60,8 @@ transitions_kept s n few heads arcs left ts count are kept here t lt =
       few = old.few;
     }
 
-pub record Passing (s : List ℕ) (n : Net) (start : ℕ) (heads arcs : List ℕ) (count space at : ℕ) : Type 0 where
-  pub sized : length heads ≡ 64
+pub record Passing (s : List ℕ) (n : Net) (start : ℕ) (heads : List Head) (arcs : List ℕ) (count space at : ℕ) : Type 0 where
+  pub sized : length heads ≡ 32
   pub arcs_sized : length arcs ≡ 3072
   pub transitions : List Transition
   pub are : length transitions ≡ count
@@ -92,7 +71,7 @@ pub record Passing (s : List ℕ) (n : Net) (start : ℕ) (heads arcs : List ℕ
   pub reading : Reading s (transition_part s n) transitions at (whole s (transition_part s n) [] start)
   pub holds : TransitionsHold s n transitions heads arcs
 
-pub passing_begins : (s : List ℕ) (n : Net) (start : ℕ) (heads arcs : List ℕ) → length heads ≡ 64 → length arcs ≡ 3072 → Passing s n start heads arcs 0 0 start
+pub passing_begins : (s : List ℕ) (n : Net) (start : ℕ) (heads : List Head) (arcs : List ℕ) → length heads ≡ 32 → length arcs ≡ 3072 → Passing s n start heads arcs 0 0 start
 passing_begins s n start heads arcs a c = record {
   sized = a;
   arcs_sized = c;
@@ -105,16 +84,13 @@ passing_begins s n start heads arcs a c = record {
   holds = λ t lt. absurd (omega arith);
 }
 
-module _ {s : List ℕ} {n : Net} {start : ℕ} {heads arcs : List ℕ} {count space at : ℕ} (here : Passing s n start heads arcs count space at) (left : List ℕ) (r : TransitionStep)
-    (is : (ts : List Transition) → length ts ≡ count → binding_space n ts ≡ space → TransitionTold s n ts (transition_part s n ts at) (λ i. get_or left (count * 96 + i) 0) r)
-    (room : TransitionRoom (length s) at r) (below : TransitionFew count r) (kept : (i : ℕ) → i < count * 96 → get_or left i 0 ≡ get_or arcs i 0) where
-  said : TransitionTold s n here.transitions (transition_part s n here.transitions at) (λ i. get_or left (count * 96 + i) 0) r
-  said = is here.transitions here.are here.wide
-
-  pub passing_ends : length n.places ≤ 32 → r ≡ Done → TransitionsRead s n start heads left count space at
-  passing_ends small e = record {
+module _ {s : List ℕ} {n : Net} {start : ℕ} {heads : List Head} {arcs : List ℕ} {count space at : ℕ} (here : Passing s n start heads arcs count space at) (left : List ℕ)
+    (kept : (i : ℕ) → i < count * 96 → get_or left i 0 ≡ get_or arcs i 0) where
+  pub passing_ends : length n.places ≤ 32 → ((ts : List Transition) → length ts ≡ count → binding_space n ts ≡ space → transition_part s n ts at ≡ none)
+      → TransitionsRead s n start heads left count space at
+  passing_ends small is = record {
     transitions = here.transitions;
-    read = ends s (transition_part s n) here.reading (rw e at said);
+    read = ends s (transition_part s n) here.reading (is here.transitions here.are here.wide);
     are = here.are;
     few = here.few;
     wide = here.wide;
@@ -122,24 +98,26 @@ module _ {s : List ℕ} {n : Net} {start : ℕ} {heads arcs : List ℕ} {count s
     holds = transitions_kept s n small heads arcs left here.transitions count here.are kept here.holds;
   }
 
-  pub passing_stops : {k p : ℕ} → r ≡ Stop k p → fault k p ≡ whole s (transition_part s n) [] start
-  passing_stops e = stops s (transition_part s n) here.reading (rw e at room) (rw e at said)
+  pub passing_stops : {r : Refusal} → ((ts : List Transition) → length ts ≡ count → binding_space n ts ≡ space → Refuses (transition_part s n ts at) r) → at < length s
+      → Refuses (some (whole s (transition_part s n) [] start)) r
+  passing_stops is inside =
+      let h = is here.transitions here.are here.wide in record { number = h.number; is = ap some (sym (stops s (transition_part s n) here.reading inside h.is)); reason = h.reason }
 
-  pub passing_goes : length n.places ≤ 32 → length left ≡ 3072 → {guard used more next : ℕ} → r ≡ More guard used more next
-      → Passing s n start (headed heads count used guard) left (count + 1) more next
-  passing_goes small left-sized {guard} {used} {more} {next} e = go (rw e at said) (rw e at room) (rw e at below)
-    where
-      go : TransitionRead s n here.transitions (transition_part s n here.transitions at) (λ i. get_or left (count * 96 + i) 0) guard used more next
-          → (more ≤ 65536) × (at < next) × (next ≤ length s) → count < 32 → Passing s n start (headed heads count used guard) left (count + 1) more next
-      go h b lt = record {
-        sized = headed_sized heads count used guard lt here.sized;
+  pub passing_goes : length n.places ≤ 32 → length left ≡ 3072 → {t : TransitionStep}
+      → ((ts : List Transition) → length ts ≡ count → binding_space n ts ≡ space → TransitionRead s n ts (transition_part s n ts at) (λ i. get_or left (count * 96 + i) 0) t.guard t.uses t.space t.next)
+      → (t.space ≤ 65536) × (at < t.next) × (t.next ≤ length s) → count < 32
+      → Passing s n start (set heads count (record { uses = t.uses; guard = t.guard })) left (count + 1) t.space t.next
+  passing_goes small left-sized {t} is b lt =
+      let h = is here.transitions here.are here.wide in
+      record {
+        sized = length-set heads count (record { uses = t.uses; guard = t.guard }) ∙ here.sized;
         arcs_sized = left-sized;
         transitions = with here.transitions h.transition;
         are = length-append here.transitions (h.transition ∷ []) ∙ ap (λ k. k + 1) here.are;
         few = omega arith;
         wide = h.wide;
         bounded = b.0;
-        reading = goes_on s (transition_part s n) (with here.transitions h.transition) next here.reading b.1 b.2 h.goes;
+        reading = goes_on s (transition_part s n) (with here.transitions h.transition) t.next here.reading b.1 b.2 h.goes;
         holds = transitions_more s n small heads arcs left here.transitions count here.are lt here.sized kept
-            h.transition guard used h.holds here.holds;
+            h.transition (record { uses = t.uses; guard = t.guard }) h.holds here.holds;
       }

@@ -12,6 +12,8 @@ use Rattle.net.specs.Net.{Net, Transition, size_of, sizes_of, variables_of, bind
 use Rattle.net.specs.internal.ReaderEnums.{bits, member, size_in}
 use Rattle.net.proofs.Answers.{bits_lt}
 use Rattle.net_parts.proofs.Totals.{sum-with}
+use Rattle.std.specs.List.{count_by, range_with_len}
+use Rattle.std.proofs.lemmas.List.Recursion.{is_count_by}
 
 -- ---- members of a set of bits
 -- a higher bit does not change a lower one
@@ -128,32 +130,34 @@ module _ (p : ℕ → Bool) where
   product_leaves f n e = product_next f n ∙ ap (λ t. product (map f (keep p (below n))) * (if t then f n else 1)) (sym e) ∙ mul-one _
 
 -- ---- what the loops keep
--- so many of the variables before v are in the set
-pub record Tally (s count v : ℕ) : Type 0 where
-  pub is : count ≡ length (keep (member s) (below v))
-  pub most : count ≤ v
+-- what is counted of so many numbers is what is kept of them
+numbers_are : (a n : ℕ) → range_with_len a n ≡ numbers_from a n
+unfolding numbers_from
+numbers_are a zero = refl
+numbers_are a (suc n) = ap (λ l. a ∷ l) (numbers_are (a + 1) n)
 
--- before the first variable, with one that is in the set, with one that is not, and after the last
-pub count_begins : (s : ℕ) → Tally s 0 0
-unfolding keep numbers_from
-count_begins s = record { is = refl; most = omega arith }
+kept_more : (p : ℕ → Bool) (x : ℕ) (l : List ℕ) → length (keep p (x ∷ l)) ≡ (if p x then 1 + length (keep p l) else length (keep p l))
+unfolding keep
+kept_more p x l = go (p x)
+  where
+    go : (t : Bool) → length (if t then x ∷ keep p l else keep p l) ≡ (if t then 1 + length (keep p l) else length (keep p l))
+    go true = omega arith
+    go false = refl
 
-module _ {s count v : ℕ} (inv : Tally s count v) where
-  pub count_in_lem : true ≡ member s v → Tally s (count + 1) (v + 1)
-  count_in_lem e = record { is = ap (λ k. k + 1) inv.is ∙ sym (count_takes (member s) v e); most = omega arith }
+pub counted_kept : (p : ℕ → Bool) (n : ℕ) → count_by p (range_with_len 0 n) ≡ length (keep p (below n))
+unfolding keep
+counted_kept p n = ap (count_by p) (numbers_are 0 n) ∙ sym (is_count_by (λ l. length (keep p l)) p refl (kept_more p) (below n))
 
-  pub count_out : false ≡ member s v → Tally s count (v + 1)
-  count_out e = record { is = inv.is ∙ sym (count_leaves (member s) v e); most = omega arith }
-
-  pub count_ends : {n : ℕ} → v ≡ n → (count ≡ length (keep (member s) (below n))) × ((p : ℕ → Bool) → s ≡ bits p 32 → n ≤ 32 → count ≡ length (keep p (below n)))
-  count_ends e = rw (← e) (inv.is, λ p b le. inv.is ∙ ap length (keep-bits p b le))
+-- so many members are counted of a set of bits
+pub counted_in : (p : ℕ → Bool) {s n count : ℕ} → count ≡ count_by (member s) (range_with_len 0 n) → s ≡ bits p 32 → n ≤ 32 → count ≡ length (keep p (below n))
+counted_in p {s} {n} is e le = is ∙ counted_kept (member s) n ∙ ap length (keep-bits p e le)
 
 -- the product over those before v, each at most 255
 pub record Multiplied (s : ℕ) (f : ℕ → ℕ) (total v : ℕ) : Type 0 where
   pub is : total ≡ product (map f (keep (member s) (below v)))
   pub most : total ≤ 255 ^ length (keep (member s) (below v))
 
--- the same for the product
+-- before the first
 pub product_begins : (s : ℕ) (f : ℕ → ℕ) → Multiplied s f 1 0
 unfolding keep numbers_from
 product_begins s f = record { is = refl; most = omega arith }

@@ -1,5 +1,5 @@
 -- How one transition is read. Assumes nothing.
-use Rattle.std.specs.Prelude.{◌+◌, ◌*◌, ◌∷◌, ◌++◌, if◌then◌else◌}
+use Rattle.std.specs.Prelude.{◌+◌, ◌*◌, ◌∷◌, ◌++◌, if◌then◌else◌, Result, Ok, Err}
 use mathlib.Core.Path.{◌≡◌, refl, sym, ap, ◌∙◌}
 use mathlib.Core.Bool.{Bool, true, false}
 use Prim.Native.Nat.{◌≤◌, ◌<◌}
@@ -9,30 +9,24 @@ use lib.Bits.{bit_or}
 use lib.ListN.{length-drop, get_or-append}
 use lib.Seq.{length-take-le, get_or-append-add, get_or-take}
 use Rattle.reading.specs.Basics.{ℕ, List, [], Option, some, none, option_map, given, length, get_or, take, drop, with, eqb, ltb, byte_at}
-use Rattle.reading.specs.Reading.{Answer, fine, fault, standing, whole}
+use Rattle.reading.specs.Reading.{Answer, fine, fault, ◌and_then◌, standing, whole}
 use Rattle.reading.proofs.Commands.{past, end, other, passes, done, fails, standing_past, standing_none, stands_fails, stands_goes}
 use Rattle.net.specs.Net.{Guard, always, Arc, Transition, Place, Net, place_at, arc_on, variables_of, binding_space, in_guard, in_transition, scope}
 use Rattle.net.specs.Reader.{width_of, command, read_guard, read_guard_if, read_expression}
 use Rattle.net_transitions.specs.Transitions.{arc_part, ended, transition_part}
-use Rattle.net.specs.internal.ReaderEnums.{bits, guard_told}
+use Rattle.net.specs.internal.ReaderEnums.{bits, guard_told, scope_of}
 use Rattle.net_parts.specs.internal.Tables.{places_of}
-use Rattle.net_transitions.specs.internal.TransitionTables.{over, RowHolds, ArcsRead, ArcsTold, guard_place, GuardHolds, ClosedTold, inside, TransitionRead, TransitionTold, TransitionFew}
+use Rattle.net_transitions.specs.internal.TransitionTables.{Refuses, over, RowHolds, ArcsRead, guard_place, GuardHolds, ClosedTold, inside, TransitionRead}
+use Rattle.reading.specs.declared.refusal.Refusal.{Refusal}
 use Rattle.net_transitions.specs.declared.transition.TransitionStep.{TransitionStep}
-use Rattle.net_transitions.specs.declared.transition.TransitionStep.TheVariants.{Done, More, Stop}
 use Rattle.net.specs.declared.Read.{Read}
-use Rattle.net.specs.declared.Read.TheVariants as read
+use Rattle.net.specs.declared.PlaceSets.{PlaceSets}
+use Rattle.net.specs.declared.scope.Scope.{Scope}
 use Rattle.net.proofs.Shut.{commands}
 use Rattle.net.proofs.Answers.{bits_or}
 use Rattle.net.proofs.Inside.{guard_ends}
-use Rattle.net_transitions.proofs.Arcing.{Heard, heard, heard_fault, slot_is}
-
--- a byte that is not 0 stands in the file
-pub stands_in : (s : List ℕ) (p b : ℕ) → 0 < b → byte_at s p ≡ b → p < length s
-stands_in s p b pos e = go (ltb p (length s)) refl
-  where
-    go : (t : Bool) → ltb p (length s) ≡ t → p < length s
-    go true q = ltb-true p (length s) q
-    go false q = absurd (omega (arith, past s p (ltb-false p (length s) q)))
+use Rattle.net_transitions.proofs.Arcing.{Heard, heard, heard_fault, slot_is, refuses_on}
+use Rattle.net_parts.proofs.Totals.{stands_in}
 
 -- ---- a guard, or none
 module _ (s : List ℕ) (n : Net) (p : ℕ) where
@@ -42,7 +36,7 @@ module _ (s : List ℕ) (n : Net) (p : ℕ) where
 
   guard_there : byte_at s p ≡ 0x15 → read_guard_if s n p ≡ read_guard s n 16 (p + 1)
   unfolding commands
-  guard_there e = guard_by (stands_goes _ _ 0x15 _ e refl (let h : p < length s = stands_in s p 0x15 (omega arith) e in omega arith) done)
+  guard_there e = guard_by (stands_goes _ _ 0x15 _ e refl (let h : p < length s = stands_in s p (omega arith) in omega arith) done)
 
   guard_none : (byte_at s p ≡ 0x15 → ⊥) → read_guard_if s n p ≡ fine always p
   unfolding commands
@@ -71,12 +65,12 @@ module _ (s : List ℕ) (n : Net) (p : ℕ) where
 
 -- ---- the whole transition
 module _ (s : List ℕ) (n : Net) (transitions : List Transition) (at next : ℕ) where
-  guard_faults : {k p : ℕ} → read_guard_if s n next ≡ fault k p → some (inside s n transitions at next) ≡ some (fault k p)
-  guard_faults e = rw e
+  guard_faults : {r : Refusal} → Refuses (some (read_guard_if s n next)) r → Refuses (some (inside s n transitions at next)) r
+  guard_faults h = refuses_on (λ x. x and_then λ guard more. whole s (arc_part s n) [] more and_then λ arcs end. ended s n transitions at (record { guard = guard; arcs = arcs }) end) (λ k p. refl) h
 
   module _ {more used : ℕ} (g : Heard in_guard (read_guard_if s n next) more used) where
-    arcs_fault : {k p : ℕ} → fault k p ≡ whole s (arc_part s n) [] more → some (inside s n transitions at next) ≡ some (fault k p)
-    arcs_fault e = rw (g.is, ← e)
+    arcs_fault : {r : Refusal} → Refuses (some (whole s (arc_part s n) [] more)) r → Refuses (some (inside s n transitions at next)) r
+    arcs_fault h = rw g.is (refuses_on (λ x. x and_then λ arcs end. ended s n transitions at (record { guard = g.value; arcs = arcs }) end) (λ k p. refl) h)
 
     module _ {row : List ℕ} {uses last : ℕ} (a : ArcsRead s n more row uses last) where
       variables_joined : bit_or used uses ≡ bits (λ v. in_transition v (record { guard = g.value; arcs = a.arcs })) 32
@@ -85,8 +79,8 @@ module _ (s : List ℕ) (n : Net) (transitions : List Transition) (at next : ℕ
       ends_by : inside s n transitions at next ≡ ended s n transitions at (record { guard = g.value; arcs = a.arcs }) last
       ends_by = rw (g.is, ← a.read)
 
-      end_faults : {k p : ℕ} → ended s n transitions at (record { guard = g.value; arcs = a.arcs }) last ≡ fault k p → some (inside s n transitions at next) ≡ some (fault k p)
-      end_faults e = ap some (ends_by ∙ e)
+      end_faults : {r : Refusal} → Refuses (some (ended s n transitions at (record { guard = g.value; arcs = a.arcs }) last)) r → Refuses (some (inside s n transitions at next)) r
+      end_faults h = rw ends_by h
 
       transition_read : {space : ℕ} → ended s n transitions at (record { guard = g.value; arcs = a.arcs }) last ≡ fine (with transitions (record { guard = g.value; arcs = a.arcs })) last
           → binding_space n (with transitions (record { guard = g.value; arcs = a.arcs })) ≡ space → length (variables_of n (record { guard = g.value; arcs = a.arcs })) ≤ 4
@@ -99,38 +93,40 @@ module _ (s : List ℕ) (n : Net) (transitions : List Transition) (at next : ℕ
       }
 
 -- ---- a transition by what the code's calls tell: of its guard, of its arcs, and of its end
-module _ (s sizes vars kinds : List ℕ) (next : ℕ) {guard : Read} (of_guard : (places : List Place) → guard ≡ guard_told (read_guard_if s (scope sizes vars places) next)) where
-  pub stops_in_guard : (at : ℕ) {k p : ℕ} → guard ≡ read.Fault k p → (transitions : List Transition) → some (inside s (over sizes vars kinds) transitions at next) ≡ some (fault k p)
-  stops_in_guard at q transitions = guard_faults s (over sizes vars kinds) transitions at next (heard_fault (λ g. 0) in_guard (read_guard_if s (over sizes vars kinds) next) (sym q ∙ of_guard (places_of kinds)))
+module _ (scope : Scope) (kinds : List PlaceSets) (next : ℕ) {guard : Result Read Refusal} (of_guard : (places : List Place) → guard ≡ guard_told (read_guard_if scope.file.now (scope_of scope places) next)) where
+  abbrev s : List ℕ
+  s = scope.file.now
 
-  module _ {more m used : ℕ} (whole-guard : guard ≡ read.Whole more m used) where
-    heard_guard : Heard in_guard (read_guard_if s (over sizes vars kinds) next) more used
-    heard_guard = heard (λ g. 0) in_guard (read_guard_if s (over sizes vars kinds) next) (sym whole-guard ∙ of_guard (places_of kinds))
+  abbrev n : Net
+  n = over scope kinds
 
-    pub guard_inside : next ≤ length s → (next ≤ more) × (more ≤ length s)
-    guard_inside le = guard_within s (over sizes vars kinds) next heard_guard.value more heard_guard.is le
+  pub stops_in_guard : (at : ℕ) {r : Refusal} → guard ≡ Err r → (transitions : List Transition) → Refuses (some (inside s n transitions at next)) r
+  stops_in_guard at q transitions = guard_faults s n transitions at next (heard_fault (λ g. 0) in_guard (read_guard_if s n next) (sym q ∙ of_guard (places_of kinds)))
 
-    module _ (row : List ℕ) (arcs : Read) (of-arcs : ArcsTold s (over sizes vars kinds) more row arcs) (at : ℕ) where
-      pub stops_in_arcs : {k p : ℕ} → arcs ≡ read.Fault k p → (transitions : List Transition) → some (inside s (over sizes vars kinds) transitions at next) ≡ some (fault k p)
-      stops_in_arcs q transitions = arcs_fault s (over sizes vars kinds) transitions at next heard_guard (rw q at of-arcs)
+  module _ {g : Read} (whole-guard : guard ≡ Ok g) where
+    heard_guard : Heard in_guard (read_guard_if s n next) g.next g.uses
+    heard_guard = heard (λ g. 0) in_guard (read_guard_if s n next) (sym whole-guard ∙ of_guard (places_of kinds))
 
-      module _ {last l uses : ℕ} (whole-arcs : arcs ≡ read.Whole last l uses) where
-        heard_arcs : ArcsRead s (over sizes vars kinds) more row uses last
-        heard_arcs = rw whole-arcs at of-arcs
+    pub guard_inside : next ≤ length s → (next ≤ g.next) × (g.next ≤ length s)
+    guard_inside le = guard_within s n next heard_guard.value g.next heard_guard.is le
 
-        module _ (space : ℕ) (closed : Read)
-            (of_end : (places : List Place) (transitions : List Transition) (t : Transition) → bit_or used uses ≡ bits (λ v. in_transition v t) 32
-            → binding_space (scope sizes vars places) transitions ≡ space → ClosedTold s (scope sizes vars places) transitions at t last closed)
-            (transitions : List Transition) (so_far : binding_space (over sizes vars kinds) transitions ≡ space) where
-          told_end : ClosedTold s (over sizes vars kinds) transitions at (record { guard = heard_guard.value; arcs = heard_arcs.arcs }) last closed
-          told_end = of_end (places_of kinds) transitions (record { guard = heard_guard.value; arcs = heard_arcs.arcs }) (variables_joined s (over sizes vars kinds) transitions at next heard_guard heard_arcs) so_far
+    module _ (row : List ℕ) (at : ℕ) where
+      pub stops_in_arcs : {r : Refusal} → Refuses (some (whole s (arc_part s n) [] g.next)) r → (transitions : List Transition) → Refuses (some (inside s n transitions at next)) r
+      stops_in_arcs h transitions = arcs_fault s n transitions at next heard_guard h
 
-          pub stops_at_end : {k p : ℕ} → closed ≡ read.Fault k p → some (inside s (over sizes vars kinds) transitions at next) ≡ some (fault k p)
-          stops_at_end q = end_faults s (over sizes vars kinds) transitions at next heard_guard heard_arcs (rw q at told_end)
+      module _ {last uses : ℕ} (heard_arcs : ArcsRead s n g.next row uses last) (space : ℕ) (closed : Result ℕ Refusal)
+          (of_end : (places : List Place) (transitions : List Transition) (t : Transition) → bit_or g.uses uses ≡ bits (λ v. in_transition v t) 32
+          → binding_space (scope_of scope places) transitions ≡ space → ClosedTold s (scope_of scope places) transitions at t last closed)
+          (transitions : List Transition) (so_far : binding_space n transitions ≡ space) where
+        told_end : ClosedTold s n transitions at (record { guard = heard_guard.value; arcs = heard_arcs.arcs }) last closed
+        told_end = of_end (places_of kinds) transitions (record { guard = heard_guard.value; arcs = heard_arcs.arcs }) (variables_joined s n transitions at next heard_guard heard_arcs) so_far
 
-          pub reads_whole : {end total u : ℕ} → closed ≡ read.Whole end total u
-              → TransitionRead s (over sizes vars kinds) transitions (some (inside s (over sizes vars kinds) transitions at next)) (λ i. get_or row i 0) (guard_place s next) (bit_or used uses) total last
-          reads_whole q = let k = rw q at told_end in transition_read s (over sizes vars kinds) transitions at next heard_guard heard_arcs k.0 k.1 k.2
+        pub stops_at_end : {r : Refusal} → closed ≡ Err r → Refuses (some (inside s n transitions at next)) r
+        stops_at_end q = end_faults s n transitions at next heard_guard heard_arcs (rw q at told_end)
+
+        pub reads_whole : {total : ℕ} → closed ≡ Ok total
+            → TransitionRead s n transitions (some (inside s n transitions at next)) (λ i. get_or row i 0) (guard_place s next) (bit_or g.uses uses) total last
+        reads_whole q = let k = rw q at told_end in transition_read s n transitions at next heard_guard heard_arcs k.0 k.1 k.2
 
 -- ---- the command
 module _ (s : List ℕ) (n : Net) (transitions : List Transition) (at : ℕ) where
@@ -161,11 +157,6 @@ module _ (s : List ℕ) (at : ℕ) {next : ℕ} (is-next : (w : ℕ) → width_o
   unfolding commands
   after_mark e = is-next 0 (ap width_of e)
 
-pub few_of : (count : ℕ) (r : TransitionStep) → count < 32 → TransitionFew count r
-few_of count Done lt = tt
-few_of count (More guard uses space next) lt = lt
-few_of count (Stop number place) lt = tt
-
 -- ---- a row of the table of arcs
 -- a part of a list that was put back: what stands in it, and before it
 pub part_in : (xs ys zs : List ℕ) (a i : ℕ) → a ≤ length xs → i < length ys → get_or (take a xs ++ (ys ++ zs)) (a + i) 0 ≡ get_or ys i 0
@@ -184,12 +175,11 @@ module _ (s : List ℕ) (n : Net) (few : length n.places ≤ 32) (f g : ℕ → 
   row_same arcs holds k p of_three known =
       slot_is (read_expression s n (place_at n p) 16) {o = option_map (λ a. a.expression) (arc_on arcs (0x16 + k) p)} refl (sym (same (k * 32 + p) (omega arith))) (holds k p of_three known)
 
-  pub told_same : (transitions : List Transition) (x : Option (Answer (List Transition))) (r : TransitionStep) → TransitionTold s n transitions x f r → TransitionTold s n transitions x g r
-  told_same transitions x Done h = h
-  told_same transitions x (More guard uses space next) h = record {
+  pub told_same : (transitions : List Transition) {x : Option (Answer (List Transition))} {t : TransitionStep} → TransitionRead s n transitions x f t.guard t.uses t.space t.next
+      → TransitionRead s n transitions x g t.guard t.uses t.space t.next
+  told_same transitions h = record {
     transition = h.transition;
     goes = h.goes;
     holds = record { guarded = h.holds.guarded; arced = row_same h.transition.arcs h.holds.arced; used = h.holds.used; few = h.holds.few };
     wide = h.wide;
   }
-  told_same transitions x (Stop number place) h = h

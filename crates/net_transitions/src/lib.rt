@@ -6,4 +6,5 @@ mod space;
 mod transition;
 mod transitions;
 
-pub use transitions::read_transitions;
+pub use space::size_of;
+pub use transitions::{Head, read_transitions};

@@ -1,43 +1,32 @@
 // Counts a transition's variables and its bindings, from the bits of its variables.
-ghost use Rattle.std.specs.Prelude.{◌≡◌, map, Bool, ℕ, ◌≤◌, ◌<◌, ◌^◌, ◌/◌, ◌%◌, length, get_or, eqb};
+ghost use Rattle.std.specs.Prelude.{◌≡◌, map, Bool, ℕ, ◌≤◌, ◌<◌, ◌^◌, ◌/◌, ◌%◌, length, get_or, eqb, count_by};
+ghost use Rattle.std.specs.List.{range_with_len};
 ghost use Rattle.reading.specs.Basics.{keep, below, product};
 ghost use Rattle.net.specs.Net.{Net, size_of};
-ghost use Rattle.net.specs.internal.ReaderEnums.{bits};
+ghost use Rattle.net.specs.internal.ReaderEnums.{bits, size_in};
 
-use net::entry;
+use reading::element;
 
 // Whether a variable is in a set.
 fn has(uses: u32, v: usize) -> bool
     ensures { result ≡ eqb (uses / 2 ^ v % 2) 1 }
 {
-    if v < 32 {
-        return (uses >> v) & 1 == 1;
-    }
-    false
+    v < 32 && (uses >> v) & 1 == 1
 }
 
 // How many of so many variables are in a set.
 pub fn count_of(uses: u32, variables: usize) -> usize
-    ensures is { result ≡ length (keep (λ v. eqb (uses / 2 ^ v % 2) 1) (below variables)) }
-    ensures stand { (stands : ℕ → Bool) → uses ≡ bits stands 32 → variables ≤ 32 → result ≡ length (keep stands (below variables)) }
+    ensures { result ≡ count_by (λ v. eqb (uses / 2 ^ v % 2) 1) (range_with_len 0 variables) }
 {
-    let mut count: usize = 0;
-    let mut v: usize = 0;
-    while v < variables {
-        if has(uses, v) {
-            count += 1;
-        }
-        v += 1;
-    }
-    count
+    (0..variables).filter(|v| has(uses, *v)).count()
 }
 
 // The size of a variable's set.
-fn size_of(sizes: &[u8], vars: &[u8], v: usize) -> usize
-    ensures is { result ≡ get_or sizes.now (get_or vars.now v 0) 0 }
+pub fn size_of(sizes: &[u8], vars: &[u8], v: usize) -> usize
+    ensures is { result ≡ size_in sizes.now vars.now v }
     ensures small { result ≤ 255 }
 {
-    entry(sizes, entry(vars, v) as usize) as usize
+    usize::from(element(sizes, usize::from(element(vars, v, 0)), 0))
 }
 
 // How many bindings the variables of a set have: the product of the sizes of their sets. More than 65,536 where the set has more than 4.
@@ -52,13 +41,11 @@ pub fn bindings_of(uses: u32, sizes: &[u8], vars: &[u8]) -> usize
     if 4 < count_of(uses, vars.len()) {
         return 65537;
     }
-    let mut total: usize = 1;
-    let mut v: usize = 0;
-    while v < vars.len() {
+    let mut total = 1;
+    for v in 0..vars.len() {
         if has(uses, v) {
             total *= size_of(sizes, vars, v);
         }
-        v += 1;
     }
     total
 }

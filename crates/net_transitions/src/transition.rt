@@ -1,48 +1,35 @@
 // One transition: its guard, its arcs, and its end.
 ghost use Rattle.std.specs.Prelude.{◌≡◌, List, ℕ, ◌≤◌, ◌<◌, ◌+◌, ◌*◌, length, get_or};
-ghost use Rattle.net.specs.Net.{Place, Transition, binding_space, in_transition, scope};
-ghost use Rattle.net.specs.internal.ReaderEnums.{bits};
-ghost use Rattle.net_transitions.specs.internal.TransitionTables.{over, guard_place, ClosedTold, ClosedRoom, inside, transition_stopped, TransitionTold, TransitionRoom, TransitionFew};
+ghost use Rattle.net.specs.Net.{Place, Transition, binding_space, in_transition};
+ghost use Rattle.net.specs.internal.ReaderEnums.{bits, scope_of};
+ghost use Rattle.net_transitions.specs.internal.TransitionTables.{over, guard_place, ClosedTold, ClosedRoom, inside, TransitionTold, EntryTold, TransitionRoom, EntryRoom, TransitionFew};
 ghost use Rattle.net_transitions.specs.Transitions.{transition_part};
 ghost use Rattle.std.proofs.Math.Option.{some};
 
 use crate::arc::read_arcs;
 use crate::space::{bindings_of, count_of};
-use net::{Read, after, fault, read_guard_if};
-use reading::byte_at;
+use net::{PlaceSets, Scope, after, read_guard_if};
+use reading::{Reason, Refusal, byte_at, element, refused};
 
-// The end of a transition with these variables, after a binding space: the space with it in the place of a set, or the fault.
-fn close_at(
-    file: &[u8],
-    sizes: &[u8],
-    vars: &[u8],
-    set: u32,
-    space: usize,
-    at: usize,
-    end: usize,
-) -> Read
-    requires vars_len_bound { length vars.now ≤ 32 }
+// The end of a transition with these variables, after a binding space: the space with it, or the fault.
+fn close_at(scope: &Scope, set: u32, space: usize, at: usize, end: usize) -> Result<usize, Refusal>
     requires space_bound { space ≤ 65536 }
     ensures is { (places : List Place) (transitions : List Transition) (t : Transition) → set ≡ bits (λ v. in_transition v t) 32
-        → binding_space (scope sizes.now vars.now places) transitions ≡ space
-        → ClosedTold file.now (scope sizes.now vars.now places) transitions at t end result }
+        → binding_space (scope_of scope.now places) transitions ≡ space
+        → ClosedTold scope.now.file.now (scope_of scope.now places) transitions at t end result }
     ensures room { ClosedRoom result }
 {
-    if byte_at(file, end) == 0x15 {
-        return fault(3, end);
+    if byte_at(scope.file, end) == 0x15 {
+        return refused(Reason::StrayByte, end);
     }
-    if 4 < count_of(set, vars.len()) {
-        return fault(10, at);
+    if 4 < count_of(set, scope.vars.len()) {
+        return refused(Reason::ManyVariables, at);
     }
-    let more = space + bindings_of(set, sizes, vars);
+    let more = space + bindings_of(set, scope.sizes, scope.vars);
     if 65536 < more {
-        return fault(11, at);
+        return refused(Reason::WideBinding, at);
     }
-    Read::Whole {
-        next: end,
-        set: more as u32,
-        uses: set,
-    }
+    Ok(more)
 }
 
 // Where a guard stands, or 0 without one.
@@ -50,151 +37,85 @@ fn guard_place(file: &[u8], at: usize) -> u16
     requires { length file.now ≤ 16384 }
     ensures { result ≡ guard_place file.now at }
 {
-    if file.len() <= at {
-        return 0;
+    if element(file, at, 0) == 0x15 {
+        after(file, at) as u16
+    } else {
+        0
     }
-    if file[at] == 0x15 {
-        return after(file, at) as u16;
-    }
-    0
 }
 
-// One step of the transition part: where the guard stands, the variables, and the binding space with it.
+// A transition that was read: where its guard stands, its variables, the binding space with it, and the place after it.
 #[derive(Clone, Copy)]
-pub enum TransitionStep {
-    Done,
-    More {
-        guard: u16,
-        uses: u32,
-        space: usize,
-        next: usize,
-    },
-    Stop {
-        number: u8,
-        place: usize,
-    },
-}
-
-// A fault of what is read; a whole reading stops nothing.
-fn stopped(e: Read) -> TransitionStep
-    ensures { result ≡ transition_stopped e }
-{
-    match e {
-        Read::Fault { number, place } => TransitionStep::Stop { number, place },
-        Read::Whole {
-            next: _,
-            set: _,
-            uses: _,
-        } => TransitionStep::Done,
-    }
+pub struct TransitionStep {
+    pub guard: u16,
+    pub uses: u32,
+    pub space: usize,
+    pub next: usize,
 }
 
 // The transition whose command stands at a place and ends before next.
 fn transition_in(
-    file: &[u8],
-    sizes: &[u8],
-    vars: &[u8],
-    kinds: &[u16],
+    scope: &Scope,
+    kinds: &[PlaceSets],
     space: usize,
     row: &mut [u32],
     at: usize,
     next: usize,
-) -> TransitionStep
-    requires file_len_bound { length file.now ≤ 16384 }
-    requires vars_len_bound { length vars.now ≤ 32 }
+) -> Result<TransitionStep, Refusal>
+    requires file_len_bound { length scope.now.file.now ≤ 16384 }
     requires kinds_len_bound { length kinds.now ≤ 32 }
     requires row_len { length row.old ≡ 96 }
     requires space_bound { space ≤ 65536 }
     requires at_lt_next { at < next }
-    requires next_in_bounds { next ≤ length file.now }
-    ensures is { (transitions : List Transition) → binding_space (over sizes.now vars.now kinds.now) transitions ≡ space
-        → TransitionTold file.now (over sizes.now vars.now kinds.now) transitions
-        (some (inside file.now (over sizes.now vars.now kinds.now) transitions at next)) (λ i. get_or row.new i 0) result }
-    ensures room { TransitionRoom (length file.now) at result }
+    requires next_in_bounds { next ≤ length scope.now.file.now }
+    ensures is { (transitions : List Transition) → binding_space (over scope.now kinds.now) transitions ≡ space
+        → TransitionTold scope.now.file.now (over scope.now kinds.now) transitions
+        (some (inside scope.now.file.now (over scope.now kinds.now) transitions at next)) (λ i. get_or row.new i 0) result }
+    ensures room { TransitionRoom (length scope.now.file.now) at result }
 {
-    let guard = read_guard_if(file, sizes, vars, next);
-    let Read::Whole {
-        next: more,
-        set: _,
+    let guard = read_guard_if(scope, next)?;
+    let arcs = read_arcs(scope, kinds, row, guard.next)?;
+    let uses = guard.uses | arcs.uses;
+    let space = close_at(scope, uses, space, at, arcs.next)?;
+    Ok(TransitionStep {
+        guard: guard_place(scope.file, next),
         uses,
-    } = guard
-    else {
-        return stopped(guard);
-    };
-    let arcs = read_arcs(file, sizes, vars, kinds, row, more);
-    let Read::Whole {
-        next: end,
-        set: _,
-        uses: others,
-    } = arcs
-    else {
-        return stopped(arcs);
-    };
-    let closed = close_at(file, sizes, vars, uses | others, space, at, end);
-    let Read::Whole {
-        next: _,
-        set: total,
-        uses: _,
-    } = closed
-    else {
-        return stopped(closed);
-    };
-    TransitionStep::More {
-        guard: guard_place(file, next),
-        uses: uses | others,
-        space: total as usize,
-        next: end,
-    }
+        space,
+        next: arcs.next,
+    })
 }
 
-// The transition command at a place, after so many transitions with a binding space; its row is the next of the table.
+// The transition command at a place, after so many transitions with a binding space, if it stands there; its row is the next of the table.
 pub fn transition_at(
-    file: &[u8],
-    sizes: &[u8],
-    vars: &[u8],
-    kinds: &[u16],
+    scope: &Scope,
+    kinds: &[PlaceSets],
     count: usize,
     space: usize,
     arcs: &mut [u32],
     at: usize,
-) -> TransitionStep
-    requires file_len_bound { length file.now ≤ 16384 }
-    requires vars_len_bound { length vars.now ≤ 32 }
+) -> Result<Option<TransitionStep>, Refusal>
+    requires file_len_bound { length scope.now.file.now ≤ 16384 }
     requires kinds_len_bound { length kinds.now ≤ 32 }
     requires arcs_len { length arcs.old ≡ 3072 }
     requires space_bound { space ≤ 65536 }
     ensures is { (transitions : List Transition) → length transitions ≡ count
-        → binding_space (over sizes.now vars.now kinds.now) transitions ≡ space
-        → TransitionTold file.now (over sizes.now vars.now kinds.now) transitions
-        (transition_part file.now (over sizes.now vars.now kinds.now) transitions at)
+        → binding_space (over scope.now kinds.now) transitions ≡ space
+        → EntryTold scope.now.file.now (over scope.now kinds.now) transitions
+        (transition_part scope.now.file.now (over scope.now kinds.now) transitions at)
         (λ i. get_or arcs.new (count * 96 + i) 0) result }
-    ensures room { TransitionRoom (length file.now) at result }
+    ensures room { EntryRoom (length scope.now.file.now) at result }
     ensures few { TransitionFew count result }
     ensures kept { (i : ℕ) → i < count * 96 → get_or arcs.new i 0 ≡ get_or arcs.old i 0 }
 {
-    if file.len() <= at {
-        return TransitionStep::Done;
+    if element(scope.file, at, 0) != 0x14 {
+        return Ok(None);
     }
-    if file[at] == 0x14 {
-        if 32 <= count {
-            return TransitionStep::Stop {
-                number: 4,
-                place: at,
-            };
-        }
-        let next = after(file, at);
-        let from = count * 96;
-        let to = from + 96;
-        return transition_in(
-            file,
-            sizes,
-            vars,
-            kinds,
-            space,
-            &mut arcs[from..to],
-            at,
-            next,
-        );
+    if 32 <= count {
+        return refused(Reason::Overfull, at);
     }
-    TransitionStep::Done
+    let from = count * 96;
+    let to = from + 96;
+    let next = after(scope.file, at);
+    let t = transition_in(scope, kinds, space, &mut arcs[from..to], at, next)?;
+    Ok(Some(t))
 }

@@ -1,20 +1,30 @@
 -- What the tables of a net hold of its arcs and transitions, that a reading leaves for later calls.
-use Rattle.std.specs.Prelude.{◌≡◌, ◌<◌, ◌≤◌, ◌+◌, ◌*◌, if◌then◌else◌}
+use Rattle.std.specs.Prelude.{◌≡◌, ◌<◌, ◌≤◌, ◌+◌, ◌*◌, if◌then◌else◌, Result, Ok, Err}
+use Rattle.std.specs.Prelude as std
 use Rattle.reading.specs.Basics.{ℕ, List, [], Option, none, some, option_map, with, any, length, get_or, eqb, byte_at}
 use Rattle.reading.specs.Reading.{Answer, fine, fault, ◌and_then◌, whole}
+use Rattle.reading.specs.Refusals.{reason_of}
 use Rattle.net.specs.Net.{Guard, always, Expression, Arc, Transition, Net, place_at, arc_on, in_expression, variables_of, binding_space, in_transition, no_transition, scope}
 use Rattle.net.specs.Reader.{read_guard, read_guard_if, read_expression}
 use Rattle.net_transitions.specs.Transitions.{arc_part, ended, transition_part}
-use Rattle.net.specs.internal.ReaderEnums.{bits}
+use Rattle.net.specs.internal.ReaderEnums.{bits, scope_of}
+use Rattle.reading.specs.declared.refusal.Refusal.{Refusal}
 use Rattle.net.specs.declared.Read.{Read}
-use Rattle.net.specs.declared.Read.TheVariants as read
+use Rattle.net.specs.declared.PlaceSets.{PlaceSets}
+use Rattle.net.specs.declared.scope.Scope.{Scope}
 use Rattle.net_parts.specs.declared.Part.{Part}
-use Rattle.net_parts.specs.declared.Part.TheVariants as part
-use Rattle.net_transitions.specs.declared.arc.ArcStep.{ArcStep}
-use Rattle.net_transitions.specs.declared.arc.ArcStep.TheVariants as arc_step_cases
-use Rattle.net_transitions.specs.declared.transition.TransitionStep.{TransitionStep}
-use Rattle.net_transitions.specs.declared.transition.TransitionStep.TheVariants as transition_step_cases
+use Rattle.net_parts.specs.internal.Steps.{Keeps}
 use Rattle.net_parts.specs.internal.Tables.{places_of}
+use Rattle.net_transitions.specs.declared.arc.ArcStep.{ArcStep}
+use Rattle.net_transitions.specs.declared.transition.TransitionStep.{TransitionStep}
+use Rattle.net_transitions.specs.declared.transitions.Head.{Head}
+
+-- ---- refusals
+-- what is read, if anything, is a fault, and the refusal has its reason and its place
+pub record Refuses {A : Type 0} (x : Option (Answer A)) (r : Refusal) : Type 0 where
+  pub number : ℕ
+  pub is : x ≡ some (fault number r.place)
+  pub reason : reason_of number ≡ r.reason
 
 -- ---- arcs
 -- what stands at a place of the file, by a reading
@@ -34,8 +44,8 @@ RowHolds s n arcs slot =
     → Slot (read_expression s n (place_at n p) 16) (option_map (λ a. a.expression) (arc_on arcs (0x16 + k) p)) (slot (k * 32 + p))
 
 -- the net that a transition is read over: sets, variables, and places by their sets
-abbrev pub over : List ℕ → List ℕ → List ℕ → Net
-over sizes vars kinds = scope sizes vars (places_of kinds)
+abbrev pub over : Scope → List PlaceSets → Net
+over scope kinds = scope_of scope (places_of kinds)
 
 -- an arc that was read: its slot, which was free, and the variables in its expression
 pub record ArcRead (s : List ℕ) (n : Net) (arcs : List Arc) (at : ℕ) (row : List ℕ) (slot uses next : ℕ) : Type 0 where
@@ -50,20 +60,13 @@ pub record ArcRead (s : List ℕ) (n : Net) (arcs : List Arc) (at : ℕ) (row : 
   pub used : uses ≡ bits (λ v. in_expression v expression) 32
   pub goes : arc_part s n arcs at ≡ some (fine (with arcs (record { kind = 0x16 + kind; place = place; expression = expression })) next)
 
-abbrev pub ArcTold : List ℕ → Net → List Arc → ℕ → List ℕ → ArcStep → Type 0
-ArcTold s n arcs at row arc_step_cases.Done = arc_part s n arcs at ≡ none
-ArcTold s n arcs at row (arc_step_cases.More slot uses next) = ArcRead s n arcs at row slot uses next
-ArcTold s n arcs at row (arc_step_cases.Stop number place) = arc_part s n arcs at ≡ some (fault number place)
+abbrev pub ArcTold : List ℕ → Net → List Arc → ℕ → List ℕ → Result (std.Option ArcStep) Refusal → Type 0
+ArcTold s n arcs at row (Ok std.None) = arc_part s n arcs at ≡ none
+ArcTold s n arcs at row (Ok (std.Some a)) = ArcRead s n arcs at row a.slot a.uses a.next
+ArcTold s n arcs at row (Err r) = Refuses (arc_part s n arcs at) r
 
--- the fault of an expression stops the arcs
-abbrev pub arc_stopped : Read → ArcStep
-arc_stopped (read.Whole next ceiling uses) = arc_step_cases.Done
-arc_stopped (read.Fault number place) = arc_step_cases.Stop number place
-
-abbrev pub ArcRoom : ℕ → ℕ → ArcStep → Type 0
-ArcRoom len at arc_step_cases.Done = Unit {0}
-ArcRoom len at (arc_step_cases.More slot uses next) = (slot < 96) × (at + 2 < next) × (next ≤ len)
-ArcRoom len at (arc_step_cases.Stop number place) = at < len
+abbrev pub ArcRoom : ℕ → ℕ → Result (std.Option ArcStep) Refusal → Type 0
+ArcRoom len at r = Keeps (λ a. (a.slot < 96) × (at + 2 < a.next) × (a.next ≤ len)) len at r
 
 -- the arcs of a transition that were read: their slots, and the variables in their expressions
 pub record ArcsRead (s : List ℕ) (n : Net) (start : ℕ) (row : List ℕ) (uses next : ℕ) : Type 0 where
@@ -72,13 +75,13 @@ pub record ArcsRead (s : List ℕ) (n : Net) (start : ℕ) (row : List ℕ) (use
   pub holds : RowHolds s n arcs (λ i. get_or row i 0)
   pub used : uses ≡ bits (λ v. any (λ a. in_expression v a.expression) arcs) 32
 
-abbrev pub ArcsTold : List ℕ → Net → ℕ → List ℕ → Read → Type 0
-ArcsTold s n start row (read.Whole next set uses) = ArcsRead s n start row uses next
-ArcsTold s n start row (read.Fault number place) = fault number place ≡ whole s (arc_part s n) [] start
+abbrev pub ArcsTold : List ℕ → Net → ℕ → List ℕ → Result Read Refusal → Type 0
+ArcsTold s n start row (Ok r) = ArcsRead s n start row r.uses r.next
+ArcsTold s n start row (Err r) = Refuses (some (whole s (arc_part s n) [] start)) r
 
-abbrev pub ArcsRoom : ℕ → ℕ → Read → Type 0
-ArcsRoom len start (read.Whole next set uses) = (start ≤ next) × (start ≤ len → next ≤ len)
-ArcsRoom len start (read.Fault number place) = Unit {0}
+abbrev pub ArcsRoom : ℕ → ℕ → Result Read Refusal → Type 0
+ArcsRoom len start (Ok r) = (start ≤ r.next) × (start ≤ len → r.next ≤ len)
+ArcsRoom len start (Err r) = Unit {0}
 
 -- ---- transitions
 -- where a guard stands: 0 without one
@@ -97,14 +100,14 @@ pub record TransitionHolds (s : List ℕ) (n : Net) (t : Transition) (guard uses
   pub few : length (variables_of n t) ≤ 4
 
 -- a transition that ends: the binding space with it, or the fault
-abbrev pub ClosedTold : List ℕ → Net → List Transition → ℕ → Transition → ℕ → Read → Type 0
-ClosedTold s n transitions at t end (read.Whole next space uses) =
+abbrev pub ClosedTold : List ℕ → Net → List Transition → ℕ → Transition → ℕ → Result ℕ Refusal → Type 0
+ClosedTold s n transitions at t end (Ok space) =
     (ended s n transitions at t end ≡ fine (with transitions t) end) × (binding_space n (with transitions t) ≡ space) × (length (variables_of n t) ≤ 4)
-ClosedTold s n transitions at t end (read.Fault number place) = ended s n transitions at t end ≡ fault number place
+ClosedTold s n transitions at t end (Err r) = Refuses (some (ended s n transitions at t end)) r
 
-abbrev pub ClosedRoom : Read → Type 0
-ClosedRoom (read.Whole next space uses) = space ≤ 65536
-ClosedRoom (read.Fault number place) = Unit {0}
+abbrev pub ClosedRoom : Result ℕ Refusal → Type 0
+ClosedRoom (Ok space) = space ≤ 65536
+ClosedRoom (Err r) = Unit {0}
 
 -- a transition after its 0x14, from next on: its guard, its arcs, and its end
 abbrev pub inside : List ℕ → Net → List Transition → ℕ → ℕ → Answer (List Transition)
@@ -120,34 +123,40 @@ pub record TransitionRead (s : List ℕ) (n : Net) (transitions : List Transitio
   pub holds : TransitionHolds s n transition guard uses slot
   pub wide : binding_space n (with transitions transition) ≡ space
 
-abbrev pub TransitionTold : List ℕ → Net → List Transition → Option (Answer (List Transition)) → (ℕ → ℕ) → TransitionStep → Type 0
-TransitionTold s n transitions x slot transition_step_cases.Done = x ≡ none
-TransitionTold s n transitions x slot (transition_step_cases.More guard uses space next) = TransitionRead s n transitions x slot guard uses space next
-TransitionTold s n transitions x slot (transition_step_cases.Stop number place) = x ≡ some (fault number place)
+abbrev pub TransitionTold : List ℕ → Net → List Transition → Option (Answer (List Transition)) → (ℕ → ℕ) → Result TransitionStep Refusal → Type 0
+TransitionTold s n transitions x slot (Ok t) = TransitionRead s n transitions x slot t.guard t.uses t.space t.next
+TransitionTold s n transitions x slot (Err r) = Refuses x r
 
--- a fault of what is read stops the transitions
-abbrev pub transition_stopped : Read → TransitionStep
-transition_stopped (read.Whole next set uses) = transition_step_cases.Done
-transition_stopped (read.Fault number place) = transition_step_cases.Stop number place
+abbrev pub TransitionRoom : ℕ → ℕ → Result TransitionStep Refusal → Type 0
+TransitionRoom len at (Ok t) = (t.space ≤ 65536) × (at < t.next) × (t.next ≤ len)
+TransitionRoom len at (Err r) = at < len
 
-abbrev pub TransitionRoom : ℕ → ℕ → TransitionStep → Type 0
-TransitionRoom len at transition_step_cases.Done = Unit {0}
-TransitionRoom len at (transition_step_cases.More guard uses space next) = (space ≤ 65536) × (at < next) × (next ≤ len)
-TransitionRoom len at (transition_step_cases.Stop number place) = at < len
+-- the same where there may be no transition
+abbrev pub EntryTold : List ℕ → Net → List Transition → Option (Answer (List Transition)) → (ℕ → ℕ) → Result (std.Option TransitionStep) Refusal → Type 0
+EntryTold s n transitions x slot (Ok std.None) = x ≡ none
+EntryTold s n transitions x slot (Ok (std.Some t)) = TransitionRead s n transitions x slot t.guard t.uses t.space t.next
+EntryTold s n transitions x slot (Err r) = Refuses x r
+
+abbrev pub EntryRoom : ℕ → ℕ → Result (std.Option TransitionStep) Refusal → Type 0
+EntryRoom len at r = Keeps (λ t. (t.space ≤ 65536) × (at < t.next) × (t.next ≤ len)) len at r
 
 -- one that goes on was among the first 32
-abbrev pub TransitionFew : ℕ → TransitionStep → Type 0
-TransitionFew count transition_step_cases.Done = Unit {0}
-TransitionFew count (transition_step_cases.More guard uses space next) = count < 32
-TransitionFew count (transition_step_cases.Stop number place) = Unit {0}
+abbrev pub TransitionFew : ℕ → Result (std.Option TransitionStep) Refusal → Type 0
+TransitionFew count (Ok std.None) = Unit {0}
+TransitionFew count (Ok (std.Some t)) = count < 32
+TransitionFew count (Err r) = Unit {0}
 
--- what the tables hold of each transition: its variables, 32 entries on its guard's place, and its row of 96 slots
-abbrev pub TransitionsHold : List ℕ → Net → List Transition → List ℕ → List ℕ → Type 0
+-- the one past the end of the table of heads
+abbrev pub no_head : Head
+no_head = record { uses = 0; guard = 0 }
+
+-- what the tables hold of each transition: its variables, where its guard stands, and its row of 96 slots
+abbrev pub TransitionsHold : List ℕ → Net → List Transition → List Head → List ℕ → Type 0
 TransitionsHold s n transitions heads arcs =
     (t : ℕ) → t < length transitions
-    → TransitionHolds s n (get_or transitions t no_transition) (get_or heads (32 + t) 0) (get_or heads t 0) (λ i. get_or arcs (t * 96 + i) 0)
+    → TransitionHolds s n (get_or transitions t no_transition) (get_or heads t no_head).guard (get_or heads t no_head).uses (λ i. get_or arcs (t * 96 + i) 0)
 
-pub record TransitionsRead (s : List ℕ) (n : Net) (start : ℕ) (heads arcs : List ℕ) (count space next : ℕ) : Type 0 where
+pub record TransitionsRead (s : List ℕ) (n : Net) (start : ℕ) (heads : List Head) (arcs : List ℕ) (count space next : ℕ) : Type 0 where
   pub transitions : List Transition
   pub read : fine transitions next ≡ whole s (transition_part s n) [] start
   pub are : length transitions ≡ count
@@ -156,6 +165,6 @@ pub record TransitionsRead (s : List ℕ) (n : Net) (start : ℕ) (heads arcs : 
   pub bounded : space ≤ 65536
   pub holds : TransitionsHold s n transitions heads arcs
 
-abbrev pub TransitionsTold : List ℕ → Net → ℕ → List ℕ → List ℕ → Part → Type 0
-TransitionsTold s n start heads arcs (part.Whole count space next) = TransitionsRead s n start heads arcs count space next
-TransitionsTold s n start heads arcs (part.Fault number place) = fault number place ≡ whole s (transition_part s n) [] start
+abbrev pub TransitionsTold : List ℕ → Net → ℕ → List Head → List ℕ → Result Part Refusal → Type 0
+TransitionsTold s n start heads arcs (Ok p) = TransitionsRead s n start heads arcs p.count p.total p.next
+TransitionsTold s n start heads arcs (Err r) = Refuses (some (whole s (transition_part s n) [] start)) r

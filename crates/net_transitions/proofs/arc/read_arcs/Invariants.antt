@@ -4,8 +4,8 @@ use Rattle.net_transitions.specs.internal.TransitionTables.{over}
 use Rattle.net_transitions.proofs.Arcing.{Arcing}
 use Rattle.net_transitions.proofs.arc.read_arcs.Given as goal
 
-abbrev pub invariant-loop-number : goal.invariant-loop-number
-invariant-loop-number l = Arcing l.file (over l.sizes l.vars l.kinds) l.start l.row l.uses l.at
+abbrev pub invariant-loop-arc : goal.invariant-loop-arc
+invariant-loop-arc l = Arcing l.scope.file.now (over l.scope l.kinds) l.start l.row l.uses l.at
 
-abbrev pub decreases-loop-number : goal.decreases-loop-number
-decreases-loop-number l = length l.file - l.at
+abbrev pub decreases-loop-arc : goal.decreases-loop-arc
+decreases-loop-arc l = length l.scope.file.now - l.at
