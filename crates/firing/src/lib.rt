@@ -3,7 +3,7 @@
 
 mod replies;
 
-ghost use Rattle.std.specs.Prelude.{◌≡◌, List, [], false, ℕ, ◌<◌, ◌-◌, length, get_or};
+ghost use Rattle.std.specs.Prelude.{◌≡◌, List, [], false, ℕ, ◌-◌, length, get_or};
 ghost use Rattle.reading.specs.Basics.{any};
 ghost use Rattle.firing.specs.Firing.{fire, fired};
 ghost use Rattle.firing.specs.Arcs.{Rising, Proper, row, weights, weight_in};
@@ -94,22 +94,22 @@ fn some_hinders(hinders: &[Arc], m: &[u16]) -> bool
     hinders.iter().any(|arc| arc.hinders(m))
 }
 
-// The arcs from the first on whose place is not below p.
+// Rising arcs from the first on whose place is not below p.
 fn seek(arcs: &[Arc], p: u16) -> &[Arc]
     ensures { Sought arcs.now p result.now }
 {
     let mut rest = arcs;
-    while let [arc, more @ ..] = rest
-        && arc.place < p
-    {
-        rest = more;
+    loop {
+        match rest {
+            [arc, more @ ..] if arc.place < p => rest = more,
+            _ => return rest,
+        }
     }
-    rest
 }
 
-// The weight at place p of rising arcs of which none stands below p.
+// The weight at place p of arcs that rise from there.
 fn weight_at(arcs: &[Arc], p: u16) -> u16
-    ensures { (n : ℕ) → Rising n 0 arcs.now → Sought arcs.now p arcs.now → result ≡ weight_in arcs.now p }
+    ensures { (n : ℕ) → Rising n p arcs.now → result ≡ weight_in arcs.now p }
 {
     match arcs {
         [arc, ..] if arc.place == p => arc.weight,
@@ -124,11 +124,12 @@ fn some_spills(takes: &[Arc], puts: &[Arc], m: &[u16]) -> bool
 {
     let mut rest = takes;
     for put in puts {
-        if put.spills(0, m) {
-            rest = seek(rest, put.place);
-            if put.spills(weight_at(rest, put.place), m) {
-                return true;
-            }
+        if !put.spills(0, m) {
+            continue;
+        }
+        rest = seek(rest, put.place);
+        if put.spills(weight_at(rest, put.place), m) {
+            return true;
         }
     }
     false
@@ -137,7 +138,7 @@ fn some_spills(takes: &[Arc], puts: &[Arc], m: &[u16]) -> bool
 // Changes the count at each arc's place by its weight, arc by arc.
 fn change<F: Fn(u16, u16) -> u16>(arcs: &[Arc], f: F, m: &mut [u16])
     requires { F.IsAlwaysCallable f }
-    ensures { (g : ℕ → ℕ → ℕ) → ((x y r : ℕ) → x < 65536 → y < 65536 → F.post f x y r → r ≡ g x y) → m.new ≡ changed g arcs.now m.old }
+    ensures { (g : ℕ → ℕ → ℕ) → ((x y r : ℕ) → F.post f x y r → r ≡ g x y) → m.new ≡ changed g arcs.now m.old }
 {
     for arc in arcs {
         let count = f(arc.count(m), arc.weight);
@@ -146,7 +147,7 @@ fn change<F: Fn(u16, u16) -> u16>(arcs: &[Arc], f: F, m: &mut [u16])
 }
 
 // The answer to a row of which no take is lacking.
-fn rest_answer(row: RowArcs, m: &[u16]) -> Answer
+pub fn rest_answer(row: RowArcs, m: &[u16]) -> Answer
     ensures { Proper (length m.now) (row_held row.entry)
         → any (lacking m.now) row.entry.takes.now ≡ false
         → answer_number result ≡ (fire [] (weights (row_held row.entry)) m.now).answer }
@@ -166,9 +167,10 @@ pub fn answer(row: RowArcs, m: &[u16]) -> Answer
         → answer_number result ≡ (fire [] (weights (row_held row.entry)) m.now).answer }
 {
     if some_lacks(row.takes, m) {
-        return Answer::Lacking;
+        Answer::Lacking
+    } else {
+        rest_answer(row, m)
     }
-    rest_answer(row, m)
 }
 
 // Moves the marking by a row's takes and puts, where the row was answered 0.
@@ -200,7 +202,8 @@ pub fn fire_row(row: RowArcs, m: &mut [u16]) -> Answer
         → fired (answer_number result) m.new ≡ fire [] (weights (row_held row.entry)) m.old }
 {
     if some_lacks(row.takes, m) {
-        return Answer::Lacking;
+        Answer::Lacking
+    } else {
+        fire_rest(row, m)
     }
-    fire_rest(row, m)
 }

@@ -1,5 +1,5 @@
 -- Rows in one lent list of arcs.
-use Rattle.std.specs.Prelude.{◌≡◌, ◌≤◌, ◌-◌}
+use Rattle.std.specs.Prelude.{◌≤◌, ◌-◌}
 use Rattle.reading.specs.Basics.{ℕ, List, length, take, drop}
 use Rattle.firing.specs.Arcs.{Arc, Row, row}
 use Rattle.firing.specs.declared.RowArcs.{RowArcs}

@@ -2,7 +2,7 @@
 use Rattle.reading.specs.Basics.{ℕ, Bool, List, get_or, ltb, leb}
 use Rattle.std.specs.Prelude.{◌≡◌, ◌≤◌, ◌<◌, [], set, ◌+◌, ◌-◌, ◌%◌, ◌&&◌, ◌∷◌}
 use Rattle.firing.specs.Firing.{capacity}
-use Rattle.firing.specs.Arcs.{Arc, weight_in}
+use Rattle.firing.specs.Arcs.{Arc, Rising, weight_in}
 
 -- 3: a take is above its count
 abbrev pub lacking : List ℕ → Arc → Bool
@@ -20,10 +20,10 @@ spilling caps m takes a = ltb (capacity caps a.place) (get_or m a.place 0 - weig
 abbrev pub SmallCapacities : List ℕ → Type 0
 SmallCapacities caps = (p : ℕ) → capacity caps p < 65536
 
--- the arcs without those in front whose place is below p: no weight at p or a later place is passed
+-- rising arcs without those in front that stand below p: no weight at p or a later place is passed
 pub record Sought (arcs : List Arc) (p : ℕ) (rest : List Arc) : Type 0 where
   pub passed : (q : ℕ) → p ≤ q → weight_in arcs q ≡ weight_in rest q
-  pub stopped : (a : Arc) (l : List Arc) → rest ≡ a ∷ l → p ≤ a.place
+  pub rises : (n : ℕ) → Rising n 0 arcs → Rising n p rest
 
 -- the marking after an arc, and after arc by arc, has changed the count at its place
 abbrev pub changed_by : (ℕ → ℕ → ℕ) → Arc → List ℕ → List ℕ
