@@ -1,4 +1,4 @@
-use Rattle.std.proofs.Common.{arith, refl, zero-le, Some, None}
+use Rattle.std.proofs.Common.{arith, refl, Some, None}
 use mathlib.Core.Logic.{⊎_elim}
 use Prim.Native.Nat.{◌≤◌}
 use native.Mathlib.Nat.{eq-or-lt_of_le}
