@@ -7,15 +7,16 @@ use native.Mathlib.Omega.{arith}
 use native.Mathlib.Nat.{add-zero}
 use native.Mathlib.Numerals.{add-one}
 use lib.ListN.{set, length-append, length-drop, length-take}
-use lib.Seq.{drop-cons, get_or-take, length-take-le}
+use lib.Seq.{drop-cons, take-suc, get_or-take, length-take-le}
 use Rattle.reading.specs.Basics.{ℕ, zero, suc, List, [], flat_map, length, get_or, take, drop, over}
 use Rattle.firing.specs.declared.Arc.{Arc}
 use Rattle.firing.specs.Arcs.{Row}
 use Rattle.firing.specs.internal.RowLists.{EndsWithin, row_in}
 use Rattle.firing.proofs.Rows.{length_arcs}
 use Rattle.firing.proofs.Running.{over-set}
+use Rattle.reading.proofs.Lists.{flat_with}
 use Rattle.flat_file.specs.Flat.{arc_bytes, row_bytes}
-use Rattle.flat_file.proofs.Written.{place_bytes, length_places, row_size, length-row, length_arc_bytes}
+use Rattle.flat_file.proofs.Written.{place_bytes, length_places, length_pieces, row_size, length-row, length_arc_bytes}
 use Rattle.flat_file.specs.internal.Output.{Appended}
 
 -- nothing
@@ -40,6 +41,21 @@ append_then {a = a} {b = b} x y = record {
   next_is = omega (arith, x.next_is, y.next_is, length-append a b);
   is = λ written old e n. rw (← append_assoc) (y.is (written ++ a) old (x.is written old e n) (omega (arith, x.next_is, length-append written a)));
 }
+
+-- behind the pieces of a list's front, the piece of the next
+pub append_next : {A : Type 0} (f : A → List ℕ) (l : List A) (i : ℕ) (other : A) {entry mid exit : List ℕ} {at here next : ℕ} → i < length l
+    → Appended entry mid at here (flat_map f (take i l)) → Appended mid exit here next (f (get_or l i other)) → Appended entry exit at next (flat_map f (take (i + 1) l))
+append_next f l i other lt x y = rw (add-one, take-suc l i other lt, flat_with f (take i l) (get_or l i other)) (append_then x y)
+
+-- before the first piece of a list
+pub append_first : {A : Type 0} (f : A → List ℕ) (out : List ℕ) (at : ℕ) → Appended out out at at (flat_map f [])
+unfolding flat_map
+append_first f out at = append_none out at
+
+-- how many pieces of a list's front stand there
+pub next_front : {A : Type 0} (f : A → List ℕ) (k : ℕ) → ((a : A) → length (f a) ≡ k) → (l : List A) (i : ℕ) {entry exit : List ℕ} {at next : ℕ} → i ≤ length l
+    → Appended entry exit at next (flat_map f (take i l)) → next ≡ at + k * i
+next_front f k e l i le x = let n = length-take-le i l le in omega (arith, x.next_is, rw n at (length_pieces f k e (take i l)))
 
 -- a whole call: the bytes stand over the front, and the next place is how many there are
 pub append_all : {entry exit : List ℕ} {next : ℕ} {bytes : List ℕ} → Appended entry exit 0 next bytes → exit ≡ over bytes entry

@@ -235,7 +235,7 @@ module _ {s : List ℕ} {start size : ℕ} {arcs : List Arc} {to : Ends} {at : �
     load_inside = (known_room so_far.1 stand.few stand.is kind byte.1 byte.0).3
 
     -- one more fits too
-    few : to.hinders < 12288
+    pub few : to.hinders < 12288
     few =
         omega (
           arith,

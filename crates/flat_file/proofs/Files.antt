@@ -8,10 +8,10 @@ use borrow.Author.Tests.{eq-eqb, ne_eqb, ltb-true}
 use lib.ListN.{set, length-set, length-append, get_or-append}
 use lib.Seq.{get_or-set_same, get_or-set_other, get_or_at}
 use Rattle.reading.specs.Basics.{ℕ, Bool, true, false, List, [], option_map, none, some, given, length, get_or, ltb, eqb, find, with, byte_at, word_at}
-use Rattle.reading.specs.Reading.{Answer, fine, fault, under, ◌and_then◌, refused, outcome, Check, ◌unless◌, failing, command, obey, standing, whole, file}
+use Rattle.reading.specs.Reading.{Answer, fine, fault, under, ◌and_then◌, refused, outcome, Check, ◌unless◌, failing, Command, command, obey, standing, whole, file}
 use Rattle.reading.specs.Refusals.{number_of, answered}
 use Rattle.reading.specs.declared.refusal.Refusal.{Refusal}
-use Rattle.reading.proofs.Commands.{passes, done, fails, passing, failed, other, end, needed_past, needed_stray, needs_goes}
+use Rattle.reading.proofs.Commands.{known, passes, done, fails, passing, failed, other, end, standing_none, stands_cut, stands_fails, stands_goes, needed_past, needed_stray, needs_goes}
 use Rattle.reading.proofs.Parts.{Reading, begins, goes_on, ends, stops}
 use Rattle.firing.specs.Arcs.{Row, row}
 use Rattle.flat_file.specs.Flat.{Flat, place_part, arc_part, row_part, read_flat}
@@ -52,6 +52,30 @@ module _ {A : Type 0} (go : ℕ → Answer A) where
   pub step_goes : (s : List ℕ) (byte width : ℕ) (room : Bool) (at : ℕ) (step : Result (Option ℕ) Refusal) → step_of s byte width room at ≡ step_told (λ next. fine next next) step
       → standing s (command byte (width - 1) ((4 unless room) ∷ []) go ∷ []) at ≡ step_told go step
   step_goes s byte width room at step e = standing_onto s byte (width - 1) ((4 unless room) ∷ []) at ∙ ap (option_map onto) e ∙ told_goes step
+
+-- what stands at one command's place
+module _ (s : List ℕ) (byte width : ℕ) (room : Bool) (at : ℕ) where
+  abbrev one : Command ℕ
+  one = command byte (width - 1) ((4 unless room) ∷ []) (λ next. fine next next)
+
+  pub step_other : (byte_at s at ≡ byte → ⊥) → step_of s byte width room at ≡ none
+  step_other ne = standing_none s at (one ∷ []) (other (ne_eqb (byte_at s at) byte ne) end)
+
+  module _ (stands : byte_at s at ≡ byte) (wide : 0 < width) where
+    is_known : known (one ∷ []) byte ≡ some one
+    unfolding find
+    is_known = rw (eq-eqb byte byte refl)
+
+    pub step_cut : length s < at + width → step_of s byte width room at ≡ some (fault 2 (length s))
+    step_cut lt = stands_cut s at byte (one ∷ []) stands is_known (omega arith)
+
+    pub step_full : at + width ≤ length s → room ≡ false → step_of s byte width room at ≡ some (fault 4 at)
+    step_full le e = stands_fails s at byte (one ∷ []) stands is_known (omega arith) (fails e)
+
+    pub step_on : at + width ≤ length s → room ≡ true → step_of s byte width room at ≡ some (fine (at + width) (at + width))
+    step_on le e =
+        let w : at + (1 + (width - 1)) ≡ at + width = omega arith in
+        stands_goes s at byte (one ∷ []) stands is_known (omega arith) (passes e done) ∙ rw w
 
 -- ---- the places so far
 pub record PlacesSoFar (s : List ℕ) (start count at : ℕ) : Type 0 where

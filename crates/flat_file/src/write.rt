@@ -49,12 +49,12 @@ fn write_place(count: u16, out: &mut [u8], at: usize) -> usize
 }
 
 // The places' counts.
-pub fn write_places(initial: &[u16], out: &mut [u8], at: usize) -> usize
-    requires { at + 3 * length initial.now ≤ length out.old }
-    ensures { Appended out.old out.new at result (flat_map (λ c. 0x50 ∷ word c) initial.now) }
+pub fn write_places(counts: &[u16], out: &mut [u8], at: usize) -> usize
+    requires { at + 3 * length counts.now ≤ length out.old }
+    ensures { Appended out.old out.new at result (flat_map (λ c. 0x50 ∷ word c) counts.now) }
 {
     let mut next = at;
-    for count in initial {
+    for count in counts {
         next = write_place(*count, out, next);
     }
     next
