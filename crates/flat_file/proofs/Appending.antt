@@ -1,19 +1,18 @@
 -- Pieces of bytes written one behind the other into a lent list. Assumes nothing.
-use Rattle.std.specs.Prelude.{◌+◌, ◌*◌, ◌-◌, ◌∷◌, ◌++◌}
-use mathlib.Core.Path.{◌≡◌, refl, sym, ap}
+use Rattle.std.specs.Prelude.{◌+◌, ◌*◌, ◌∷◌, ◌++◌}
+use mathlib.Core.Path.{◌≡◌, refl, sym}
 use mathlib.Core.List.{append_assoc, append-nil}
 use Prim.Native.Nat.{◌≤◌, ◌<◌}
 use native.Mathlib.Omega.{arith}
 use native.Mathlib.Nat.{add-zero}
 use native.Mathlib.Numerals.{add-one}
-use lib.ListN.{set, length-append, length-drop, length-take}
-use lib.Seq.{drop-cons, take-suc, get_or-take, length-take-le}
-use Rattle.reading.specs.Basics.{ℕ, zero, suc, List, [], flat_map, length, get_or, take, drop, over}
+use lib.ListN.{length-append}
+use lib.Seq.{take-suc, length-take-le}
+use Rattle.reading.specs.Basics.{ℕ, List, [], flat_map, length, get_or, take, over}
 use Rattle.firing.specs.declared.Arc.{Arc}
 use Rattle.firing.specs.Arcs.{Row}
 use Rattle.firing.specs.internal.RowLists.{EndsWithin, row_in}
 use Rattle.firing.proofs.Rows.{length_arcs}
-use Rattle.firing.proofs.Running.{over-set}
 use Rattle.reading.proofs.Lists.{flat_with}
 use Rattle.flat_file.specs.Flat.{arc_bytes, row_bytes}
 use Rattle.flat_file.proofs.Written.{place_bytes, length_places, length_pieces, row_size, length-row, length_arc_bytes}
@@ -22,17 +21,6 @@ use Rattle.flat_file.specs.internal.Output.{Appended}
 -- nothing
 pub append_none : (out : List ℕ) (at : ℕ) → Appended out out at at []
 append_none out at = record { next_is = sym (add-zero at); is = λ written old e n. rw append-nil e }
-
--- one byte stored
-pub append_byte : (out : List ℕ) (at b : ℕ) → at < length out → Appended out (set out at b) at (at + 1) (b ∷ [])
-append_byte out at b room = record {
-  next_is = refl;
-  is = λ written old e n.
-      let k = length-append written (drop (length written) old) in
-      let d = length-drop (length written) old in
-      let l : length out ≡ length (over written old) = ap length e in
-      rw e (over-set written old at b (sym n) (omega arith));
-}
 
 -- some bytes and then others
 pub append_then : {entry out exit : List ℕ} {at mid next : ℕ} {a b : List ℕ} → Appended entry out at mid a → Appended out exit mid next b
@@ -87,30 +75,6 @@ module _ {A : Type 0} (f : A → List ℕ) where
     pub go_end : rest ≡ [] → Appended entry out start at (flat_map f l)
     unfolding flat_map
     go_end e = here.goes out at (rw e (append_none out at))
-
--- the bytes of a list, one by one
-pub flat_map_one : (l : List ℕ) → flat_map (λ b. b ∷ []) l ≡ l
-unfolding flat_map
-flat_map_one [] = refl
-flat_map_one (b ∷ l) = ap (λ (m : List ℕ). b ∷ m) (flat_map_one l)
-
--- ---- what is left of a list, and of the first so many
-pub drop_more : (l : List ℕ) (i : ℕ) → i < length l → drop i l ≡ get_or l i 0 ∷ drop (i + 1) l
-drop_more l i h = rw (add-one, drop-cons l i 0 h)
-
-pub drop_none : (l : List ℕ) (i : ℕ) → length l ≤ i → drop i l ≡ []
-drop_none [] zero h = refl
-drop_none [] (suc i) h = refl
-drop_none (x ∷ l) zero h = absurd (omega arith)
-drop_none (x ∷ l) (suc i) h = drop_none l i (omega arith)
-
-pub take_more : (l : List ℕ) (n i : ℕ) → i < n → n ≤ length l → drop i (take n l) ≡ get_or l i 0 ∷ drop (i + 1) (take n l)
-take_more l n i h k =
-    let e = length-take-le n l k in
-    rw (add-one, drop-cons (take n l) i 0 (omega arith), get_or-take n l i 0 h)
-
-pub take_none : (l : List ℕ) (n i : ℕ) → n ≤ i → drop i (take n l) ≡ []
-take_none l n i h = drop_none (take n l) i (omega (arith, length-take n l))
 
 -- ---- lengths
 -- the place behind some arcs

@@ -1,5 +1,5 @@
 -- The arc at a place of the file, by its kind; and the arcs of a row read so far. Assumes nothing.
-use Rattle.std.specs.Prelude.{◌+◌, ◌-◌, ◌*◌, ◌&&◌, ◌∷◌, Option, Some, None, Result, Ok, Err}
+use Rattle.std.specs.Prelude.{◌+◌, ◌*◌, ◌&&◌, ◌∷◌, Option, Some, None, Result, Ok, Err}
 use mathlib.Core.Path.{◌≡◌, refl, sym, ap, ◌∙◌, subst}
 use Prim.Native.Nat.{◌≤◌, ◌<◌}
 use native.Mathlib.Omega.{arith}
@@ -7,16 +7,15 @@ use native.Mathlib.Decide.{dec_le, dec_lt}
 use borrow.Author.Tests.{lt-ltb, le-ltb, le-leb, lt-leb, ne_eqb}
 use mathlib.Core.Logic.{◌⊎◌, inl, inr}
 use lib.ListN.{set, length-set}
-use Rattle.reading.specs.Basics.{ℕ, zero, suc, true, false, List, [], some, none, length, ltb, eqb, every, numbers_from, find, byte_at, word_at}
+use Rattle.reading.specs.Basics.{ℕ, true, false, List, [], some, none, length, ltb, eqb, every, find, byte_at, word_at}
 use Rattle.reading.specs.Reading.{fine, fault, ◌unless◌, obey}
-use Rattle.reading.specs.Refusals.{number_of}
 use Rattle.reading.specs.declared.refusal.Refusal.{Refusal}
 use Rattle.reading.proofs.Commands.{Fails, fails, later, passes, done, other, end, both_hold, first_fails, second_fails, standing_at, standing_none, obey_cut, obey_fails, obey_goes}
 use Rattle.reading.proofs.Parts.{Reading, begins, goes_on, ends, stops}
 use Rattle.firing.specs.declared.Arc.{Arc}
 use Rattle.firing.specs.Arcs.{Row, row, Rising, Proper}
 use Rattle.firing.specs.declared.Ends.{Ends}
-use Rattle.firing.specs.internal.RowLists.{arcs_in, EndsWithin, row_in}
+use Rattle.firing.specs.internal.RowLists.{EndsWithin, row_in}
 use Rattle.firing.proofs.Rows.{length_arcs, arcs_none}
 use Rattle.flat_file.specs.Flat.{arc_command, arc_part}
 use Rattle.flat_file.specs.internal.ReaderEnums.{kind_byte, ArcHere, most_arcs, in_order, added, key, Least, arc_there, arc_step, Checked, ArcRoom, ArcsPassed, arcs_at, ArcsStand, later_ends}

@@ -9,15 +9,13 @@ use lib.ListN.{set, length-set, length-append, get_or-append}
 use lib.Seq.{get_or-set_same, get_or-set_other, get_or_at}
 use Rattle.reading.specs.Basics.{ℕ, Bool, true, false, List, [], option_map, none, some, given, length, get_or, ltb, eqb, find, with, byte_at, word_at}
 use Rattle.reading.specs.Reading.{Answer, fine, fault, under, ◌and_then◌, refused, outcome, Check, ◌unless◌, failing, Command, command, obey, standing, whole, file}
-use Rattle.reading.specs.Refusals.{number_of, answered}
+use Rattle.reading.specs.Refusals.{number_of}
 use Rattle.reading.specs.declared.refusal.Refusal.{Refusal}
 use Rattle.reading.proofs.Commands.{known, passes, done, fails, passing, failed, other, end, standing_none, stands_cut, stands_fails, stands_goes, needed_past, needed_stray, needs_goes}
 use Rattle.reading.proofs.Parts.{Reading, begins, goes_on, ends, stops}
 use Rattle.firing.specs.Arcs.{Row, row}
-use Rattle.flat_file.specs.Flat.{Flat, place_part, arc_part, row_part, read_flat}
+use Rattle.flat_file.specs.Flat.{Flat, place_part, row_part, read_flat}
 use Rattle.flat_file.specs.internal.ReaderEnums.{step_of, step_told, StepRoom, PlacesHeld, PlacesRead, ArcsPassed, arcs_at, RowsReadable, RowsHeld, RowsRead, opening, closing, going, Scanned}
-use Rattle.flat_file.specs.declared.reader.Part.{Part}
-use Rattle.flat_file.specs.declared.reader.FlatSizes.{FlatSizes}
 
 -- ---- a step at one command, whatever follows it
 module _ {A : Type 0} (go : ℕ → Answer A) where

@@ -1,14 +1,13 @@
 -- Rows that lie in two lent lists, and rows with one more arc: what they hold, that they stay proper, and how many arcs they have. Assumes nothing.
 use Rattle.std.specs.Prelude.{◌+◌, ◌-◌, ◌*◌, ◌&&◌, ◌∷◌}
-use mathlib.Core.Path.{◌≡◌, refl, sym, ap, ap₂, ◌∙◌}
+use mathlib.Core.Path.{◌≡◌, refl, sym, ◌∙◌}
 use mathlib.Core.Bool.{and_assoc, and-true}
 use Prim.Native.Nat.{◌≤◌, ◌<◌}
 use native.Mathlib.Omega.{arith}
 use native.Mathlib.Decide.{dec_le}
 use borrow.Author.Tests.{lt-ltb, le-ltb, le-leb, lt-leb, ne_eqb, ltb-true, eqb-true}
 use lib.ListN.{set, length-append}
-use lib.Seq.{get_or-set_same, get_or-set_other}
-use Rattle.reading.specs.Basics.{ℕ, zero, suc, Bool, true, false, List, [], map, length, get_or, ltb, leb, eqb, with, numbers_from, every}
+use Rattle.reading.specs.Basics.{ℕ, Bool, true, false, List, [], length, ltb, leb, eqb, with, every}
 use Rattle.reading.proofs.Commands.{first_fails, second_fails}
 use Rattle.firing.specs.declared.Arc.{Arc}
 use Rattle.firing.specs.Arcs.{Row, Rising, none, more, Proper}

@@ -65,12 +65,7 @@ fn key(kind: Kind, place: u16) -> usize
 }
 
 // The arc at a place of the file, over so many flat places; None where the row ends. The least key allowed is given.
-fn arc_at(
-    file: &[u8],
-    count: usize,
-    at: usize,
-    least: usize,
-) -> Result<Option<ArcRead>, Refusal>
+fn arc_at(file: &[u8], count: usize, at: usize, least: usize) -> Result<Option<ArcRead>, Refusal>
     ensures is { (before : Row) → Least before least → arc_part file.now count before at ≡ arc_step (at + 5) before result }
     ensures room { ArcRoom (length file.now) count at least result }
 {
@@ -124,7 +119,10 @@ fn later_ends(kind: Kind, was: Ends) -> Ends
             hinders: end,
             ..was
         },
-        Kind::Hinder => Ends { hinders: end, ..was },
+        Kind::Hinder => Ends {
+            hinders: end,
+            ..was
+        },
     }
 }
 
@@ -216,12 +214,7 @@ fn row_at(file: &[u8], rows: usize, at: usize) -> Result<Option<usize>, Refusal>
 
 // The rows, over so many flat places: where each row's arcs start goes into the front of starts, as far as it reaches. Each
 // start is a u32: at most 65,535 rows of at most 61,441 bytes each stand before it.
-fn read_rows(
-    file: &[u8],
-    count: usize,
-    start: usize,
-    starts: &mut [u32],
-) -> Result<Part, Refusal>
+fn read_rows(file: &[u8], count: usize, start: usize, starts: &mut [u32]) -> Result<Part, Refusal>
     requires count_bound { count ≤ 4096 }
     requires start_bound { start ≤ 12290 }
     requires start_in_bounds { start ≤ length file.now }

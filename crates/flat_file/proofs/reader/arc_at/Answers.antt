@@ -3,7 +3,6 @@ use Prim.Native.Nat.{◌+◌}
 use Rattle.flat_file.proofs.Arcs.{arc_none, arc_cut, arc_beyond, arc_weightless, arc_disorder, arc_goes}
 use Rattle.flat_file.proofs.reader.arc_at.Goals as goal
 
-
 pub returns-in_default-clause-is : goal.returns-in_default-clause-is
 returns-in_default-clause-is c r f = arc_none _ _ _ _ c.in_default.ensures
 

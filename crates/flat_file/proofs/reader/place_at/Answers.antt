@@ -1,4 +1,3 @@
-use mathlib.Core.Path.{◌∙◌}
 use Rattle.flat_file.specs.Flat.{place_part}
 use Rattle.flat_file.proofs.Files.{step_goes}
 use Rattle.flat_file.proofs.reader.place_at.Goals as goal
