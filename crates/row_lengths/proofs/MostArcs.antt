@@ -10,7 +10,7 @@ use Rattle.net.specs.Net.{Expression, one, two, all, plus, minus, times, Place, 
 use Rattle.net.specs.Values.{colour, pair_rank, weight}
 use Rattle.net_file.specs.Formed.{Fitting, expression_formed}
 use Rattle.sums.specs.internal.Loaded.{rank_arcs}
-use Rattle.row_lengths.specs.internal.MostArcs.{lesser, others_of, of_one, most_less, most}
+use Rattle.row_lengths.specs.internal.MostArcs.{others_of, of_one, most_less, most}
 use Rattle.row_lengths.proofs.Ranges.{one_ranks, two_ranks}
 use Rattle.multiset.proofs.Ranks.{ranks_skip, ranks_none, ranks_few}
 use Rattle.multiset.proofs.Slots.{many, step, one_many}
@@ -81,13 +81,6 @@ module _ (start : ℕ) where
         go false e u f = omega (arith, ap length (ranks_none start left 0 ranks (λ r. let h = ltb-false 0 number e in omega arith)))
 
 -- ---- the most arcs
-lesser_of : (a b m : ℕ) → m ≤ a → m ≤ b → m ≤ lesser a b
-lesser_of a b m h i = go (leb a b)
-  where
-    go : (t : Bool) → m ≤ (if t then a else b)
-    go true = h
-    go false = i
-
 -- of an expression on a place, under colours of the variables' sets
 module _ (start : ℕ) (n : Net) (env : ℕ → ℕ) (fits : Fitting n env) (p : Place) where
   abbrev ranks : ℕ
@@ -126,13 +119,13 @@ module _ (start : ℕ) (n : Net) (env : ℕ → ℕ) (fits : Fitting n env) (p :
   arcs_most (all number) f = few (all number)
   arcs_most (plus a b) f =
       let both = both_first (expression_formed n p a && expression_formed n p b) (leb (ceiling a + ceiling b) 65535) f in
-      lesser_of ranks (most ranks a + most ranks b) _ (few (plus a b))
-      (omega (
+      omega (
         arith,
+        few (plus a b),
         either_many start (λ rank. weight n env rank a) (λ rank. weight n env rank b) (λ rank. weight n env rank (plus a b)) (λ r e f. omega arith) 0 ranks,
         arcs_most a (both_first (expression_formed n p a) (expression_formed n p b) both),
         arcs_most b (both_second (expression_formed n p a) (expression_formed n p b) both),
-      ))
+      )
   arcs_most (minus a b) f =
       let both = both_first (expression_formed n p a && expression_formed n p b) (leb (ceiling a) 65535) f in
       less_most a b (both_second (expression_formed n p a) (expression_formed n p b) both)

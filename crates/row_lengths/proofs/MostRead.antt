@@ -1,12 +1,11 @@
 -- The most arcs of an arc expression, from what stands in the bytes: by cases on the reading. Assumes nothing.
-use Rattle.std.specs.Prelude.{◌+◌, ◌-◌, if◌then◌else◌}
+use Rattle.std.specs.Prelude.{◌+◌, ◌-◌, min}
 use mathlib.Core.Path.{◌≡◌, refl, sym, ap, ◌∙◌, subst}
 use Prim.Native.Nat.{◌≤◌, ◌<◌}
-use Rattle.reading.specs.Basics.{ℕ, Bool, true, false, List, length, eqb, byte_at, word_at}
+use Rattle.reading.specs.Basics.{ℕ, Bool, List, length, byte_at, word_at}
 use Rattle.reading.specs.Reading.{Answer, fine, fault, under}
 use Rattle.net.specs.Net.{Colour, Expression, plus, minus, times, Place, single, pair, Net}
 use Rattle.net.specs.Reader.{read_colour, read_expression, two_of, amount, capped}
-use Rattle.arc_expressions.specs.internal.ReaderEnums.{joins}
 use Rattle.plan.specs.internal.Layout.{expression_in, ranks_in, pair_in}
 use Rattle.evaluation.specs.internal.Evaluated.{Ranks, scope_in, place_by}
 use Rattle.evaluation.specs.declared.evaluate.Ranked.{Ranked}
@@ -15,9 +14,8 @@ use Rattle.net.proofs.Colours.{deeper}
 use Rattle.evaluation.proofs.Values.{obey_by, needed_by, needed_each}
 use Rattle.arc_expressions.proofs.Expressions.{deeper_expression, expression_step, expression_in_lem}
 use Rattle.evaluation.proofs.Weights.{joined_by, times_by, one_by, two_by, expression_past, expression_shut, expression_stray}
-use Rattle.row_lengths.specs.internal.MostArcs.{lesser, of_every, of_one, most_less, most, number_at, MostTold, MostArc}
+use Rattle.row_lengths.specs.internal.MostArcs.{of_every, of_one, most_less, most, number_at, MostTold, MostArc}
 use Rattle.row_lengths.specs.declared.arcs.Most.{Most}
-use Rattle.sums.proofs.Listing.{either_byte}
 
 -- ---- what the byte at a place tells of the expression that stands there: the number of a count
 abbrev Numbered : List ℕ → ℕ → Answer Expression → Type 0
@@ -52,21 +50,21 @@ module _ (s : List ℕ) (n : Net) (at : ℕ) where
 module _ (count : ℕ) (inner : ℕ → Answer Expression) (at next : ℕ) (p : Most) (first : MostTold count p (inner next)) where
   -- a sum
   pub sum-most : (q : Most) → MostTold count q (inner p.next)
-      → MostTold count (record { arcs = lesser count (p.arcs + q.arcs); next = q.next }) (capped at (two_of inner (joins false) next))
+      → MostTold count (record { arcs = min count (p.arcs + q.arcs); next = q.next }) (capped at (two_of inner plus next))
   unfolding most
   sum-most q second =
-      joined_by (MostTold count (record { arcs = lesser count (p.arcs + q.arcs); next = q.next })) (λ k i. tt) at inner next (joins false)
+      joined_by (MostTold count (record { arcs = min count (p.arcs + q.arcs); next = q.next })) (λ k i. tt) at inner next plus
       (λ a b mid end e f small.
       let g : MostTold count p (fine a mid) = subst (MostTold count p) e first in
       let h : MostTold count q (fine b end) = subst (MostTold count q) (ap inner g.1 ∙ f) second in
-      (ap (λ x. lesser count (x + q.arcs)) g.0 ∙ ap (λ x. lesser count (most count a + x)) h.0, h.1))
+      (ap (λ x. min count (x + q.arcs)) g.0 ∙ ap (λ x. min count (most count a + x)) h.0, h.1))
 
   -- a difference
   pub less_most : (s : List ℕ) → ((place : ℕ) → Numbered s place (inner place)) → (q : Most) → MostTold count q (inner p.next)
-      → MostTold count (record { arcs = most_less count p.arcs (number_at s 0x41 next) (number_at s 0x40 p.next); next = q.next }) (capped at (two_of inner (joins true) next))
+      → MostTold count (record { arcs = most_less count p.arcs (number_at s 0x41 next) (number_at s 0x40 p.next); next = q.next }) (capped at (two_of inner minus next))
   unfolding most
   less_most s numbers q second =
-      joined_by (MostTold count (record { arcs = most_less count p.arcs (number_at s 0x41 next) (number_at s 0x40 p.next); next = q.next })) (λ k i. tt) at inner next (joins true)
+      joined_by (MostTold count (record { arcs = most_less count p.arcs (number_at s 0x41 next) (number_at s 0x40 p.next); next = q.next })) (λ k i. tt) at inner next minus
       (λ a b mid end e f small.
       let g : MostTold count p (fine a mid) = subst (MostTold count p) e first in
       let h : MostTold count q (fine b end) = subst (MostTold count q) (ap inner g.1 ∙ f) second in
@@ -122,15 +120,13 @@ module _ (s : List ℕ) (n : Net) (place : Place) (left at count : ℕ) where
           (times_most count (read_expression s n place (left - 1)) at (at + 3) r h (word_at s (at + 1))))
 
       -- 0x42 and 0x43
-      joined-told : (less : Bool) → byte_at s at ≡ (if less then 0x43 else 0x42)
-          → MostTold count r (capped at (two_of (read_expression s n place (left - 1)) (joins less) (at + 1))) → MostTold count r (read_expression s n place left at)
+      pub plus_told : byte_at s at ≡ 0x42 → MostTold count r (capped at (two_of (read_expression s n place (left - 1)) plus (at + 1))) → MostTold count r (read_expression s n place left at)
       unfolding commands
-      joined-told true e h = rw (expression_in_lem s n place left at le) (needed_by (MostTold count r) (λ k p. tt) s at 0x43 _ e refl h)
-      joined-told false e h = rw (expression_in_lem s n place left at le) (needed_by (MostTold count r) (λ k p. tt) s at 0x42 _ e refl h)
+      plus_told e h = rw (expression_in_lem s n place left at le) (needed_by (MostTold count r) (λ k p. tt) s at 0x42 _ e refl h)
 
-      pub either_told : 0x42 ≤ byte_at s at → byte_at s at ≤ 0x43
-          → MostTold count r (capped at (two_of (read_expression s n place (left - 1)) (joins (eqb (byte_at s at) 0x43)) (at + 1))) → MostTold count r (read_expression s n place left at)
-      either_told low high h = joined-told (eqb (byte_at s at) 0x43) (either_byte (byte_at s at) low high) h
+      pub minus_told : byte_at s at ≡ 0x43 → MostTold count r (capped at (two_of (read_expression s n place (left - 1)) minus (at + 1))) → MostTold count r (read_expression s n place left at)
+      unfolding commands
+      minus_told e h = rw (expression_in_lem s n place left at le) (needed_by (MostTold count r) (λ k p. tt) s at 0x43 _ e refl h)
 
   -- nothing is promised past the end, where no level is left for what is inside, and at a stray byte
   module _ (r : Most) where

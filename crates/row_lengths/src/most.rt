@@ -12,14 +12,12 @@ fn most_kind(file: &[u8], plan: &[u32; 3584], base: usize) -> usize
     ensures small { result ≤ 2097120 }
 {
     let mut total: usize = 0;
-    let mut i: usize = 0;
-    while i < 32 {
+    for i in 0..32 {
         let entry = arc_of(plan, base + i);
         if entry < 1 {
             return total;
         }
         total += most_arcs(file, plan, entry);
-        i += 1;
     }
     total
 }

@@ -1,16 +1,12 @@
 -- How many arcs an expression gives at most, whatever the binding.
-use Rattle.std.specs.Prelude.{◌≡◌, ◌+◌, ◌-◌, if◌then◌else◌}
-use Rattle.reading.specs.Basics.{ℕ, List, Option, none, some, ltb, leb, eqb, given, byte_at, word_at}
+use Rattle.std.specs.Prelude.{◌≡◌, ◌+◌, ◌-◌, min, if◌then◌else◌}
+use Rattle.reading.specs.Basics.{ℕ, List, Option, none, some, ltb, eqb, given, byte_at, word_at}
 use Rattle.reading.specs.Reading.{Answer, fine, fault}
 use Rattle.net.specs.Reader.{read_expression}
 use Rattle.plan.specs.internal.Layout.{expression_in, ranks_in, pair_in}
 use Rattle.evaluation.specs.internal.Evaluated.{scope_in, place_by}
 use Rattle.net.specs.Net.{Place, Expression, one, two, all, plus, minus, times}
 use Rattle.row_lengths.specs.declared.arcs.Most.{Most}
-
--- the lesser of two numbers
-abbrev pub lesser : ℕ → ℕ → ℕ
-lesser a b = if leb a b then a else b
 
 -- a count of every colour less a count of one, over so many ranks: none where the first is 0, all where some of that colour is left, else all but it
 abbrev pub others_of : ℕ → ℕ → ℕ → ℕ
@@ -44,7 +40,7 @@ unfoldable pub most : ℕ → Expression → ℕ
 most count (one number k) = 1
 most count (two number a b) = 1
 most count (all number) = count
-most count (plus a b) = lesser count (most count a + most count b)
+most count (plus a b) = min count (most count a + most count b)
 most count (minus a b) = most_less count (most count a) (of_every a) (of_one b)
 most count (times factor e) = most count e
 
