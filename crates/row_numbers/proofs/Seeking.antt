@@ -1,5 +1,5 @@
 -- The search for the binding of a row. Assumes nothing.
-use Rattle.std.specs.Prelude.{◌+◌}
+use Rattle.std.specs.Prelude.{◌+◌, Result, Ok, Err}
 use mathlib.Core.Path.{◌≡◌, ap, ◌∙◌, subst}
 use Prim.Native.Nat.{◌≤◌, ◌<◌, ◌-◌}
 use native.Mathlib.Omega.{arith}
@@ -13,8 +13,6 @@ use Rattle.bindings.specs.internal.Numbers.{before}
 use Rattle.bindings.proofs.Digits.{bindings_at, before_all}
 use Rattle.row_numbers.specs.Unfolding.{order_of_row}
 use Rattle.row_numbers.specs.internal.Walked.{passed, order_at, SoughtTold, SoughtRoom}
-use Rattle.row_numbers.specs.declared.seek.Sought.{Sought}
-use Rattle.row_numbers.specs.declared.seek.Sought.TheVariants.{At, Past}
 use Rattle.row_numbers.proofs.Walking.{passed_all, order_here, order_past}
 use Rattle.row_numbers.proofs.Tabled.{every_takes, count_passes, row_each}
 
@@ -41,13 +39,13 @@ module _ {s plan : List ℕ} {n : Net} {t : ℕ} (p : Prepared s n plan) (lt : t
   sought_past {count} {size} is size_is = rw is (row_each p lt every size (omega arith))
 
 -- what a transition's search told
-pub the_index : (n : Net) (t size row : ℕ) {index : ℕ} {r : Sought} → r ≡ At index → SoughtTold n t size row r → order_of_row n row ≡ some (order_at n t index)
+pub the_index : (n : Net) (t size row : ℕ) {index : ℕ} {r : Result ℕ ℕ} → r ≡ Ok index → SoughtTold n t size row r → order_of_row n row ≡ some (order_at n t index)
 the_index n t size row e h = subst (SoughtTold n t size row) e h
 
-pub the_count : (n : Net) (t size row : ℕ) {count : ℕ} {r : Sought} → r ≡ Past count → SoughtTold n t size row r → count ≡ passed n (before n t + size)
+pub the_count : (n : Net) (t size row : ℕ) {count : ℕ} {r : Result ℕ ℕ} → r ≡ Err count → SoughtTold n t size row r → count ≡ passed n (before n t + size)
 the_count n t size row e h = subst (SoughtTold n t size row) e h
 
-pub the_room : (size row count : ℕ) {more : ℕ} {r : Sought} → r ≡ Past more → SoughtRoom size row count r → (more ≤ count + size) × (more ≤ row)
+pub the_room : (size row count : ℕ) {more : ℕ} {r : Result ℕ ℕ} → r ≡ Err more → SoughtRoom size row count r → (more ≤ count + size) × (more ≤ row)
 the_room size row count e h = subst (SoughtRoom size row count) e h
 
 -- the row is not among those of all transitions

@@ -6,5 +6,5 @@ mod seek;
 mod walk;
 
 pub use marks::{has_none, has_row, mark_all};
-pub use seek::{Located, seek_row};
+pub use seek::seek_row;
 pub use walk::{count_entries, entries_of, number_all};

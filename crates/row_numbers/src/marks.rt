@@ -1,5 +1,5 @@
 // Marks: a bit for each binding of a transition whose bindings do not all have rows, one after the other in words of 32.
-ghost use Rattle.std.specs.Prelude.{◌≡◌, true, false, ◌||◌, ◌&&◌, ℕ, ◌+◌, ◌≤◌, ◌<◌, length, eqb, if◌then◌else◌};
+ghost use Rattle.std.specs.Prelude.{◌≡◌, true, false, ◌||◌, ◌&&◌, ℕ, ◌+◌, ◌≤◌, ◌<◌, length, eqb};
 ghost use Rattle.reading.specs.Basics.{product};
 ghost use Rattle.net.specs.Net.{Net, sizes_of, transition_at};
 ghost use Rattle.prepared.specs.internal.Prepared.{Prepared};
@@ -10,26 +10,22 @@ ghost use Rattle.row_numbers.specs.internal.Marks.{mark_at, has_row, Blank, effe
 
 use bindings::{every_binding_has_row, has_effect, next_binding, space_of};
 use plan::transitions_of;
+use reading::element;
 
 // Sets a mark; past the end it sets none.
-pub fn set_mark(marks: &mut [u32; 2048], k: usize)
-    requires { length marks.old ≡ 2048 }
-    ensures set { (j : ℕ) → j < 65536 → mark_at marks.new j ≡ (mark_at marks.old j || eqb j k) }
-    ensures kept { length marks.new ≡ 2048 }
+fn set_mark(marks: &mut [u32; 2048], k: usize)
+    ensures { (j : ℕ) → j < 65536 → mark_at marks.new j ≡ (mark_at marks.old j || eqb j k) }
 {
     if k < 65536 {
-        marks[k / 32] = marks[k / 32] | (1u32 << (k % 32));
+        marks[k / 32] |= 1u32 << (k % 32);
     }
 }
 
 // Whether a mark is set; none is past the end.
 fn mark_at(marks: &[u32; 2048], k: usize) -> bool
-    ensures { k < 65536 → result ≡ mark_at marks.now k }
+    ensures { result ≡ mark_at marks.now k }
 {
-    if k < 65536 {
-        return (marks[k / 32] >> (k % 32)) & 1 == 1;
-    }
-    false
+    (element(marks, k / 32, 0) >> (k % 32)) & 1 == 1
 }
 
 // Whether a binding has a row: where every binding has one it has, else its mark tells.
@@ -37,10 +33,7 @@ pub fn has_row(plan: &[u32; 3584], t: usize, marks: &[u32; 2048], k: usize) -> b
     requires { t < 32 }
     ensures { k < 65536 → result ≡ has_row (every_row plan.now t) marks.now k }
 {
-    if every_binding_has_row(plan, t) {
-        return true;
-    }
-    mark_at(marks, k)
+    every_binding_has_row(plan, t) || mark_at(marks, k)
 }
 
 // Whether the transition's bindings have marks, so many are left, at least 32, and none of the next 32 has a row: their marks are one word, from number k on.
@@ -48,44 +41,32 @@ pub fn has_none(plan: &[u32; 3584], t: usize, marks: &[u32; 2048], k: usize, lef
     requires { t < 32 }
     ensures { result ≡ true → (every_row plan.now t ≡ false) × (32 ≤ left) × ((j : ℕ) → j < 32 → mark_at marks.now (k + j) ≡ false) }
 {
-    if every_binding_has_row(plan, t) {
+    if every_binding_has_row(plan, t) || left < 32 || 0 < k % 32 {
         return false;
     }
-    if left < 32 {
-        return false;
-    }
-    if 0 < k % 32 {
-        return false;
-    }
-    if k < 65536 {
-        return marks[k / 32] == 0;
-    }
-    false
+    element(marks, k / 32, 1) == 0
 }
 
-// Sets the mark of a binding, if it has an effect: how many have one, after so many.
+// Sets the mark of a binding, if it has an effect: whether it has one.
 fn mark_one(
     file: &[u8],
     plan: &[u32; 3584],
     env: &[u8; 32],
     t: usize,
     k: usize,
-    count: usize,
     marks: &mut [u32; 2048],
-) -> usize
-    requires { (t < 32) × (count ≤ 4228250625) × (length marks.old ≡ 2048) }
-    ensures is { (n : Net) (i : ℕ) → Prepared file.now n plan.now → t < length n.transitions
+) -> bool
+    requires { t < 32 }
+    ensures { (n : Net) (i : ℕ) → Prepared file.now n plan.now → t < length n.transitions
         → Binds n (numbered n t i) env.now
-        → (result ≡ count + (if takes_effect n t i then 1 else 0))
+        → (result ≡ takes_effect n t i)
         × ((j : ℕ) → j < 65536 → mark_at marks.new j ≡ (mark_at marks.old j || (eqb j k && takes_effect n t i))) }
-    ensures high { result ≤ count + 1 }
-    ensures kept { length marks.new ≡ 2048 }
 {
-    if has_effect(file, plan, env, t) {
+    let has_row = has_effect(file, plan, env, t);
+    if has_row {
         set_mark(marks, k);
-        return count + 1;
     }
-    count
+    has_row
 }
 
 // Sets the marks of the bindings of a transition, from base on: how many have an effect.
@@ -97,33 +78,29 @@ fn mark_those(
     base: usize,
     marks: &mut [u32; 2048],
 ) -> usize
-    requires { (t < 32) × (many ≤ 4228250625) × (base ≤ 135304020000) × (length marks.old ≡ 2048) }
-    ensures is { (n : Net) → Prepared file.now n plan.now → t < length n.transitions
+    requires { (t < 32) × (many ≤ 4228250625) × (base ≤ 135304020000) }
+    ensures { (n : Net) → Prepared file.now n plan.now → t < length n.transitions
         → many ≡ product (sizes_of n (transition_at n t)) → base + many ≤ 65536 → Blank marks.old base
         → (result ≡ effects n t many) × BindingsMarked n t marks.old marks.new base many }
-    ensures kept { length marks.new ≡ 2048 }
 {
     let mut env = [0u8; 32];
     let mut count: usize = 0;
-    let mut i: usize = 0;
-    while i < many {
-        count = mark_one(file, plan, &env, t, base + i, count, marks);
+    for i in 0..many {
+        if mark_one(file, plan, &env, t, base + i, marks) {
+            count += 1;
+        }
         next_binding(plan, t, &mut env);
-        i += 1;
     }
     count
 }
 
 // Sets the marks of all bindings that need one, and tells how many rows each transition has: where every binding has a row, as many as bindings.
 pub fn mark_all(file: &[u8], plan: &[u32; 3584], marks: &mut [u32; 2048], counts: &mut [usize; 32])
-    requires { (length marks.old ≡ 2048) × (length counts.old ≡ 32) }
     ensures { (n : Net) → Prepared file.now n plan.now → Blank marks.old 0
         → Marked n plan.now marks.new (length n.transitions) × RowsCounted n counts.new (length n.transitions) }
 {
-    let transitions = transitions_of(plan);
     let mut base: usize = 0;
-    let mut t: usize = 0;
-    while t < transitions {
+    for t in 0..transitions_of(plan) {
         let many = space_of(plan, t);
         if every_binding_has_row(plan, t) {
             counts[t] = many;
@@ -131,6 +108,5 @@ pub fn mark_all(file: &[u8], plan: &[u32; 3584], marks: &mut [u32; 2048], counts
             counts[t] = mark_those(file, plan, t, many, base, marks);
             base += many;
         }
-        t += 1;
     }
 }

@@ -7,17 +7,10 @@ ghost use Rattle.bindings.specs.internal.Numbers.{before};
 ghost use Rattle.row_numbers.specs.internal.Walked.{passed, SoughtTold, SoughtRoom, LocatedTold, LocatedRoom};
 
 use crate::walk::count_one;
-use bindings::{every_binding_has_row, next_binding, space_of};
+use bindings::{Numbered, every_binding_has_row, next_binding, space_of};
 use plan::transitions_of;
 
-// A row among the bindings of one transition, or how many rows there are with them.
-#[derive(Clone, Copy)]
-pub enum Sought {
-    At { index: usize },
-    Past { count: usize },
-}
-
-// Seeks a row among the bindings of a transition one by one, after so many rows.
+// Seeks a row among the bindings of a transition one by one, after so many rows: its binding's number there, or how many rows there are with them.
 fn seek_guarded(
     file: &[u8],
     plan: &[u32; 3584],
@@ -25,7 +18,7 @@ fn seek_guarded(
     size: usize,
     row: usize,
     count: usize,
-) -> Sought
+) -> Result<usize, usize>
     requires t_bound { t < 32 }
     requires count_le_row { count ≤ row }
     requires size_bound { count + size ≤ 1000000000000 }
@@ -35,17 +28,15 @@ fn seek_guarded(
 {
     let mut env = [0u8; 32];
     let mut total = count;
-    let mut i: usize = 0;
-    while i < size {
+    for i in 0..size {
         let next = count_one(file, plan, &env, t, total);
         if row < next {
-            return Sought::At { index: i };
+            return Ok(i);
         }
         total = next;
         next_binding(plan, t, &mut env);
-        i += 1;
     }
-    Sought::Past { count: total }
+    Err(total)
 }
 
 // Seeks a row among the bindings of one transition, after so many rows. Where every binding has a row, they follow each other.
@@ -56,7 +47,7 @@ fn seek_in(
     size: usize,
     row: usize,
     count: usize,
-) -> Sought
+) -> Result<usize, usize>
     requires t_bound { t < 32 }
     requires count_le_row { count ≤ row }
     requires size_bound { count + size ≤ 1000000000000 }
@@ -68,40 +59,22 @@ fn seek_in(
         return seek_guarded(file, plan, t, size, row, count);
     }
     if row - count < size {
-        return Sought::At { index: row - count };
+        return Ok(row - count);
     }
-    Sought::Past {
-        count: count + size,
-    }
+    Err(count + size)
 }
 
-// A binding by its transition and its number there, or none.
-#[derive(Clone, Copy)]
-pub enum Located {
-    At { transition: usize, index: usize },
-    Nowhere,
-}
-
-// The binding of a row.
-pub fn seek_row(file: &[u8], plan: &[u32; 3584], row: usize) -> Located
+// The binding of a row, if there is one.
+pub fn seek_row(file: &[u8], plan: &[u32; 3584], row: usize) -> Option<Numbered>
     ensures is { (n : Net) → Prepared file.now n plan.now → LocatedTold n row result }
     ensures room { LocatedRoom result }
 {
-    let transitions = transitions_of(plan);
     let mut count: usize = 0;
-    let mut t: usize = 0;
-    while t < transitions {
-        let size = space_of(plan, t);
-        match seek_in(file, plan, t, size, row, count) {
-            Sought::At { index } => return Located::At {
-                transition: t,
-                index,
-            },
-            Sought::Past { count: more } => {
-                count = more;
-                t += 1;
-            }
+    for t in 0..transitions_of(plan) {
+        match seek_in(file, plan, t, space_of(plan, t), row, count) {
+            Ok(index) => return Some(Numbered { t, index }),
+            Err(more) => count = more,
         }
     }
-    Located::Nowhere
+    None
 }

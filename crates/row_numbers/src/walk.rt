@@ -1,5 +1,5 @@
 // The walk over all bindings in order, which gives each its row number.
-ghost use Rattle.std.specs.Prelude.{◌≡◌, ℕ, ◌≤◌, ◌<◌, ◌+◌, List, length, get_or, set};
+ghost use Rattle.std.specs.Prelude.{◌≡◌, ℕ, ◌≤◌, ◌<◌, ◌+◌, List, length, get_or};
 ghost use Rattle.reading.specs.Basics.{product};
 ghost use Rattle.net.specs.Net.{Net, sizes_of, transition_at};
 ghost use Rattle.prepared.specs.internal.Prepared.{Prepared};
@@ -10,6 +10,7 @@ ghost use Rattle.row_numbers.specs.internal.Walked.{passed, entries_at, entries,
 
 use bindings::{every_binding_has_row, has_effect, next_binding, space_of};
 use plan::transitions_of;
+use reading::store;
 
 // How many rows there are with a binding, after so many.
 pub fn count_one(file: &[u8], plan: &[u32; 3584], env: &[u8; 32], t: usize, count: usize) -> usize
@@ -20,10 +21,7 @@ pub fn count_one(file: &[u8], plan: &[u32; 3584], env: &[u8; 32], t: usize, coun
     ensures low { count ≤ result }
     ensures high { result ≤ count + 1 }
 {
-    if has_effect(file, plan, env, t) {
-        return count + 1;
-    }
-    count
+    count + usize::from(has_effect(file, plan, env, t))
 }
 
 // The number of a row that follows so many, or 4,294,967,295 where there is none.
@@ -32,17 +30,9 @@ fn number_of(count: usize, next: usize) -> u32
     ensures none { next ≤ count → result ≡ 4294967295 }
 {
     if count < next {
-        return (count % 65536) as u32;
-    }
-    4294967295
-}
-
-// Stores a number; past the end it stores nothing.
-fn store(numbers: &mut [u32], at: usize, number: u32)
-    ensures { numbers.new ≡ set numbers.old at number }
-{
-    if at < numbers.len() {
-        numbers[at] = number;
+        (count % 65536) as u32
+    } else {
+        u32::MAX
     }
 }
 
@@ -67,13 +57,11 @@ fn number_those(
 {
     let mut env = [0u8; 32];
     let mut total = count;
-    let mut i: usize = 0;
-    while i < size {
+    for i in 0..size {
         let next = count_one(file, plan, &env, t, total);
         store(numbers, base + i, number_of(total, next));
         total = next;
         next_binding(plan, t, &mut env);
-        i += 1;
     }
     total
 }
@@ -85,37 +73,32 @@ pub fn entries_of(plan: &[u32; 3584], t: usize, size: usize) -> usize
     ensures small { result ≤ size }
 {
     if every_binding_has_row(plan, t) {
-        return 0;
+        0
+    } else {
+        size
     }
-    size
 }
 
 // How many entries the table needs.
 pub fn count_entries(plan: &[u32; 3584]) -> usize
     ensures { (file : List ℕ) (n : Net) → Prepared file n plan.now → result ≡ entries n plan.now (length n.transitions) }
 {
-    let transitions = transitions_of(plan);
     let mut total: usize = 0;
-    let mut t: usize = 0;
-    while t < transitions {
+    for t in 0..transitions_of(plan) {
         total += entries_of(plan, t, space_of(plan, t));
-        t += 1;
     }
     total
 }
 
 // Numbers the bindings of all transitions that have entries, and tells where each transition starts: in the table, or where every binding has a row its first row.
-pub fn number_all(file: &[u8], plan: &[u32; 3584], starts: &mut [usize], numbers: &mut [u32])
-    requires { length starts.old ≡ 32 }
+pub fn number_all(file: &[u8], plan: &[u32; 3584], starts: &mut [usize; 32], numbers: &mut [u32])
     ensures { (n : Net) → Prepared file.now n plan.now
         → entries n plan.now (length n.transitions) ≤ length numbers.old
         → Starts n plan.now starts.new numbers.new (length n.transitions) }
 {
-    let transitions = transitions_of(plan);
     let mut base: usize = 0;
     let mut count: usize = 0;
-    let mut t: usize = 0;
-    while t < transitions {
+    for t in 0..transitions_of(plan) {
         let size = space_of(plan, t);
         if every_binding_has_row(plan, t) {
             starts[t] = count;
@@ -125,6 +108,5 @@ pub fn number_all(file: &[u8], plan: &[u32; 3584], starts: &mut [usize], numbers
             count = number_those(file, plan, t, size, base, count, numbers);
             base += size;
         }
-        t += 1;
     }
 }

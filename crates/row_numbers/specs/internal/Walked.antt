@@ -1,5 +1,5 @@
 -- What the walk over all bindings tells: the rows among the first so many, and their numbers.
-use Rattle.std.specs.Prelude.{◌≡◌, ◌≤◌, ◌<◌, ◌+◌, if◌then◌else◌}
+use Rattle.std.specs.Prelude.{◌≡◌, ◌≤◌, ◌<◌, ◌+◌, if◌then◌else◌, Option, Some, None, Result, Ok, Err}
 use Rattle.reading.specs.Basics.{ℕ, zero, suc, Bool, true, false, List, filter_map, option_map, none, some, length, take, get_or, given, product}
 use Rattle.net.specs.Net.{Net, sizes_of, transition_at}
 use Rattle.bindings.specs.Effect.{bindings, effect}
@@ -7,11 +7,8 @@ use Rattle.bindings.specs.Orders.{order_of}
 use Rattle.bindings.specs.internal.Numbers.{digits, before}
 use Rattle.bindings.specs.internal.Bindings.{numbered}
 use Rattle.bindings.specs.internal.Legal.{every_row}
+use Rattle.bindings.specs.declared.binding.Numbered.{Numbered}
 use Rattle.row_numbers.specs.Unfolding.{Rowed, row_number, order_of_row}
-use Rattle.row_numbers.specs.declared.seek.Sought.{Sought}
-use Rattle.row_numbers.specs.declared.seek.Sought.TheVariants as sought
-use Rattle.row_numbers.specs.declared.seek.Located.{Located}
-use Rattle.row_numbers.specs.declared.seek.Located.TheVariants as located
 
 -- ---- the rows of the first so many bindings, and their number
 abbrev pub rows_among : Net → ℕ → List Rowed
@@ -54,19 +51,19 @@ pub record Starts (n : Net) (plan starts numbers : List ℕ) (t : ℕ) : Type 0 
 
 -- ---- what the search for a row tells
 -- among the bindings of a transition, of which there are so many: the row is one of them, or it comes after them
-abbrev pub SoughtTold : Net → ℕ → ℕ → ℕ → Sought → Type 0
-SoughtTold n t size row (sought.At index) = order_of_row n row ≡ some (order_at n t index)
-SoughtTold n t size row (sought.Past count) = count ≡ passed n (before n t + size)
+abbrev pub SoughtTold : Net → ℕ → ℕ → ℕ → Result ℕ ℕ → Type 0
+SoughtTold n t size row (Ok index) = order_of_row n row ≡ some (order_at n t index)
+SoughtTold n t size row (Err count) = count ≡ passed n (before n t + size)
 
-abbrev pub SoughtRoom : ℕ → ℕ → ℕ → Sought → Type 0
-SoughtRoom size row count (sought.At index) = index < size
-SoughtRoom size row count (sought.Past more) = (more ≤ count + size) × (more ≤ row)
+abbrev pub SoughtRoom : ℕ → ℕ → ℕ → Result ℕ ℕ → Type 0
+SoughtRoom size row count (Ok index) = index < size
+SoughtRoom size row count (Err more) = (more ≤ count + size) × (more ≤ row)
 
 -- among all
-abbrev pub LocatedTold : Net → ℕ → Located → Type 0
-LocatedTold n row (located.At t index) = (t < length n.transitions) × (order_of_row n row ≡ some (order_at n t index))
-LocatedTold n row located.Nowhere = order_of_row n row ≡ none
+abbrev pub LocatedTold : Net → ℕ → Option Numbered → Type 0
+LocatedTold n row (Some b) = (b.t < length n.transitions) × (order_of_row n row ≡ some (order_at n b.t b.index))
+LocatedTold n row None = order_of_row n row ≡ none
 
-abbrev pub LocatedRoom : Located → Type 0
-LocatedRoom (located.At t index) = t < 32
-LocatedRoom located.Nowhere = Unit {0}
+abbrev pub LocatedRoom : Option Numbered → Type 0
+LocatedRoom (Some b) = b.t < 32
+LocatedRoom None = Unit {0}
