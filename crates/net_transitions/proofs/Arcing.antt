@@ -6,7 +6,8 @@ use Prim.Native.Nat.{◌≤◌, ◌<◌, ◌-◌}
 use native.Mathlib.Omega.{arith}
 use borrow.Author.Tests.{lt-ltb, le-ltb, eq-eqb, ne_eqb, eqb-true, eqb-false, ltb-true, ltb-false}
 use lib.Bits.{bit_or}
-use lib.ListN.{set, length-set}
+use lib.ListN.{set, length-set, replicate}
+use Rattle.std.proofs.lemmas.List.{get_or-replicate, length-replicate}
 use lib.Seq.{get_or-set_same, get_or-set_other}
 use Rattle.reading.specs.Basics.{ℕ, zero, suc, List, [], Option, some, none, option_map, absent, length, get_or, with, find, any, eqb, ltb, byte_at}
 use Rattle.reading.specs.Reading.{Answer, fine, fault, under, whole}
@@ -73,10 +74,6 @@ by_kind P (suc (suc zero)) lt a b c = c
 by_kind P (suc (suc (suc k))) lt a b c = absurd (omega arith)
 
 module _ (s : List ℕ) (n : Net) (arcs : List Arc) (at : ℕ) where
-  pub arcs_past : length s ≤ at → arc_part s n arcs at ≡ none
-  unfolding commands arc_part
-  arcs_past le = standing_past _ _ _ refl le
-
   pub arcs_below : byte_at s at < 0x16 → arc_part s n arcs at ≡ none
   unfolding commands arc_part
   arcs_below lt = standing_none _ _ _
@@ -228,15 +225,16 @@ pub record Arcing (s : List ℕ) (n : Net) (start : ℕ) (row : List ℕ) (uses 
   pub holds : RowHolds s n arcs (λ i. get_or row i 0)
   pub used : uses ≡ bits (λ v. any (λ a. in_expression v a.expression) arcs) 32
 
-pub arcing_begins : (s : List ℕ) (n : Net) (start : ℕ) (row : List ℕ) → length row ≡ 96 → ((i : ℕ) → i < 96 → get_or row i 0 ≡ 0) → length n.places ≤ 32 → Arcing s n start row 0 start
+-- from a row that is 0 everywhere
+pub arcing_begins : (s : List ℕ) (n : Net) (start : ℕ) {row : List ℕ} {slots : ℕ} → row ≡ replicate slots 0 → slots ≡ 96 → length n.places ≤ 32 → Arcing s n start row 0 start
 unfolding find any bits
-arcing_begins s n start row sized zeros few = record {
+arcing_begins s n start {row} {slots} zeros all few = record {
   arcs = [];
-  sized = sized;
+  sized = ap length zeros ∙ length-replicate slots 0 ∙ all;
   after = omega arith;
   within = λ h. h;
   reading = begins s (arc_part s n) [] start;
-  holds = λ k p hk hp. zeros (k * 32 + p) (omega arith);
+  holds = λ k p hk hp. ap (λ l. get_or l (k * 32 + p) 0) zeros ∙ get_or-replicate slots (k * 32 + p) 0 0 (omega arith);
   used = refl;
 }
 
@@ -286,7 +284,8 @@ module _ (s : List ℕ) (at : ℕ) (low : 0x16 ≤ byte_at s at) (high : byte_at
   after-arc {next} is-next =
       by_kind (λ k. byte_at s at ≡ 0x16 + k → next ≡ at + 2) (byte_at s at - 0x16) kind_is (λ e. is-next 1 (ap width_of e)) (λ e. is-next 1 (ap width_of e)) (λ e. is-next 1 (ap width_of e)) stands_there
 
-module _ (scope : Scope) (kinds : List PlaceSets) (row : List ℕ) (at : ℕ) (low : 0x16 ≤ byte_at scope.file.now at) (high : byte_at scope.file.now at ≤ 0x18) {next : ℕ} (is-next : next ≡ at + 2) where
+module _ (scope : Scope) (kinds : List PlaceSets) (row : List ℕ) (at : ℕ) (low : 0x16 ≤ byte_at scope.file.now at) (high : byte_at scope.file.now at ≤ 0x18) {next : ℕ}
+    (told : (w : ℕ) → width_of (byte_at scope.file.now at) ≡ some w → next ≡ at + (1 + w)) where
   abbrev s : List ℕ
   s = scope.file.now
 
@@ -298,6 +297,12 @@ module _ (scope : Scope) (kinds : List PlaceSets) (row : List ℕ) (at : ℕ) (l
 
   abbrev place : ℕ
   place = byte_at s (at + 1)
+
+  is-next : next ≡ at + 2
+  is-next = after-arc s at low high told
+
+  pub step_operand : next ≤ length s → at + 2 ≤ length s
+  step_operand le = rw (← is-next) le
 
   pub step_cut : length s < next → (arcs : List Arc) → arc_part s n arcs at ≡ some (fault 2 (length s))
   step_cut lt arcs = arcs_cut s n arcs at kind (kind_is s at low high) (stands_there s at low high) (rw is-next at lt)
@@ -313,8 +318,11 @@ module _ (scope : Scope) (kinds : List PlaceSets) (row : List ℕ) (at : ℕ) (l
       pub step_again : 0 < get_or row (kind * 32 + place) 0 → (arcs : List Arc) → RowHolds s n arcs (λ i. get_or row i 0) → arc_part s n arcs at ≡ some (fault 9 at)
       step_again full arcs holds = arc_again s n arcs at row holds kind (kind_is s at low high) (stands_there s at low high) (rw is-next at whole-there) place refl known_place full
 
-      module _ (free : get_or row (kind * 32 + place) 0 ≡ 0) (instead : PlaceSets) {x : Result Read Refusal}
+      module _ (empty : get_or row (kind * 32 + place) 0 ≤ 0) (instead : PlaceSets) {x : Result Read Refusal}
           (e : (places : List Place) → x ≡ expression_told (read_expression s (scope_of scope places) (place_in (get_or kinds place instead)) 16 next)) where
+        free : get_or row (kind * 32 + place) 0 ≡ 0
+        free = omega arith
+
         told_there : x ≡ expression_told (read_expression s n (place_at n place) 16 (at + 2))
         told_there = rw (place_at_lem kinds place instead lt) (rw is-next at (e (places_of kinds)))
 
@@ -326,19 +334,3 @@ module _ (scope : Scope) (kinds : List PlaceSets) (row : List ℕ) (at : ℕ) (l
 
         pub step_within : {r : Read} → x ≡ Ok r → (at + 2 < r.next) × (r.next ≤ length s)
         step_within q = expression_within s n (place_at n place) 16 (at + 2) (sym q ∙ told_there)
-
--- ---- for callers: what a slot says of the arc of a kind on a place
-pub record ArcThere (s : List ℕ) (n : Net) (arcs : List Arc) (k p at : ℕ) : Type 0 where
-  pub arc : Arc
-  pub is : arc_on arcs (0x16 + k) p ≡ some arc
-  pub stands : Standing (read_expression s n (place_at n p) 16) arc.expression at
-
--- a slot that is not 0 is where the arc's expression stands
-pub arc_there_lem : (s : List ℕ) (n : Net) (arcs : List Arc) (slot : ℕ → ℕ) → RowHolds s n arcs slot → (k p : ℕ) → k < 3 → p < length n.places → 0 < slot (k * 32 + p)
-    → ArcThere s n arcs k p (slot (k * 32 + p))
-arc_there_lem s n arcs slot holds k p of_three known lt = go (arc_on arcs (0x16 + k) p) refl (holds k p of_three known)
-  where
-    go : (o : Option Arc) → arc_on arcs (0x16 + k) p ≡ o → Slot (read_expression s n (place_at n p) 16) (option_map (λ a. a.expression) o) (slot (k * 32 + p))
-        → ArcThere s n arcs k p (slot (k * 32 + p))
-    go none e h = absurd (omega arith)
-    go (some a) e h = record { arc = a; is = e; stands = h.1 }

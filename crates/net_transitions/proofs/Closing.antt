@@ -31,9 +31,6 @@ module _ (sizes vars : List ℕ) (places : List Place) (t : Transition) where
     space_is e = sum-with (λ t. product (sizes_of (scope sizes vars places) t)) transitions t ∙ rw (so_far, e)
 
     module _ (s : List ℕ) (at end : ℕ) where
-      pub closes_stray : byte_at s end ≡ 0x15 → ended s (scope sizes vars places) transitions at t end ≡ fault 3 end
-      closes_stray e = rw (eq-eqb (byte_at s end) 0x15 e)
-
       module _ (no-guard : byte_at s end ≡ 0x15 → ⊥) where
         pub closes_many : 4 < length (variables_of (scope sizes vars places) t) → ended s (scope sizes vars places) transitions at t end ≡ fault 10 at
         closes_many lt =

@@ -71,19 +71,6 @@ pub record Passing (s : List ℕ) (n : Net) (start : ℕ) (heads : List Head) (a
   pub reading : Reading s (transition_part s n) transitions at (whole s (transition_part s n) [] start)
   pub holds : TransitionsHold s n transitions heads arcs
 
-pub passing_begins : (s : List ℕ) (n : Net) (start : ℕ) (heads : List Head) (arcs : List ℕ) → length heads ≡ 32 → length arcs ≡ 3072 → Passing s n start heads arcs 0 0 start
-passing_begins s n start heads arcs a c = record {
-  sized = a;
-  arcs_sized = c;
-  transitions = [];
-  are = refl;
-  few = omega arith;
-  wide = refl;
-  bounded = omega arith;
-  reading = begins s (transition_part s n) [] start;
-  holds = λ t lt. absurd (omega arith);
-}
-
 module _ {s : List ℕ} {n : Net} {start : ℕ} {heads : List Head} {arcs : List ℕ} {count space at : ℕ} (here : Passing s n start heads arcs count space at) (left : List ℕ)
     (kept : (i : ℕ) → i < count * 96 → get_or left i 0 ≡ get_or arcs i 0) where
   pub passing_ends : length n.places ≤ 32 → ((ts : List Transition) → length ts ≡ count → binding_space n ts ≡ space → transition_part s n ts at ≡ none)

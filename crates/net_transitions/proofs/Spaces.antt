@@ -185,27 +185,3 @@ pub product_ends : (sizes vars : List ℕ) {s total v : ℕ} → Multiplied s (s
     → total ≡ product (map (λ w. size_of n (get_or n.variables w 0)) (keep p (below (length n.variables))))
 product_ends sizes vars {s} {total} inv e n p es ev le eb =
     rw (es, ev) (rw (← e) (inv.is ∙ ap (λ l. product (map (size_in sizes vars) l)) (keep-bits p eb (omega (arith, rw ev at le)))))
-
--- ---- transitions
--- from what the code says of every test to the transition's variables
-module _ (n : Net) (t : Transition) (le : length n.variables ≤ 32) {uses : ℕ} (e : uses ≡ bits (λ v. in_transition v t) 32) {r : ℕ} where
-  pub variables_counted : ((p : ℕ → Bool) → uses ≡ bits p 32 → length n.variables ≤ 32 → r ≡ length (keep p (below (length n.variables)))) → r ≡ length (variables_of n t)
-  unfolding variables_of
-  variables_counted h = h (λ v. in_transition v t) e le
-
-  module _ {sizes vars : List ℕ} (es : n.sets ≡ sizes) (ev : n.variables ≡ vars) where
-    -- at most four variables: their sets' sizes multiplied
-    pub bindings_counted : ((m : Net) (p : ℕ → Bool) → m.sets ≡ sizes → m.variables ≡ vars → length m.variables ≤ 32 → uses ≡ bits p 32
-        → length (keep p (below (length m.variables))) ≤ 4 → r ≡ product (map (λ v. size_of m (get_or m.variables v 0)) (keep p (below (length m.variables)))))
-        → length (variables_of n t) ≤ 4 → r ≡ product (sizes_of n t)
-    unfolding variables_of
-    bindings_counted h few = h n (λ v. in_transition v t) es ev le e few
-
-    -- more than four: too many
-    pub bindings_many : ((p : ℕ → Bool) → length vars ≤ 32 → uses ≡ bits p 32 → 4 < length (keep p (below (length vars))) → 65536 < r) → 4 < length (variables_of n t) → 65536 < r
-    unfolding variables_of
-    bindings_many h many = h (λ v. in_transition v t) (rw ev at le) e (rw ev at many)
-
--- one transition more adds its bindings
-pub space_with : (n : Net) (transitions : List Transition) (t : Transition) → binding_space n (with transitions t) ≡ binding_space n transitions + product (sizes_of n t)
-space_with n transitions t = sum-with (λ t. product (sizes_of n t)) transitions t

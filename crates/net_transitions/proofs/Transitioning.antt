@@ -65,13 +65,7 @@ module _ (s : List ℕ) (n : Net) (p : ℕ) where
 
 -- ---- the whole transition
 module _ (s : List ℕ) (n : Net) (transitions : List Transition) (at next : ℕ) where
-  guard_faults : {r : Refusal} → Refuses (some (read_guard_if s n next)) r → Refuses (some (inside s n transitions at next)) r
-  guard_faults h = refuses_on (λ x. x and_then λ guard more. whole s (arc_part s n) [] more and_then λ arcs end. ended s n transitions at (record { guard = guard; arcs = arcs }) end) (λ k p. refl) h
-
   module _ {more used : ℕ} (g : Heard in_guard (read_guard_if s n next) more used) where
-    arcs_fault : {r : Refusal} → Refuses (some (whole s (arc_part s n) [] more)) r → Refuses (some (inside s n transitions at next)) r
-    arcs_fault h = rw g.is (refuses_on (λ x. x and_then λ arcs end. ended s n transitions at (record { guard = g.value; arcs = arcs }) end) (λ k p. refl) h)
-
     module _ {row : List ℕ} {uses last : ℕ} (a : ArcsRead s n more row uses last) where
       variables_joined : bit_or used uses ≡ bits (λ v. in_transition v (record { guard = g.value; arcs = a.arcs })) 32
       variables_joined = rw (g.used, a.used, bits_or)
@@ -100,9 +94,6 @@ module _ (scope : Scope) (kinds : List PlaceSets) (next : ℕ) {guard : Result R
   abbrev n : Net
   n = over scope kinds
 
-  pub stops_in_guard : (at : ℕ) {r : Refusal} → guard ≡ Err r → (transitions : List Transition) → Refuses (some (inside s n transitions at next)) r
-  stops_in_guard at q transitions = guard_faults s n transitions at next (heard_fault (λ g. 0) in_guard (read_guard_if s n next) (sym q ∙ of_guard (places_of kinds)))
-
   module _ {g : Read} (whole-guard : guard ≡ Ok g) where
     heard_guard : Heard in_guard (read_guard_if s n next) g.next g.uses
     heard_guard = heard (λ g. 0) in_guard (read_guard_if s n next) (sym whole-guard ∙ of_guard (places_of kinds))
@@ -111,9 +102,6 @@ module _ (scope : Scope) (kinds : List PlaceSets) (next : ℕ) {guard : Result R
     guard_inside le = guard_within s n next heard_guard.value g.next heard_guard.is le
 
     module _ (row : List ℕ) (at : ℕ) where
-      pub stops_in_arcs : {r : Refusal} → Refuses (some (whole s (arc_part s n) [] g.next)) r → (transitions : List Transition) → Refuses (some (inside s n transitions at next)) r
-      stops_in_arcs h transitions = arcs_fault s n transitions at next heard_guard h
-
       module _ {last uses : ℕ} (heard_arcs : ArcsRead s n g.next row uses last) (space : ℕ) (closed : Result ℕ Refusal)
           (of_end : (places : List Place) (transitions : List Transition) (t : Transition) → bit_or g.uses uses ≡ bits (λ v. in_transition v t) 32
           → binding_space (scope_of scope places) transitions ≡ space → ClosedTold s (scope_of scope places) transitions at t last closed)
@@ -130,10 +118,6 @@ module _ (scope : Scope) (kinds : List PlaceSets) (next : ℕ) {guard : Result R
 
 -- ---- the command
 module _ (s : List ℕ) (n : Net) (transitions : List Transition) (at : ℕ) where
-  pub transitions_past : length s ≤ at → transition_part s n transitions at ≡ none
-  unfolding commands transition_part
-  transitions_past le = standing_past _ _ _ refl le
-
   pub transitions_other : (byte_at s at ≡ 0x14 → ⊥) → transition_part s n transitions at ≡ none
   unfolding commands transition_part
   transitions_other ne = standing_none _ _ _ (other (ne_eqb (byte_at s at) 0x14 ne) end)
