@@ -4,16 +4,16 @@ use mathlib.Core.Path.{◌≡◌, refl, sym, ap, fun_ext, ◌∙◌}
 use mathlib.Core.Bool.{Bool, true, false, ◌&&◌, ◌||◌}
 use Prim.Native.Nat.{◌≤◌, ◌<◌, ◌-◌}
 use native.Mathlib.Omega.{arith}
-use borrow.Author.Tests.{lt-ltb, le-ltb, eq-eqb, ne_eqb, eqb-true, eqb-false, ltb-true, ltb-false}
+use borrow.Author.Tests.{lt-ltb, le-ltb, eq-eqb, ne_eqb, eqb-true, eqb-false}
 use lib.Bits.{bit_or}
 use lib.ListN.{set, length-set, replicate}
 use Rattle.std.proofs.lemmas.List.{get_or-replicate, length-replicate}
 use lib.Seq.{get_or-set_same, get_or-set_other}
 use Rattle.reading.specs.Basics.{ℕ, zero, suc, List, [], Option, some, none, option_map, absent, length, get_or, with, find, any, eqb, ltb, byte_at}
 use Rattle.reading.specs.Reading.{Answer, fine, fault, under, whole}
-use Rattle.reading.proofs.Commands.{end, other, passes, done, fails, later, standing_past, standing_none, stands_cut, stands_fails, stands_goes, both_hold, first_fails, second_fails}
+use Rattle.reading.proofs.Commands.{end, other, passes, done, fails, later, standing_none, stands_cut, stands_fails, stands_goes, both_hold, first_fails, second_fails}
 use Rattle.reading.proofs.Parts.{Reading, begins, goes_on, ends, stops}
-use Rattle.net.specs.Net.{Expression, Place, single, Arc, Net, place_at, arc_on, ceiling, in_expression, scope}
+use Rattle.net.specs.Net.{Expression, Place, single, Arc, Net, place_at, arc_on, ceiling, in_expression}
 use Rattle.net.specs.Reader.{width_of, read_expression}
 use Rattle.net_transitions.specs.Transitions.{arc_part}
 use Rattle.net.specs.internal.ReaderEnums.{bits, told, place_in, scope_of}

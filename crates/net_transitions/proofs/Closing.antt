@@ -2,7 +2,7 @@
 use Rattle.std.specs.Prelude.{◌+◌}
 use mathlib.Core.Path.{◌≡◌, ◌∙◌}
 use Prim.Native.Nat.{◌≤◌, ◌<◌}
-use borrow.Author.Tests.{eq-eqb, ne_eqb, le-leb, lt-leb}
+use borrow.Author.Tests.{ne_eqb, le-leb, lt-leb}
 use Rattle.reading.specs.Basics.{ℕ, true, false, List, map, length, get_or, with, keep, below, product, byte_at, leb}
 use Rattle.reading.specs.Reading.{fine, fault}
 use Rattle.reading.proofs.Commands.{passes, done, fails, later}

@@ -1,6 +1,6 @@
 -- Where the loop over the transitions stands. Assumes nothing.
 use Rattle.std.specs.Prelude.{◌+◌, ◌*◌, ◌∷◌}
-use mathlib.Core.Path.{◌≡◌, refl, sym, ap, ◌∙◌}
+use mathlib.Core.Path.{◌≡◌, sym, ap, ◌∙◌}
 use mathlib.Core.Logic.{⊎_elim}
 use Prim.Native.Nat.{◌≤◌, ◌<◌}
 use native.Mathlib.Omega.{arith}
@@ -9,7 +9,7 @@ use lib.ListN.{set, length-set, length-append, get_or-append}
 use lib.Seq.{get_or-append_seam, get_or-set_same, get_or-set_other}
 use Rattle.reading.specs.Basics.{ℕ, List, [], none, some, length, get_or, with}
 use Rattle.reading.specs.Reading.{whole}
-use Rattle.reading.proofs.Parts.{Reading, begins, goes_on, ends, stops}
+use Rattle.reading.proofs.Parts.{Reading, goes_on, ends, stops}
 use Rattle.net.specs.Net.{Transition, Net, binding_space, no_transition}
 use Rattle.net_transitions.specs.Transitions.{transition_part}
 use Rattle.net_transitions.specs.internal.TransitionTables.{Refuses, TransitionHolds, TransitionRead, no_head, TransitionsHold, TransitionsRead}

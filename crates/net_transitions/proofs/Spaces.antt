@@ -8,10 +8,9 @@ use native.Mathlib.Numerals.{add-one}
 use native.Mathlib.Omega.{arith}
 use lib.Pow.{pow-add, pow_pos, pow_mono, high}
 use Rattle.reading.specs.Basics.{ℕ, zero, suc, Bool, true, false, List, [], map, length, get_or, eqb, with, numbers_from, below, keep, product}
-use Rattle.net.specs.Net.{Net, Transition, size_of, sizes_of, variables_of, binding_space, in_transition}
+use Rattle.net.specs.Net.{Net, size_of}
 use Rattle.net.specs.internal.ReaderEnums.{bits, member, size_in}
 use Rattle.net.proofs.Answers.{bits_lt}
-use Rattle.net_parts.proofs.Totals.{sum-with}
 use Rattle.std.specs.List.{count_by, range_with_len}
 use Rattle.std.proofs.lemmas.List.Recursion.{is_count_by}
 

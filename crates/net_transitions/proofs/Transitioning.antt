@@ -4,16 +4,16 @@ use mathlib.Core.Path.{◌≡◌, refl, sym, ap, ◌∙◌}
 use mathlib.Core.Bool.{Bool, true, false}
 use Prim.Native.Nat.{◌≤◌, ◌<◌}
 use native.Mathlib.Omega.{arith}
-use borrow.Author.Tests.{lt-ltb, le-ltb, ne_eqb, eqb-true, eqb-false, ltb-true, ltb-false}
+use borrow.Author.Tests.{lt-ltb, le-ltb, ne_eqb, eqb-true, eqb-false}
 use lib.Bits.{bit_or}
 use lib.ListN.{length-drop, get_or-append}
 use lib.Seq.{length-take-le, get_or-append-add, get_or-take}
-use Rattle.reading.specs.Basics.{ℕ, List, [], Option, some, none, option_map, given, length, get_or, take, drop, with, eqb, ltb, byte_at}
-use Rattle.reading.specs.Reading.{Answer, fine, fault, ◌and_then◌, standing, whole}
-use Rattle.reading.proofs.Commands.{past, end, other, passes, done, fails, standing_past, standing_none, stands_fails, stands_goes}
-use Rattle.net.specs.Net.{Guard, always, Arc, Transition, Place, Net, place_at, arc_on, variables_of, binding_space, in_guard, in_transition, scope}
+use Rattle.reading.specs.Basics.{ℕ, List, [], Option, some, none, option_map, given, length, get_or, take, drop, with, eqb, byte_at}
+use Rattle.reading.specs.Reading.{Answer, fine, fault, standing}
+use Rattle.reading.proofs.Commands.{end, other, passes, done, fails, standing_none, stands_fails, stands_goes}
+use Rattle.net.specs.Net.{Guard, always, Arc, Transition, Place, Net, place_at, arc_on, variables_of, binding_space, in_guard, in_transition}
 use Rattle.net.specs.Reader.{width_of, command, read_guard, read_guard_if, read_expression}
-use Rattle.net_transitions.specs.Transitions.{arc_part, ended, transition_part}
+use Rattle.net_transitions.specs.Transitions.{ended, transition_part}
 use Rattle.net.specs.internal.ReaderEnums.{bits, guard_told, scope_of}
 use Rattle.net_parts.specs.internal.Tables.{places_of}
 use Rattle.net_transitions.specs.internal.TransitionTables.{Refuses, over, RowHolds, ArcsRead, guard_place, GuardHolds, ClosedTold, inside, TransitionRead}
@@ -25,7 +25,7 @@ use Rattle.net.specs.declared.scope.Scope.{Scope}
 use Rattle.net.proofs.Shut.{commands}
 use Rattle.net.proofs.Answers.{bits_or}
 use Rattle.net.proofs.Inside.{guard_ends}
-use Rattle.net_transitions.proofs.Arcing.{Heard, heard, heard_fault, slot_is, refuses_on}
+use Rattle.net_transitions.proofs.Arcing.{Heard, heard, slot_is}
 use Rattle.net_parts.proofs.Totals.{stands_in}
 
 -- ---- a guard, or none

@@ -1,5 +1,5 @@
 use Rattle.std.proofs.Math.Option.{some}
-use Rattle.std.proofs.Common.{ap, ◌≡◌, ◌≤◌, length, refl, sym, ◌∙◌, arith}
+use Rattle.std.proofs.Common.{ap, ◌≤◌, length, refl, ◌∙◌, arith}
 use Rattle.net.specs.Net.{variables_of, in_transition}
 use Rattle.net.specs.internal.ReaderEnums.{scope_of}
 use Rattle.net_transitions.proofs.Spaces.{counted_in}
