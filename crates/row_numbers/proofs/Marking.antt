@@ -1,5 +1,5 @@
 -- Marks as the bits of words: what setting one changes, and the marks of all bindings. Assumes nothing.
-use Rattle.std.specs.Prelude.{◌+◌, ◌/◌, ◌%◌, ◌||◌, ◌&&◌, if◌then◌else◌}
+use Rattle.std.specs.Prelude.{◌∷◌, ◌+◌, ◌/◌, ◌%◌, ◌||◌, ◌&&◌, if◌then◌else◌}
 use mathlib.Core.Path.{◌≡◌, refl, sym, ap, ◌∙◌, subst}
 use mathlib.Core.Bool.{or-false, and-true, and-false}
 use native.Mathlib.Numerals.{add-one}
@@ -14,7 +14,7 @@ use lib.Dec.{lit<}
 use lib.ListN.{set}
 use lib.Pow.{low, shl-shr, pow-lt, pow-add, pow_pos}
 use lib.Seq.{get_or-set_same, get_or-set_other}
-use Rattle.reading.specs.Basics.{ℕ, zero, suc, Bool, true, false, eqb, ltb, List, length, get_or, replicate, keep, numbers_from, product}
+use Rattle.reading.specs.Basics.{ℕ, zero, suc, Bool, true, false, eqb, ltb, List, [], length, get_or, replicate, keep, numbers_from, product}
 use Rattle.net.specs.Net.{Net, sizes_of, transition_at}
 use Rattle.net.specs.internal.ReaderEnums.{member}
 use Rattle.reading.proofs.Clash.{clash}
@@ -113,6 +113,12 @@ zero_none w = ap (λ x. eqb (x % 2) 1) (div-eq_of_lt (pow_pos w))
 pub blank_words : (n : ℕ) → Blank (replicate n 0) 0
 blank_words n j le lt = ap (λ x. member x (j % 32)) (zero_at n (j / 32)) ∙ zero_none (j % 32)
 
+-- an element that is 0 where 1 stands past the end is one of the list
+pub zero_else : (l : List ℕ) (i : ℕ) → get_or l i 1 ≡ 0 → get_or l i 0 ≡ 0
+zero_else [] i e = absurd (omega arith)
+zero_else (x ∷ l) zero e = e
+zero_else (x ∷ l) (suc i) e = zero_else l i e
+
 -- nor in one word of 0
 pub blank_word : (marks : List ℕ) (k j : ℕ) → k % 32 < 1 → get_or marks (k / 32) 0 ≡ 0 → j < 32 → mark_at marks (k + j) ≡ false
 blank_word marks k j first none lt =
@@ -150,8 +156,11 @@ module _ (n : Net) (t : ℕ) where
   }
 
   -- how many have an effect, with one more; no more than there are
-  pub effects_next : (i : ℕ) {count : ℕ} → count ≡ effects n t i → count + (if takes_effect n t i then 1 else 0) ≡ effects n t (i + 1)
-  effects_next i e = ap (λ c. c + (if takes_effect n t i then 1 else 0)) e ∙ sym (count_next (takes_effect n t) i)
+  pub effects_more : (i : ℕ) {count : ℕ} → true ≡ takes_effect n t i → count ≡ effects n t i → count + 1 ≡ effects n t (i + 1)
+  effects_more i h e = ap (λ c. c + 1) e ∙ sym (count_takes (takes_effect n t) i h)
+
+  pub effects-same : (i : ℕ) {count : ℕ} → false ≡ takes_effect n t i → count ≡ effects n t i → count ≡ effects n t (i + 1)
+  effects-same i h e = omega (arith, count_next (takes_effect n t) i, ap {B = ℕ} (λ b. if b then 1 else 0) (sym h))
 
   pub effects_none : ◌≡◌ {A = ℕ} 0 (effects n t 0)
   unfolding keep numbers_from
@@ -169,7 +178,7 @@ module _ (n : Net) (t : ℕ) where
   effects_all : (many : ℕ) → ((i : ℕ) → i < many → true ≡ takes_effect n t i) → many ≡ effects n t many
   effects_all zero h = effects_none
   effects_all (suc i) h =
-      subst (λ k. k ≡ effects n t k) (add-one i) (ap (λ c. c + 1) (effects_all i (λ j lt. h j (omega arith))) ∙ sym (count_takes (takes_effect n t) i (h i (omega arith))))
+      subst (λ k. k ≡ effects n t k) (add-one i) (effects_more i (h i (omega arith)) (effects_all i (λ j lt. h j (omega arith))))
 
   -- as where every binding has a row
   pub effects-every : {s plan : List ℕ} → Prepared s n plan → t < length n.transitions → every_row plan t ≡ true → (many : ℕ) → many ≡ effects n t many

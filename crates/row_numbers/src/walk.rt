@@ -21,7 +21,11 @@ pub fn count_one(file: &[u8], plan: &[u32; 3584], env: &[u8; 32], t: usize, coun
     ensures low { count ≤ result }
     ensures high { result ≤ count + 1 }
 {
-    count + usize::from(has_effect(file, plan, env, t))
+    if has_effect(file, plan, env, t) {
+        count + 1
+    } else {
+        count
+    }
 }
 
 // The number of a row that follows so many, or 4,294,967,295 where there is none.

@@ -1,6 +1,5 @@
 use Rattle.prepared.specs.internal.Prepared.{Prepared}
-use mathlib.Core.Path.{◌≡◌}
-use Prim.Native.Nat.{◌≤◌, ◌*◌, ◌-◌}
+use Prim.Native.Nat.{◌≤◌, ◌*◌}
 use lib.ListN.{length}
 use Rattle.net.specs.Net.{Net}
 use Rattle.row_numbers.specs.internal.Walked.{entries}
@@ -8,7 +7,4 @@ use Rattle.row_numbers.proofs.Tabled.{Numbered}
 use Rattle.row_numbers.proofs.walk.number_all.Given as goal
 
 abbrev pub invariant-loop-t : goal.invariant-loop-t
-invariant-loop-t l = (l.t ≤ l.transitions) × (l.base ≤ l.t * 4228250625) × (l.count ≤ l.t * 4228250625) × (length l.starts ≡ length l.initial.starts) × (length l.numbers ≡ length l.initial.numbers) × ((n : Net) → Prepared l.file n l.plan → entries n l.plan (length n.transitions) ≤ length l.initial.numbers → Numbered n l.plan l.starts l.numbers l.t l.base l.count)
-
-abbrev pub decreases-loop-t : goal.decreases-loop-t
-decreases-loop-t l = l.transitions - l.t
+invariant-loop-t l = (l.base ≤ l.t * 4228250625) × (l.count ≤ l.t * 4228250625) × ((n : Net) → Prepared l.file n l.plan → entries n l.plan (length n.transitions) ≤ length l.initial.numbers → Numbered n l.plan l.starts l.numbers l.t l.base l.count)
