@@ -1,3 +1,4 @@
 pub mod Totals
+pub mod Listing
 pub mod Placing
 pub mod Tokening

@@ -7,18 +7,18 @@ use Prim.Native.Nat.{◌≤◌, ◌<◌, ◌-◌}
 use native.Mathlib.Omega.{arith}
 use native.Mathlib.Numerals.{add-one}
 use borrow.Author.Tests.{lt-ltb, le-ltb, eq-eqb, ne_eqb, ltb-true, ltb-false, eqb-true, eqb-false}
-use lib.ListN.{set, length-set}
+use lib.ListN.{set, length-set, replicate}
 use lib.Seq.{take-suc, take-add, get_or-set_same, get_or-set_other}
-use Rattle.reading.specs.Basics.{ℕ, List, [], Option, some, none, absent, map, sum, length, get_or, take, drop, with, find, eqb, ltb, byte_at, word_at}
+use Rattle.reading.specs.Basics.{ℕ, zero, suc, List, [], Option, some, none, absent, map, sum, length, get_or, take, drop, with, find, eqb, ltb, byte_at, word_at}
 use Rattle.reading.specs.Reading.{fine, fault, whole}
 use Rattle.reading.specs.Refusals.{number_of}
 use Rattle.reading.specs.declared.refusal.Refusal.{Refusal}
-use Rattle.reading.proofs.Commands.{end, other, passes, done, fails, later, both_hold, first_fails, second_fails, standing_past, standing_none, stands_cut, stands_fails, stands_goes}
+use Rattle.reading.proofs.Commands.{end, other, passes, done, fails, later, both_hold, first_fails, second_fails, standing_none, stands_cut, stands_fails, stands_goes}
 use Rattle.reading.proofs.Parts.{Reading, begins, goes_on, ends, stops}
 use Rattle.net.specs.Net.{Place, single, Tokens, Net, colours_of, place_at, tokens_on}
 use Rattle.net.specs.Reader.{width_of}
 use Rattle.net_parts.specs.Parts.{tokens_part}
-use Rattle.net_parts.specs.internal.Tables.{start_of, Started, StartsRise, flat_at, count_of, flag, Holds, token_step, TokenRoom, TokensRead}
+use Rattle.net_parts.specs.internal.Tables.{start_of, Started, StartsRise, flat_at, count_of, flag, flat_found, Holds, token_step, TokenRoom, TokensRead}
 use Rattle.net_parts.specs.declared.token.TokenRead.{TokenRead}
 use Rattle.net.proofs.Shut.{commands}
 use Rattle.net_parts.proofs.Totals.{sum-with}
@@ -104,13 +104,34 @@ find-same test [] a t = rw t
 find-same test (x ∷ l) a t = rw (find-same test l a t)
 
 -- ---- one step
-pub unnamed : (o : Option Tokens) → flag o ≡ 0 → o ≡ none
+unnamed : (o : Option Tokens) → flag o ≡ 0 → o ≡ none
 unnamed none e = refl
 unnamed (some t) e = absurd (omega arith)
 
-pub is_named : (o : Option Tokens) → 0 < flag o → absent o ≡ false
-is_named none lt = absurd (omega arith)
-is_named (some t) lt = refl
+is_named : (o : Option Tokens) → (flag o ≡ 0 → ⊥) → absent o ≡ false
+is_named none ne = absurd (ne refl)
+is_named (some t) ne = refl
+
+-- the flat place found of a rank of a place
+module _ (starts : List ℕ) (count p rank : ℕ) where
+  pub not_found : flat_found starts count p rank ≡ std.None → (p < count → get_or starts (p + 1) 0 ≤ flat_at starts p rank)
+  not_found e lt = go (ltb p count) (ltb (flat_at starts p rank) (get_or starts (p + 1) 0)) refl refl e
+    where
+      go : (a b : Bool) → ltb p count ≡ a → ltb (flat_at starts p rank) (get_or starts (p + 1) 0) ≡ b
+          → (if a && b then std.Some (flat_at starts p rank) else std.None) ≡ std.None → get_or starts (p + 1) 0 ≤ flat_at starts p rank
+      go true true f g q = let z : ◌≡◌ {A = ℕ} 0 1 = cc in absurd (omega arith)
+      go true false f g q = ltb-false (flat_at starts p rank) (get_or starts (p + 1) 0) g
+      go false b f g q = let h = ltb-false p count f in absurd (omega arith)
+
+  pub found : {flat : ℕ} → flat_found starts count p rank ≡ std.Some flat → (p < count) × (flat ≡ flat_at starts p rank) × (flat < get_or starts (p + 1) 0)
+  found {flat} e = go (ltb p count) (ltb (flat_at starts p rank) (get_or starts (p + 1) 0)) refl refl e
+    where
+      go : (a b : Bool) → ltb p count ≡ a → ltb (flat_at starts p rank) (get_or starts (p + 1) 0) ≡ b
+          → (if a && b then std.Some (flat_at starts p rank) else std.None) ≡ std.Some flat → (p < count) × (flat ≡ flat_at starts p rank) × (flat < get_or starts (p + 1) 0)
+      go true true f g q = let w : flat ≡ flat_at starts p rank = cc in
+          (ltb-true p count f, w, rw w (ltb-true (flat_at starts p rank) (get_or starts (p + 1) 0) g))
+      go true false f g q = let z : ◌≡◌ {A = ℕ} 0 1 = cc in absurd (omega arith)
+      go false b f g q = let z : ◌≡◌ {A = ℕ} 0 1 = cc in absurd (omega arith)
 
 -- the place after the command
 pub after_tokens : (s : List ℕ) (at : ℕ) → byte_at s at ≡ 0x19 → {next : ℕ} → ((w : ℕ) → width_of (byte_at s at) ≡ some w → next ≡ at + (1 + w)) → next ≡ at + 6
@@ -118,10 +139,6 @@ unfolding commands
 after_tokens s at e is-next = is-next 5 (ap width_of e)
 
 module _ (s : List ℕ) (n : Net) (tokens : List Tokens) (at : ℕ) where
-  pub tokens_past : length s ≤ at → tokens_part s n tokens at ≡ none
-  unfolding commands tokens_part
-  tokens_past le = standing_past _ _ _ refl le
-
   pub tokens_other : (byte_at s at ≡ 0x19 → ⊥) → tokens_part s n tokens at ≡ none
   unfolding commands tokens_part
   tokens_other ne = standing_none _ _ _ (other (ne_eqb (byte_at s at) 0x19 ne) end)
@@ -132,31 +149,51 @@ module _ (s : List ℕ) (n : Net) (tokens : List Tokens) (at : ℕ) where
     tokens_cut lt = stands_cut _ _ 0x19 _ stands refl lt
 
     module _ (whole-there : at + 6 ≤ length s) (p rank : ℕ) (place_is : p ≡ byte_at s (at + 1)) (rank_is : rank ≡ word_at s (at + 2)) where
-      pub tokens_no_place : length n.places ≤ p → tokens_part s n tokens at ≡ some (fault 5 at)
+      no_place : length n.places ≤ p → tokens_part s n tokens at ≡ some (fault 5 at)
       unfolding commands tokens_part
-      tokens_no_place le =
+      no_place le =
           let e : ltb (byte_at s (at + 1)) (length n.places) ≡ false = rw (← place_is) (le-ltb p (length n.places) le) in
           stands_fails _ _ 0x19 _ stands refl whole-there (fails (first_fails _ _ e))
 
-      module _ (known : p < length n.places) where
-        pub tokens_no_rank : colours_of n (place_at n p) ≤ rank → tokens_part s n tokens at ≡ some (fault 5 at)
-        unfolding commands tokens_part
-        tokens_no_rank le =
-            let e : ltb (word_at s (at + 2)) (colours_of n (place_at n (byte_at s (at + 1)))) ≡ false = rw (← place_is, ← rank_is) (le-ltb rank (colours_of n (place_at n p)) le) in
-            stands_fails _ _ 0x19 _ stands refl whole-there (fails (second_fails (ltb (byte_at s (at + 1)) (length n.places)) _ e))
+      no_rank : colours_of n (place_at n p) ≤ rank → tokens_part s n tokens at ≡ some (fault 5 at)
+      unfolding commands tokens_part
+      no_rank le =
+          let e : ltb (word_at s (at + 2)) (colours_of n (place_at n (byte_at s (at + 1)))) ≡ false = rw (← place_is, ← rank_is) (le-ltb rank (colours_of n (place_at n p)) le) in
+          stands_fails _ _ 0x19 _ stands refl whole-there (fails (second_fails (ltb (byte_at s (at + 1)) (length n.places)) _ e))
 
-        module _ (fit : rank < colours_of n (place_at n p)) where
+      module _ {starts : List ℕ} {count total : ℕ} (begun : Started n n.places starts count total) where
+        pub tokens_missing : flat_found starts count p rank ≡ std.None → tokens_part s n tokens at ≡ some (fault 5 at)
+        tokens_missing e = by_order p count (λ lt. no_rank (omega (arith, starts_next begun p lt, not_found starts count p rank e lt)))
+            (λ q. no_place (omega (arith, begun.are))) (λ gt. no_place (omega (arith, begun.are)))
+
+        module _ {flat : ℕ} (here : flat_found starts count p rank ≡ std.Some flat) where
+          h : (p < count) × (flat ≡ flat_at starts p rank) × (flat < get_or starts (p + 1) 0)
+          h = found starts count p rank here
+
+          known : p < length n.places
+          known = omega (arith, h.0, begun.are)
+
+          pub fitting : rank < colours_of n (place_at n p)
+          fitting = omega (arith, h.1, h.2, starts_next begun p h.0)
+
           there : ltb (byte_at s (at + 1)) (length n.places) && ltb (word_at s (at + 2)) (colours_of n (place_at n (byte_at s (at + 1)))) ≡ true
-          there = rw (← place_is, ← rank_is) (both_hold _ _ (lt-ltb p (length n.places) known) (lt-ltb rank (colours_of n (place_at n p)) fit))
+          there = rw (← place_is, ← rank_is) (both_hold _ _ (lt-ltb p (length n.places) known) (lt-ltb rank (colours_of n (place_at n p)) fitting))
 
-          pub tokens_again : absent (tokens_on tokens p rank) ≡ false → tokens_part s n tokens at ≡ some (fault 9 at)
-          unfolding commands tokens_part
-          tokens_again e = stands_fails _ _ 0x19 _ stands refl whole-there (later there (fails (rw (← place_is, ← rank_is) e)))
+          -- the mark at the flat place
+          module _ (table : List ℕ) (reached : flat < length table) (named : Holds n tokens flag starts table) where
+            mark : get_or table flat 0 ≡ flag (tokens_on tokens p rank)
+            mark = rw h.1 (named p rank known fitting (omega (arith, h.1)))
 
-          pub tokens_go : {count next : ℕ} → tokens_on tokens p rank ≡ none → count ≡ word_at s (at + 4) → next ≡ at + 6
-              → tokens_part s n tokens at ≡ some (fine (with tokens (record { place = p; rank = rank; count = count })) next)
-          unfolding commands tokens_part
-          tokens_go e f is-next = rw (place_is, rank_is, f, is-next) (stands_goes _ _ 0x19 _ stands refl whole-there (passes there (passes (rw (← place_is, ← rank_is, e)) done)))
+            pub tokens_again : (get_or table flat 0 ≡ 0 → ⊥) → tokens_part s n tokens at ≡ some (fault 9 at)
+            unfolding commands tokens_part
+            tokens_again ne = stands_fails _ _ 0x19 _ stands refl whole-there
+                (later there (fails (rw (← place_is, ← rank_is) (is_named (tokens_on tokens p rank) (λ q. ne (mark ∙ q))))))
+
+            pub tokens_go : {amount next : ℕ} → get_or table flat 0 ≡ 0 → amount ≡ word_at s (at + 4) → next ≡ at + 6
+                → tokens_part s n tokens at ≡ some (fine (with tokens (record { place = p; rank = rank; count = amount })) next)
+            unfolding commands tokens_part
+            tokens_go e f is-next = rw (place_is, rank_is, f, is-next) (stands_goes _ _ 0x19 _ stands refl whole-there
+                (passes there (passes (rw (← place_is, ← rank_is, unnamed (tokens_on tokens p rank) (sym mark ∙ e))) done)))
 
 -- ---- the loop
 -- a table over the flat places, with one more of the tokens
@@ -185,12 +222,9 @@ module _ {n : Net} {starts : List ℕ} {count total : ℕ} (begun : Started n n.
       go true false q z = apart_flat
           (λ same. let u = eqb-true x.place p q in eqb-false x.rank rank z (let w : get_or starts x.place 0 ≡ get_or starts p 0 = ap (λ k. get_or starts k 0) u in omega arith)) (second_fails (eqb x.place p) (eqb x.rank rank) z)
 
-  pub holds_none : (value : Option Tokens → ℕ) (table : List ℕ) → value none ≡ 0 → ((i : ℕ) → i < total → get_or table i 0 ≡ 0) → Holds n [] value starts table
+  pub holds_none : (value : Option Tokens → ℕ) (table : List ℕ) → value none ≡ 0 → ((i : ℕ) → get_or table i 0 ≡ 0) → Holds n [] value starts table
   unfolding find
-  holds_none value table e zeros p rank known fit reached =
-      let a : p < count = omega (arith, begun.are) in
-      let b = starts_next begun p a in let c = starts_rise begun (p + 1) count (omega arith) (omega arith) in
-      zeros (flat_at starts p rank) (omega (arith, starts_last begun)) ∙ sym e
+  holds_none value table e zeros p rank _ _ _ = zeros (flat_at starts p rank) ∙ sym e
 
 -- the tokens read so far, over one net
 pub record Tokening (s : List ℕ) (n : Net) (start : ℕ) (starts initial named : List ℕ) (at : ℕ) : Type 0 where
@@ -200,13 +234,19 @@ pub record Tokening (s : List ℕ) (n : Net) (start : ℕ) (starts initial named
   pub names : Holds n tokens flag starts named
 
 -- there are none
-pub no_tokens : {s starts : List ℕ} {count total start : ℕ} (initial : List ℕ) → (byte_at s start ≡ 0x19 → ⊥) → ((i : ℕ) → i < total → get_or initial i 0 ≡ 0)
+pub no_tokens : {s starts : List ℕ} {count total start : ℕ} (initial : List ℕ) → (byte_at s start ≡ 0x19 → ⊥) → ((i : ℕ) → get_or initial i 0 ≡ 0)
     → (n : Net) → Started n n.places starts count total → TokensRead s n start starts initial start
 no_tokens {s} {start = start} initial ne zeros n begun = record {
   tokens = [];
   read = ends s (tokens_part s n) (begins s (tokens_part s n) [] start) (tokens_other s n [] start ne);
   holds = holds_none begun count_of initial refl zeros;
 }
+
+-- a list of one value, read past its end too
+pub all_same : {A : Type 0} (n i : ℕ) (a : A) → get_or (replicate n a) i a ≡ a
+all_same zero i a = refl
+all_same (suc n) zero a = refl
+all_same (suc n) (suc i) a = all_same n i a
 
 -- over every net whose flat places begin so
 pub record TokenLoop (s starts : List ℕ) (count total start len : ℕ) (initial named : List ℕ) (at : ℕ) : Type 0 where
@@ -215,15 +255,15 @@ pub record TokenLoop (s starts : List ℕ) (count total start len : ℕ) (initia
   pub each : (n : Net) → Started n n.places starts count total → Tokening s n start starts initial named at
 
 pub tokening_begins : {s starts : List ℕ} {count total start len : ℕ} (initial named : List ℕ) → length initial ≡ len → length named ≡ 4096
-    → ((i : ℕ) → i < total → get_or initial i 0 ≡ 0) → ((i : ℕ) → i < total → get_or named i 0 ≡ 0) → TokenLoop s starts count total start len initial named start
-tokening_begins {s} {starts} {count} {total} {start} initial named a b f g = record {
+    → ((i : ℕ) → (get_or initial i 0 ≡ 0) × (get_or named i 0 ≡ 0)) → TokenLoop s starts count total start len initial named start
+tokening_begins {s} {starts} {count} {total} {start} initial named a b f = record {
   counted = a;
   marked = b;
   each = λ n begun. record {
     tokens = [];
     reading = begins s (tokens_part s n) [] start;
-    counts = holds_none begun count_of initial refl f;
-    names = holds_none begun flag named refl g;
+    counts = holds_none begun count_of initial refl (λ i. (f i).0);
+    names = holds_none begun flag named refl (λ i. (f i).1);
   };
 }
 

@@ -1,12 +1,12 @@
 -- The place command: the sets that it names, and the colours of all places with one more. Assumes nothing.
 use Rattle.std.specs.Prelude.{◌+◌, ◌&&◌, ◌∷◌, if◌then◌else◌}
 use Rattle.std.specs.Prelude as std
-use mathlib.Core.Path.{◌≡◌, refl, sym, ap, ◌∙◌}
+use mathlib.Core.Path.{◌≡◌, refl, sym, ap, subst, ◌∙◌}
 use native.Mathlib.Omega.{arith}
 use Prim.Native.Nat.{◌≤◌, ◌<◌, ◌*◌}
-use native.Mathlib.Nat.{mul-le-mul}
+use native.Mathlib.Nat.{mul-one, mul-le-mul}
 use borrow.Author.Tests.{le-leb, lt-leb, lt-ltb, le-ltb, ltb-true, ltb-false, eqb-true, eqb-false, ne_eqb}
-use Rattle.reading.specs.Basics.{ℕ, Bool, List, [], some, none, true, false, eqb, leb, ltb, length, every, map, sum, with, byte_at}
+use Rattle.reading.specs.Basics.{ℕ, Bool, List, [], some, none, true, false, eqb, leb, ltb, length, get_or, every, map, sum, with, byte_at}
 use Rattle.reading.specs.Reading.{fine, fault, Check, ◌unless◌, checked}
 use Rattle.reading.proofs.Commands.{end, other, passes, done, fails, later, both_hold, first_fails, second_fails, past, tests, Passes, Fails, standing_none, stands_cut, stands_fails, stands_goes}
 use Rattle.reading.proofs.Within.{by_test}
@@ -37,7 +37,7 @@ abbrev pub operands : PlaceSets → ℕ
 operands p = length (sets_of (place_in p))
 
 -- what stands at a place, by the sets that it names
-pub data NamedAt (s : List ℕ) (at : ℕ) : std.Option PlaceSets → Type 0 where
+data NamedAt (s : List ℕ) (at : ℕ) : std.Option PlaceSets → Type 0 where
   not_here : (byte_at s at ≡ 0x12 → ⊥) → (byte_at s at ≡ 0x13 → ⊥) → NamedAt s at std.None
   named_one : byte_at s at ≡ 0x12 → NamedAt s at (std.Some (One (byte_at s (at + 1))))
   named_two : byte_at s at ≡ 0x13 → NamedAt s at (std.Some (Two (byte_at s (at + 1)) (byte_at s (at + 2))))
@@ -60,26 +60,26 @@ stands_in s at lt = go (ltb at (length s)) refl
     go false e = omega (arith, past s at (ltb-false at (length s) e))
 
 module _ (s : List ℕ) (at : ℕ) where
-  pub named_at : NamedAt s at (sets_named s at)
+  named_at : NamedAt s at (sets_named s at)
   unfolding sets_named
   named_at = by_test (NamedAt s at) (eqb (byte_at s at) 0x12) (λ e. named_one (eqb-true (byte_at s at) 0x12 e))
       (λ e. by_test (NamedAt s at) (eqb (byte_at s at) 0x13) (λ f. named_two (eqb-true (byte_at s at) 0x13 f))
       (λ f. not_here (eqb-false (byte_at s at) 0x12 e) (eqb-false (byte_at s at) 0x13 f)))
 
-  pub not_named : NamedAt s at std.None → (n : Net) (places : List Place) → place_part s n places at ≡ none
+  none_at : NamedAt s at std.None → (n : Net) (places : List Place) → place_part s n places at ≡ none
   unfolding commands place_part
-  not_named (not_here e f) n places = standing_none _ _ _ (other (ne_eqb (byte_at s at) 0x12 e) (other (ne_eqb (byte_at s at) 0x13 f) end))
+  none_at (not_here e f) n places = standing_none _ _ _ (other (ne_eqb (byte_at s at) 0x12 e) (other (ne_eqb (byte_at s at) 0x13 f) end))
 
-  pub placed : {p : PlaceSets} → NamedAt s at (std.Some p) → Placed s at p
+  placed_at : {p : PlaceSets} → NamedAt s at (std.Some p) → Placed s at p
   unfolding commands place_part
-  placed (named_one e) = record {
+  placed_at (named_one e) = record {
     inside = stands_in s at (omega arith);
     wide = ap width_of e;
     cut = λ lt n places. stands_cut _ _ 0x12 _ e refl lt;
     fails = λ le n places f. stands_fails _ _ 0x12 _ e refl le f;
     goes = λ le n places f. stands_goes _ _ 0x12 _ e refl le f;
   }
-  placed (named_two e) = record {
+  placed_at (named_two e) = record {
     inside = stands_in s at (omega arith);
     wide = ap width_of e;
     cut = λ lt n places. stands_cut _ _ 0x13 _ e refl lt;
@@ -87,23 +87,30 @@ module _ (s : List ℕ) (at : ℕ) where
     goes = λ le n places f. stands_goes _ _ 0x13 _ e refl le f;
   }
 
--- how many colours a place has
-pub not_counted : (sets : List ℕ) (p : PlaceSets) → colours_counted sets p ≡ std.None → every (λ set. ltb set (length sets)) (sets_of (place_in p)) ≡ false
-unfolding colours_counted
-not_counted sets p e = go (every (λ set. ltb set (length sets)) (sets_of (place_in p))) e
-  where
-    go : (b : Bool) → (if b then std.Some (colours_of (scope sets [] []) (place_in p)) else std.None) ≡ std.None → b ≡ false
-    go true q = let z : ◌≡◌ {A = ℕ} 0 1 = cc in absurd (omega arith)
-    go false q = refl
+  module _ {o : std.Option PlaceSets} (is : o ≡ sets_named s at) where
+    pub not_named : o ≡ std.None → (n : Net) (places : List Place) → place_part s n places at ≡ none
+    not_named e = none_at (subst (NamedAt s at) (sym is ∙ e) named_at)
 
-pub counted : (sets : List ℕ) (p : PlaceSets) {k : ℕ} → colours_counted sets p ≡ std.Some k
-    → (every (λ set. ltb set (length sets)) (sets_of (place_in p)) ≡ true) × (k ≡ colours_of (scope sets [] []) (place_in p))
-unfolding colours_counted
-counted sets p {k} e = go (every (λ set. ltb set (length sets)) (sets_of (place_in p))) e
-  where
-    go : (b : Bool) → (if b then std.Some (colours_of (scope sets [] []) (place_in p)) else std.None) ≡ std.Some k → (b ≡ true) × (k ≡ colours_of (scope sets [] []) (place_in p))
-    go true q = (refl, cc)
-    go false q = let z : ◌≡◌ {A = ℕ} 0 1 = cc in absurd (omega arith)
+    pub placed : {p : PlaceSets} → o ≡ std.Some p → Placed s at p
+    placed e = placed_at (subst (NamedAt s at) (sym is ∙ e) named_at)
+
+-- how many colours a place has
+module _ (sets : List ℕ) (p : PlaceSets) {o : std.Option ℕ} (is : o ≡ colours_counted sets p) where
+  pub not_counted : o ≡ std.None → every (λ set. ltb set (length sets)) (sets_of (place_in p)) ≡ false
+  unfolding colours_counted
+  not_counted e = go (every (λ set. ltb set (length sets)) (sets_of (place_in p))) (sym is ∙ e)
+    where
+      go : (b : Bool) → (if b then std.Some (colours_of (scope sets [] []) (place_in p)) else std.None) ≡ std.None → b ≡ false
+      go true q = let z : ◌≡◌ {A = ℕ} 0 1 = cc in absurd (omega arith)
+      go false q = refl
+
+  pub counted : {k : ℕ} → o ≡ std.Some k → (every (λ set. ltb set (length sets)) (sets_of (place_in p)) ≡ true) × (k ≡ colours_of (scope sets [] []) (place_in p))
+  unfolding colours_counted
+  counted {k} e = go (every (λ set. ltb set (length sets)) (sets_of (place_in p))) (sym is ∙ e)
+    where
+      go : (b : Bool) → (if b then std.Some (colours_of (scope sets [] []) (place_in p)) else std.None) ≡ std.Some k → (b ≡ true) × (k ≡ colours_of (scope sets [] []) (place_in p))
+      go true q = (refl, cc)
+      go false q = let z : ◌≡◌ {A = ℕ} 0 1 = cc in absurd (omega arith)
 
 -- whether one more place keeps the total
 module _ (n : Net) (places : List Place) {total : ℕ} (e : sum (map (colours_of n) places) ≡ total) (p : Place) where

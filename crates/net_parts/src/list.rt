@@ -1,6 +1,6 @@
 // The set part and the variable part: lists of bytes, a command each.
 ghost use Rattle.std.specs.Prelude.{◌≡◌, List, [], ℕ, ◌≤◌, ◌<◌, length};
-ghost use Rattle.reading.specs.Reading.{Part as Steps, whole};
+ghost use Rattle.reading.specs.Reading.{whole};
 ghost use Rattle.net.specs.Net.{scope};
 ghost use Rattle.net_parts.specs.Parts.{set_part, variable_part};
 ghost use Rattle.net_parts.specs.internal.Steps.{list_part, list_step, ListRoom, sets_read, Few};
@@ -49,8 +49,7 @@ fn read_list(
 ) -> Result<Part, Refusal>
     requires { 0 < command }
     ensures few { Few (length list.old) result }
-    ensures is { (part : Steps (List ℕ)) → ((l : List ℕ) (at : ℕ) → part l at ≡ list_part command values.start values.end (length list.old) file.now l at)
-        → sets_read list.new result ≡ whole file.now part [] start }
+    ensures is { sets_read list.new result ≡ whole file.now (list_part command values.start values.end (length list.old) file.now) [] start }
 {
     let mut count: usize = 0;
     let mut at = start;

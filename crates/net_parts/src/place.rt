@@ -1,5 +1,5 @@
 // The place part: each place's sets and its first flat place go into lent tables.
-ghost use Rattle.std.specs.Prelude.{◌≡◌, List, [], map, ℕ, ◌≤◌, ◌<◌, length};
+ghost use Rattle.std.specs.Prelude.{◌≡◌, List, [], map, ℕ, ◌≤◌, length, IfSome};
 ghost use Rattle.reading.specs.Basics.{sum};
 ghost use Rattle.reading.specs.Reading.{whole};
 ghost use Rattle.net.specs.Net.{Place, colours_of, scope};
@@ -37,7 +37,8 @@ fn sets_named(file: &[u8], at: usize) -> Option<PlaceSets>
 
 // How many colours a place of these sets has; none where one of them is not there.
 fn colours_counted(sets: &[u8], place: PlaceSets) -> Option<usize>
-    ensures { result ≡ colours_counted sets.now place }
+    ensures is { result ≡ colours_counted sets.now place }
+    ensures small { IfSome result (λ k. k ≤ 65025) }
 {
     match place {
         PlaceSets::One { set } => {

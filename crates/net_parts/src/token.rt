@@ -1,11 +1,11 @@
 // The tokens part: the initial count of each flat place goes into a lent table.
-ghost use Rattle.std.specs.Prelude.{◌≡◌, List, ℕ, ◌≤◌, ◌<◌, length, get_or};
+ghost use Rattle.std.specs.Prelude.{◌≡◌, List, ℕ, ◌≤◌, ◌<◌, length, get_or, IfSome};
 ghost use Rattle.net.specs.Net.{Net, Tokens};
 ghost use Rattle.net_parts.specs.Parts.{tokens_part};
 ghost use Rattle.net_parts.specs.internal.Tables.{StartsRise, Started, Holds, flag, flat_found, token_step, TokenRoom, TokensTold};
 
 use net::after;
-use reading::{Reason, Refusal, byte_at, element, refused, store, word_at};
+use reading::{Reason, Refusal, byte_at, refused, store, word_at};
 
 // Where the flat places of each of so many places begin, and after the last their number.
 #[derive(Clone, Copy)]
@@ -20,7 +20,8 @@ impl<'a> Starts<'a> {
     // The flat place of a rank of a place; none where the place or the rank is not there.
     fn flat_at(self, p: usize, rank: usize) -> Option<usize>
         requires { rank < 65536 }
-        ensures { result ≡ flat_found self.entry.starts.now self.entry.places p rank }
+        ensures is { result ≡ flat_found self.entry.starts.now self.entry.places p rank }
+        ensures small { IfSome result (λ flat. flat < 4096) }
     {
         if self.places <= p {
             return None;
@@ -48,7 +49,7 @@ pub struct TokenRead {
 fn token_at(
     file: &[u8],
     starts: &Starts,
-    named: &[u8],
+    named: &[u8; 4096],
     at: usize,
 ) -> Result<Option<TokenRead>, Refusal>
     ensures is { (n : Net) (tokens : List Tokens) → Started n n.places starts.now.starts.now starts.now.places starts.now.total
@@ -67,7 +68,7 @@ fn token_at(
     let Some(flat) = starts.flat_at(place, rank) else {
         return refused(Reason::OutOfRange, at);
     };
-    if element(named, flat, 0) != 0 {
+    if named[flat] != 0 {
         return refused(Reason::Doubled, at);
     }
     Ok(Some(TokenRead {
@@ -79,7 +80,7 @@ fn token_at(
     }))
 }
 
-// The tokens part, with a table for marks that has none yet: the place after it. Counts are stored as far as theirs reaches.
+// The tokens part, over counts and marks that are all 0: the place after it. Counts are stored as far as their list reaches.
 fn read_marked(
     file: &[u8],
     starts: &Starts,
@@ -87,11 +88,10 @@ fn read_marked(
     named: &mut [u8; 4096],
     start: usize,
 ) -> Result<usize, Refusal>
-    requires { (i : ℕ) → i < 4096 → get_or named.old i 0 ≡ 0 }
+    requires { (i : ℕ) → (get_or initial.old i 0 ≡ 0) × (get_or named.old i 0 ≡ 0) }
     ensures { (n : Net) → Started n n.places starts.now.starts.now starts.now.places starts.now.total
         → TokensTold file.now n start starts.now.starts.now initial.new result }
 {
-    initial.fill(0);
     let mut at = start;
     while let Some(token) = token_at(file, starts, named, at)? {
         store(initial, token.flat, token.count);
@@ -101,7 +101,7 @@ fn read_marked(
     Ok(at)
 }
 
-// The same, with marks of its own, where there are tokens.
+// The tokens part: the place after it. Marks are made only where there are tokens.
 pub fn read_tokens(
     file: &[u8],
     starts: &Starts,
@@ -111,8 +111,8 @@ pub fn read_tokens(
     ensures { (n : Net) → Started n n.places starts.now.starts.now starts.now.places starts.now.total
         → TokensTold file.now n start starts.now.starts.now initial.new result }
 {
+    initial.fill(0);
     if byte_at(file, start) != 0x19 {
-        initial.fill(0);
         return Ok(start);
     }
     let mut named = [0u8; 4096];
