@@ -7,7 +7,7 @@ ghost use Rattle.reading.specs.Basics.{ltb};
 ghost use Rattle.firing.specs.declared.Arc.{Arc};
 ghost use Rattle.firing.specs.internal.RowLists.{arcs_in};
 ghost use Rattle.runs.specs.declared.Operator.TheVariants.{Plus};
-ghost use Rattle.runs.specs.internal.Terms.{limit, term, Terms, joined, join_by, times_all, ArcsAppended, Apart};
+ghost use Rattle.runs.specs.internal.Terms.{limit, term, Terms, joined, join_by, times_all, ArcsAppended, FirstCount, Apart};
 
 use firing::Arc;
 
@@ -69,9 +69,20 @@ pub fn scale(arcs: &mut [Arc], start: usize, end: usize, factor: u16)
 
 // How many terms of a run come before a rank.
 fn lower(run: &[Arc], rank: u16) -> usize
-    ensures { result ≡ prefix_len (λ a. ltb a.place rank) run.now }
+    ensures is { result ≡ prefix_len (λ a. ltb a.place rank) run.now }
+    ensures within { result ≤ length run.now }
 {
     run.iter().take_while(|a| a.place < rank).count()
+}
+
+// The count of a rank, where it is that of a run's first term.
+fn count_of(run: &[Arc], rank: u16) -> Option<u16>
+    ensures { FirstCount run.now rank result }
+{
+    match run {
+        [a, ..] if a.place == rank => Some(a.weight),
+        _ => None,
+    }
 }
 
 // Joins the terms of the second run with the count p of every rank of the first, into terms after so many.
@@ -150,17 +161,11 @@ fn merge_runs(
     let mut rest = second;
     let mut end = 0;
     for a in first {
-        let between = lower(rest, a.place);
-        end = merge_rest(op, p, &rest[..between], room, end);
-        rest = &rest[between..];
-        let mut other = q;
-        if let [b, more @ ..] = rest
-            && b.place == a.place
-        {
-            other = b.weight;
-            rest = more;
-        }
-        let weight = join(op, a.weight, other);
+        let (before, behind) = rest.split_at(lower(rest, a.place));
+        end = merge_rest(op, p, before, room, end);
+        let both = count_of(behind, a.place);
+        rest = &behind[usize::from(both.is_some())..];
+        let weight = join(op, a.weight, both.unwrap_or(q));
         end = store(room, end, Arc { weight, ..*a });
     }
     merge_rest(op, p, rest, room, end)

@@ -1,5 +1,5 @@
 -- A multiset of ranks: terms, a rank with its count each, by rising rank; and one count that every other rank has.
-use Rattle.std.specs.Prelude.{◌≡◌, ◌≤◌, ◌<◌, ◌+◌, ◌-◌, ◌*◌, ◌∷◌, if◌then◌else◌}
+use Rattle.std.specs.Prelude.{◌≡◌, ◌≤◌, ◌<◌, ◌+◌, ◌-◌, ◌*◌, ◌∷◌, if◌then◌else◌, Option, Some, None}
 use Rattle.reading.specs.Basics.{ℕ, List, [], map, length, get_or, take, ltb, leb, eqb}
 use Rattle.firing.specs.declared.Arc.{Arc}
 use Rattle.firing.specs.internal.RowLists.{arcs_in}
@@ -54,6 +54,11 @@ pub record ArcsAppended (arcs : List Arc) (l : List Arc) (used : ℕ) (l' : List
   pub are : arcs_in l' used r ≡ arcs
   pub end : r ≡ used + length arcs
   pub size : length l' ≡ length l
+
+-- the count of a rank, where it is that of a run's first term
+abbrev pub FirstCount : List Arc → ℕ → Option ℕ → Type 0
+FirstCount run rank (Some w) = (0 < length run) × ((get_or run 0 (term 0 0)).place ≡ rank) × (w ≡ (get_or run 0 (term 0 0)).weight)
+FirstCount run rank None = 0 < length run → (get_or run 0 (term 0 0)).place ≡ rank → ⊥
 
 -- two runs lie joined to their sum: nothing else has a count, and the second comes after the first
 pub record Apart (op : Operator) (first second : List Arc) (p q : ℕ) : Type 0 where
