@@ -8,23 +8,30 @@ use mathlib.Core.Logic.{⊎_elim}
 use borrow.Author.Tests.{le-leb, ne_eqb, ltb-true, ltb-false}
 use Rattle.reading.specs.Basics.{ℕ, Bool, true, false, List, [], length, ltb, eqb, byte_at, word_at}
 use Rattle.reading.specs.Reading.{Answer, fine, fault, under}
-use Rattle.firing.specs.Arcs.{Arc}
+use Rattle.firing.specs.declared.Arc.{Arc}
 use Rattle.firing.specs.internal.RowLists.{arcs_in}
-use Rattle.net.specs.Net.{Colour, Expression, all, times, Place, single, pair, Net, ceiling}
+use Rattle.net.specs.Net.{Colour, Expression, all, plus, minus, times, Place, single, pair, Net, ceiling}
 use Rattle.net.specs.Reader.{read_colour, read_expression, two_of, amount, capped}
 use Rattle.net.specs.Values.{weight}
 use Rattle.evaluation.specs.internal.Evaluated.{bound, Ranks}
 use Rattle.runs.specs.internal.Terms.{limit, term, count_in, Terms, none, more, joined, join_by, times_all, ArcsAppended}
-use Rattle.arc_expressions.specs.internal.ReaderEnums.{joins}
+use Rattle.runs.specs.declared.Operator.{Operator}
+use Rattle.runs.specs.declared.Operator.TheVariants.{Plus, Minus}
 use Rattle.evaluation.specs.declared.evaluate.Ranked.{Ranked}
 use Rattle.net.proofs.Shut.{commands}
 use Rattle.evaluation.proofs.Values.{needed_by}
 use Rattle.arc_expressions.proofs.Expressions.{expression_step, expression_in_lem}
 use Rattle.evaluation.proofs.Weights.{weight_le, joined_by, times_by, one_by, two_by, expression_past, expression_shut, expression_stray}
-use Rattle.sums.specs.internal.Loaded.{terms, Counted, Listed, ListedTold}
+use Rattle.sums.specs.internal.Loaded.{terms, Counted, Listed, ListedTold, byte_of}
 use Rattle.sums.specs.declared.terms.Multiset.{Multiset}
-use Rattle.runs.proofs.Appending.{arcs_kept, append_none, append_join}
-use Rattle.runs.proofs.Joining.{joined_counts, joined_rises, joined_few, times_counts, times_rises, times_few}
+use Rattle.firing.proofs.Rows.{arcs_front}
+use Rattle.runs.proofs.Appending.{append_none, append_join}
+use Rattle.runs.proofs.Joining.{join_fits, joined_counts, joined_rises, joined_few, times_counts, times_rises, times_few}
+
+-- the sum of two expressions, or the first less the second
+abbrev pub joins : Operator → Expression → Expression → Expression
+joins Plus a b = plus a b
+joins Minus a b = minus a b
 
 -- ---- the parts of an expression, counted
 module _ (n : Net) (env : List ℕ) (count : ℕ) where
@@ -35,9 +42,9 @@ module _ (n : Net) (env : List ℕ) (count : ℕ) where
 
   -- a count that goes to one rank, below the number or not
   module _ (e : Expression) (k number : ℕ) (alone : terms e ≡ 1) (at_one : (rank : ℕ) → weight n (bound env) rank e ≡ (if eqb k rank then number else 0)) where
-    here_counted : k < count → Counted n env count e (term k number ∷ []) 0
+    here_counted : k < count → number ≤ 65535 → Counted n env count e (term k number ∷ []) 0
     unfolding count_in
-    here_counted lt = record { rising = more {from = 0} {a = term k number} (omega arith) lt none; counts = λ rank i. at_one rank; few = omega (arith, alone) }
+    here_counted lt small = record { rising = more {from = 0} {a = term k number} (omega arith) lt small none; counts = λ rank i. at_one rank; few = omega (arith, alone) }
 
     past_counted : count ≤ k → Counted n env count e [] 0
     unfolding count_in
@@ -60,97 +67,82 @@ module _ (n : Net) (env : List ℕ) (count : ℕ) where
     join_few : (f : ℕ → ℕ → ℕ) → length (joined f p q l m) ≤ terms a + terms b
     join_few f = let i = joined_few f p q l m in omega (arith, c.few, d.few)
 
-    joined_counted : (less : Bool) → ceiling (joins less a b) ≤ 65535 → Counted n env count (joins less a b) (joined (join_by less) p q l m) (join_by less p q)
+    joined_counted : (op : Operator) → p ≤ 65535 → ceiling (joins op a b) ≤ 65535 → Counted n env count (joins op a b) (joined (join_by op) p q l m) (join_by op p q)
     unfolding weight ceiling terms
-    joined_counted true small =
+    joined_counted Minus fits small =
         record {
-          rising = joined_rises (join_by true) p q c.rising d.rising;
-          counts = λ rank lt. sym (joined_counts (join_by true) p q c.rising d.rising rank ∙ rw (← c.counts rank lt, ← d.counts rank lt));
-          few = join_few (join_by true);
+          rising = joined_rises (join_by Minus) p q (join_fits Minus) fits c.rising d.rising;
+          counts = λ rank lt. sym (joined_counts (join_by Minus) p q c.rising d.rising rank ∙ rw (← c.counts rank lt, ← d.counts rank lt));
+          few = join_few (join_by Minus);
         }
-    joined_counted false small =
+    joined_counted Plus fits small =
         record {
-          rising = joined_rises (join_by false) p q c.rising d.rising;
+          rising = joined_rises (join_by Plus) p q (join_fits Plus) fits c.rising d.rising;
           counts = λ rank lt.
               let i = weight_le n (bound env) rank a in
               let j = weight_le n (bound env) rank b in
-              sym (joined_counts (join_by false) p q c.rising d.rising rank
+              sym (joined_counts (join_by Plus) p q c.rising d.rising rank
               ∙ rw (← c.counts rank lt, ← d.counts rank lt, le-leb (weight n (bound env) rank a + weight n (bound env) rank b) 65535 (omega arith)));
-          few = join_few (join_by false);
+          few = join_few (join_by Plus);
         }
 
 -- ---- terms that take the place of others
-pub append-over : {xs ys : List Arc} {ranks counts ranks' counts' ranks'' counts'' : List ℕ} {used end end' : ℕ}
-    → ArcsAppended xs ranks counts used ranks' counts' end → ArcsAppended ys ranks' counts' used ranks'' counts'' end' → ArcsAppended ys ranks counts used ranks'' counts'' end'
-append-over f g =
-    record {
-      front = g.front ∙ f.front;
-      fronts = g.fronts ∙ f.fronts;
-      are = g.are;
-      end = g.end;
-      size = g.size ∙ f.size;
-      sizes = g.sizes ∙ f.sizes;
-    }
+pub append-over : {xs ys l l' l'' : List Arc} {used end end' : ℕ} → ArcsAppended xs l used l' end → ArcsAppended ys l' used l'' end' → ArcsAppended ys l used l'' end'
+append-over f g = record { front = g.front ∙ f.front; are = g.are; end = g.end; size = g.size ∙ f.size }
 
 -- ---- a factor times the expression that was listed, and two listed one after the other
-module _ (n : Net) (env : List ℕ) (count : ℕ) (ranks counts : List ℕ) (used : ℕ) (inner : ℕ → Answer Expression) (at next : ℕ) (ranks₁ counts₁ : List ℕ) (p : Multiset)
-    (first : ListedTold n env count ranks counts used ranks₁ counts₁ p (inner next)) where
-  pub times_listed : (factor : ℕ) (counts₂ : List ℕ)
-      → ((ranks₀ counts₀ ranks : List ℕ) (l : List Arc) → ArcsAppended l ranks₀ counts₀ used ranks counts₁ p.end → p.end ≤ length counts₁ → ArcsAppended (times_all factor l) ranks₀ counts₀ used ranks counts₂ p.end)
-      → ListedTold n env count ranks counts used ranks₁ counts₂ (record { end = p.end; rest = limit (factor * p.rest); next = p.next }) (capped at (under (times factor) (inner next)))
+module _ (n : Net) (env : List ℕ) (count : ℕ) (arcs : List Arc) (used : ℕ) (inner : ℕ → Answer Expression) (at next : ℕ) (arcs₁ : List Arc) (p : Multiset)
+    (first : ListedTold n env count arcs used arcs₁ p (inner next)) where
+  pub times_listed : (factor : ℕ) (arcs₂ : List Arc) → ((l₀ l : List Arc) → ArcsAppended l l₀ used arcs₁ p.end → p.end ≤ length arcs₁ → ArcsAppended (times_all factor l) l₀ used arcs₂ p.end)
+      → ListedTold n env count arcs used arcs₂ (record { end = p.end; rest = limit (factor * p.rest); next = p.next }) (capped at (under (times factor) (inner next)))
   unfolding terms
-  times_listed factor counts₂ scaled =
-      times_by (ListedTold n env count ranks counts used ranks₁ counts₂ (record { end = p.end; rest = limit (factor * p.rest); next = p.next })) (λ k i. tt) at inner next factor
-      (λ a end e small i j.
-      let told : ListedTold n env count ranks counts used ranks₁ counts₁ p (fine a end) = subst (ListedTold n env count ranks counts used ranks₁ counts₁ p) e first in
-      let g = told i j in
+  times_listed factor arcs₂ scaled =
+      times_by (ListedTold n env count arcs used arcs₂ (record { end = p.end; rest = limit (factor * p.rest); next = p.next })) (λ k i. tt) at inner next factor
+      (λ a end e small i.
+      let told : ListedTold n env count arcs used arcs₁ p (fine a end) = subst (ListedTold n env count arcs used arcs₁ p) e first in
+      let g = told i in
       record {
         list = times_all factor g.list;
-        lie = scaled ranks counts ranks₁ g.list g.lie (omega (arith, g.lie.end, g.lie.sizes, g.counted.few));
+        lie = scaled arcs g.list g.lie (omega (arith, g.lie.end, g.lie.size, g.counted.few));
         counted = times_counted n env count factor a g.list p.rest small g.counted;
         after = g.after;
       })
 
   -- where both were listed, and their terms joined
-  module _ (ranks₂ counts₂ : List ℕ) (q : Multiset) (second : ListedTold n env count ranks₁ counts₁ p.end ranks₂ counts₂ q (inner p.next)) (less : Bool) (ranks₃ counts₃ : List ℕ) (r : ℕ)
-      (merged : (below : ℕ) → Terms below 0 (arcs_in ranks₂ counts₂ used p.end) → Terms below 0 (arcs_in ranks₂ counts₂ p.end q.end)
-      → q.end + (q.end - used) ≤ length ranks₂ → q.end + (q.end - used) ≤ length counts₂
-      → ArcsAppended (joined (join_by less) p.rest q.rest (arcs_in ranks₂ counts₂ used p.end) (arcs_in ranks₂ counts₂ p.end q.end)) ranks₂ counts₂ used ranks₃ counts₃ r) where
+  module _ (arcs₂ : List Arc) (q : Multiset) (second : ListedTold n env count arcs₁ p.end arcs₂ q (inner p.next)) (op : Operator) (fits : p.rest ≤ 65535) (arcs₃ : List Arc) (r : ℕ)
+      (merged : (below : ℕ) → Terms below 0 (arcs_in arcs₂ used p.end) → Terms below 0 (arcs_in arcs₂ p.end q.end) → q.end + (q.end - used) ≤ length arcs₂
+      → ArcsAppended (joined (join_by op) p.rest q.rest (arcs_in arcs₂ used p.end) (arcs_in arcs₂ p.end q.end)) arcs₂ used arcs₃ r) where
     abbrev whole : Multiset
-    whole = record { end = r; rest = join_by less p.rest q.rest; next = q.next }
+    whole = record { end = r; rest = join_by op p.rest q.rest; next = q.next }
 
-    both_listed : (a b : Expression) (mid end : ℕ) → Listed n env count ranks counts used ranks₁ counts₁ p a mid → Listed n env count ranks₁ counts₁ p.end ranks₂ counts₂ q b end
-        → ceiling (joins less a b) ≤ 65535 → used + 2 * (terms a + terms b) ≤ length ranks → used + 2 * (terms a + terms b) ≤ length counts
-        → Listed n env count ranks counts used ranks₃ counts₃ whole (joins less a b) end
-    both_listed a b mid end g h small i j =
+    both_listed : (a b : Expression) (mid end : ℕ) → Listed n env count arcs used arcs₁ p a mid → Listed n env count arcs₁ p.end arcs₂ q b end
+        → ceiling (joins op a b) ≤ 65535 → used + 2 * (terms a + terms b) ≤ length arcs → Listed n env count arcs used arcs₃ whole (joins op a b) end
+    both_listed a b mid end g h small i =
         let both = append_join g.lie h.lie in
-        let first_kept : arcs_in ranks₂ counts₂ used p.end ≡ g.list = arcs_kept ranks₁ counts₁ ranks₂ counts₂ used p.end h.lie.front h.lie.fronts ∙ g.lie.are in
-        let room = merged count (rw first_kept g.counted.rising) (rw h.lie.are h.counted.rising)
-        (omega (arith, g.lie.end, h.lie.end, g.counted.few, h.counted.few, both.size))
-        (omega (arith, g.lie.end, h.lie.end, g.counted.few, h.counted.few, both.sizes)) in
+        let first_kept : arcs_in arcs₂ used p.end ≡ g.list = arcs_front arcs₂ arcs₁ used p.end h.lie.front ∙ g.lie.are in
+        let room = merged count (rw first_kept g.counted.rising) (rw h.lie.are h.counted.rising) (omega (arith, g.lie.end, h.lie.end, g.counted.few, h.counted.few, both.size)) in
         record {
-          list = joined (join_by less) p.rest q.rest g.list h.list;
+          list = joined (join_by op) p.rest q.rest g.list h.list;
           lie = append-over both (rw (first_kept, h.lie.are) at room);
-          counted = joined_counted n env count a b g.list h.list p.rest q.rest g.counted h.counted less small;
+          counted = joined_counted n env count a b g.list h.list p.rest q.rest g.counted h.counted op fits small;
           after = h.after;
         }
 
-    joins-terms : (l : Bool) (a b : Expression) → terms (joins l a b) ≡ terms a + terms b
+    joins-terms : (o : Operator) (a b : Expression) → terms (joins o a b) ≡ terms a + terms b
     unfolding terms
-    joins-terms true a b = refl
-    joins-terms false a b = refl
+    joins-terms Plus a b = refl
+    joins-terms Minus a b = refl
 
-    pub joined_listed : ListedTold n env count ranks counts used ranks₃ counts₃ whole (capped at (two_of inner (joins less) next))
+    pub joined_listed : ListedTold n env count arcs used arcs₃ whole (capped at (two_of inner (joins op) next))
     joined_listed =
-        joined_by (ListedTold n env count ranks counts used ranks₃ counts₃ whole) (λ k i. tt) at inner next (joins less)
-        (λ a b mid end e f small i j.
-        let t = joins-terms less a b in
-        let told : ListedTold n env count ranks counts used ranks₁ counts₁ p (fine a mid) = subst (ListedTold n env count ranks counts used ranks₁ counts₁ p) e first in
-        let g = told (omega (arith, t, i)) (omega (arith, t, j)) in
-        let told' : ListedTold n env count ranks₁ counts₁ p.end ranks₂ counts₂ q (fine b end) =
-        subst (ListedTold n env count ranks₁ counts₁ p.end ranks₂ counts₂ q) (ap inner g.after ∙ f) second in
-        let h = told' (omega (arith, t, i, g.lie.end, g.lie.size, g.counted.few)) (omega (arith, t, j, g.lie.end, g.lie.sizes, g.counted.few)) in
-        both_listed a b mid end g h small (omega (arith, t, i)) (omega (arith, t, j)))
+        joined_by (ListedTold n env count arcs used arcs₃ whole) (λ k i. tt) at inner next (joins op)
+        (λ a b mid end e f small i.
+        let t = joins-terms op a b in
+        let told : ListedTold n env count arcs used arcs₁ p (fine a mid) = subst (ListedTold n env count arcs used arcs₁ p) e first in
+        let g = told (omega (arith, t, i)) in
+        let told' : ListedTold n env count arcs₁ p.end arcs₂ q (fine b end) = subst (ListedTold n env count arcs₁ p.end arcs₂ q) (ap inner g.after ∙ f) second in
+        let h = told' (omega (arith, t, i, g.lie.end, g.lie.size, g.counted.few)) in
+        both_listed a b mid end g h small (omega (arith, t, i)))
 
 -- ---- a count of one rank
 abbrev pub OneTerm : Answer Expression → Type 0
@@ -162,82 +154,73 @@ unfolding terms
 amount-term n inner (single set) count at next = one_by OneTerm (λ k p. tt) at n inner count next set (λ k end e. refl)
 amount-term n inner (pair set other) count at next = two_by OneTerm (λ k p. tt) at n inner count next set other (λ a b mid end e f. refl)
 
-module _ (n : Net) (env : List ℕ) (count : ℕ) (ranks counts : List ℕ) (used : ℕ) (ranks' counts' : List ℕ) (end : ℕ) (k : Ranked) (number : ℕ)
-    (inside : k.rank < count → used < length ranks → used < length counts → ArcsAppended (term k.rank number ∷ []) ranks counts used ranks' counts' end)
-    (outside : count ≤ k.rank → ArcsAppended [] ranks counts used ranks' counts' end) where
-  one_listed : (x : Answer Expression) → OneTerm x → Ranks n env number k x → ListedTold n env count ranks counts used ranks' counts' (record { end = end; rest = 0; next = k.next }) x
-  one_listed (fine e next) t h = λ i j. go (ltb k.rank count) refl i j
+module _ (n : Net) (env : List ℕ) (count : ℕ) (arcs : List Arc) (used : ℕ) (arcs' : List Arc) (end : ℕ) (k : Ranked) (number : ℕ) (fits : number ≤ 65535)
+    (inside : k.rank < count → used < length arcs → ArcsAppended (term k.rank number ∷ []) arcs used arcs' end)
+    (outside : count ≤ k.rank → ArcsAppended [] arcs used arcs' end) where
+  one_listed : (x : Answer Expression) → OneTerm x → Ranks n env number k x → ListedTold n env count arcs used arcs' (record { end = end; rest = 0; next = k.next }) x
+  one_listed (fine e next) t h = λ i. go (ltb k.rank count) refl i
     where
-      go : (b : Bool) → ltb k.rank count ≡ b → used + 2 * terms e ≤ length ranks → used + 2 * terms e ≤ length counts → Listed n env count ranks counts used ranks' counts' (record { end = end; rest = 0; next = k.next }) e next
-      go true f i j =
+      go : (b : Bool) → ltb k.rank count ≡ b → used + 2 * terms e ≤ length arcs → Listed n env count arcs used arcs' (record { end = end; rest = 0; next = k.next }) e next
+      go true f i =
           let lt = ltb-true k.rank count f in
           record {
             list = term k.rank number ∷ [];
-            lie = inside lt (omega (arith, t)) (omega (arith, t));
-            counted = here_counted n env count e k.rank number t h.1 lt;
+            lie = inside lt (omega (arith, t));
+            counted = here_counted n env count e k.rank number t h.1 lt fits;
             after = h.0;
           }
-      go false f i j =
+      go false f i =
           let le = ltb-false k.rank count f in
           record { list = []; lie = outside le; counted = past_counted n env count e k.rank number t h.1 le; after = h.0 }
   one_listed (fault i p) t h = tt
 
 -- ---- by the byte that stands at a place
--- 0x42 or 0x43
-pub either_byte : (b : ℕ) → 0x42 ≤ b → b ≤ 0x43 → b ≡ (if eqb b 0x43 then 0x43 else 0x42)
-either_byte b low high = ⊎_elim (λ e. rw (← e)) (λ l. let e : b ≡ 0x43 = omega arith in rw e) (eq-or-lt_of_le low)
-
-module _ (s : List ℕ) (n : Net) (env : List ℕ) (place : Place) (left at count : ℕ) (ranks counts : List ℕ) (used : ℕ) where
+module _ (s : List ℕ) (n : Net) (env : List ℕ) (place : Place) (left at count : ℕ) (arcs : List Arc) (used : ℕ) where
   -- 0x41
-  pub all_listed : byte_at s at ≡ 0x41 → ListedTold n env count ranks counts used ranks counts (record { end = used; rest = word_at s (at + 1); next = at + 3 }) (read_expression s n place left at)
+  pub all_listed : byte_at s at ≡ 0x41 → ListedTold n env count arcs used arcs (record { end = used; rest = word_at s (at + 1); next = at + 3 }) (read_expression s n place left at)
   unfolding commands
   all_listed e =
-      rw (expression_step s n place left at) (needed_by (ListedTold n env count ranks counts used ranks counts (record { end = used; rest = word_at s (at + 1); next = at + 3 })) (λ k p. tt) s at 0x41 _ e refl
-      (λ i j. record { list = []; lie = append_none ranks counts used; counted = all_counted n env count (word_at s (at + 1)); after = refl }))
+      rw (expression_step s n place left at) (needed_by (ListedTold n env count arcs used arcs (record { end = used; rest = word_at s (at + 1); next = at + 3 })) (λ k p. tt) s at 0x41 _ e refl
+      (λ i. record { list = []; lie = append_none arcs used; counted = all_counted n env count (word_at s (at + 1)); after = refl }))
 
-  module _ (ranks' counts' : List ℕ) where
+  module _ (arcs' : List Arc) where
     -- the others, with a level left
     module _ (le : 1 ≤ left) where
       -- 0x40
-      pub amount_listed : (end : ℕ) (k : Ranked)
-          → (k.rank < count → used < length ranks → used < length counts → ArcsAppended (term k.rank (word_at s (at + 1)) ∷ []) ranks counts used ranks' counts' end)
-          → (count ≤ k.rank → ArcsAppended [] ranks counts used ranks' counts' end)
+      pub amount_listed : (end : ℕ) (k : Ranked) → word_at s (at + 1) ≤ 65535
+          → (k.rank < count → used < length arcs → ArcsAppended (term k.rank (word_at s (at + 1)) ∷ []) arcs used arcs' end)
+          → (count ≤ k.rank → ArcsAppended [] arcs used arcs' end)
           → Ranks n env (word_at s (at + 1)) k (amount n (read_colour s n (left - 1)) place (word_at s (at + 1)) at (at + 3)) → byte_at s at ≡ 0x40
-          → ListedTold n env count ranks counts used ranks' counts' (record { end = end; rest = 0; next = k.next }) (read_expression s n place left at)
+          → ListedTold n env count arcs used arcs' (record { end = end; rest = 0; next = k.next }) (read_expression s n place left at)
       unfolding commands
-      amount_listed end k inside outside h e =
-          rw (expression_in_lem s n place left at le) (needed_by (ListedTold n env count ranks counts used ranks' counts' (record { end = end; rest = 0; next = k.next })) (λ k p. tt) s at 0x40 _ e refl
-          (one_listed n env count ranks counts used ranks' counts' end k (word_at s (at + 1)) inside outside
+      amount_listed end k fits inside outside h e =
+          rw (expression_in_lem s n place left at le) (needed_by (ListedTold n env count arcs used arcs' (record { end = end; rest = 0; next = k.next })) (λ k p. tt) s at 0x40 _ e refl
+          (one_listed n env count arcs used arcs' end k (word_at s (at + 1)) fits inside outside
           (amount n (read_colour s n (left - 1)) place (word_at s (at + 1)) at (at + 3)) (amount-term n (read_colour s n (left - 1)) place (word_at s (at + 1)) at (at + 3)) h))
 
       module _ (r : Multiset) where
         -- 0x44
-        pub times_told : byte_at s at ≡ 0x44 → ListedTold n env count ranks counts used ranks' counts' r (capped at (under (times (word_at s (at + 1))) (read_expression s n place (left - 1) (at + 3))))
-            → ListedTold n env count ranks counts used ranks' counts' r (read_expression s n place left at)
+        pub times_told : byte_at s at ≡ 0x44 → ListedTold n env count arcs used arcs' r (capped at (under (times (word_at s (at + 1))) (read_expression s n place (left - 1) (at + 3))))
+            → ListedTold n env count arcs used arcs' r (read_expression s n place left at)
         unfolding commands
-        times_told e h = rw (expression_in_lem s n place left at le) (needed_by (ListedTold n env count ranks counts used ranks' counts' r) (λ k p. tt) s at 0x44 _ e refl h)
+        times_told e h = rw (expression_in_lem s n place left at le) (needed_by (ListedTold n env count arcs used arcs' r) (λ k p. tt) s at 0x44 _ e refl h)
 
         -- 0x42 and 0x43
-        joined-told : (less : Bool) → byte_at s at ≡ (if less then 0x43 else 0x42)
-            → ListedTold n env count ranks counts used ranks' counts' r (capped at (two_of (read_expression s n place (left - 1)) (joins less) (at + 1)))
-            → ListedTold n env count ranks counts used ranks' counts' r (read_expression s n place left at)
+        pub joined_told : (op : Operator) → byte_at s at ≡ byte_of op
+            → ListedTold n env count arcs used arcs' r (capped at (two_of (read_expression s n place (left - 1)) (joins op) (at + 1)))
+            → ListedTold n env count arcs used arcs' r (read_expression s n place left at)
         unfolding commands
-        joined-told true e h = rw (expression_in_lem s n place left at le) (needed_by (ListedTold n env count ranks counts used ranks' counts' r) (λ k p. tt) s at 0x43 _ e refl h)
-        joined-told false e h = rw (expression_in_lem s n place left at le) (needed_by (ListedTold n env count ranks counts used ranks' counts' r) (λ k p. tt) s at 0x42 _ e refl h)
-
-        pub either_told : 0x42 ≤ byte_at s at → byte_at s at ≤ 0x43
-            → ListedTold n env count ranks counts used ranks' counts' r (capped at (two_of (read_expression s n place (left - 1)) (joins (eqb (byte_at s at) 0x43)) (at + 1)))
-            → ListedTold n env count ranks counts used ranks' counts' r (read_expression s n place left at)
-        either_told low high h = joined-told (eqb (byte_at s at) 0x43) (either_byte (byte_at s at) low high) h
+        joined_told Minus e h = rw (expression_in_lem s n place left at le) (needed_by (ListedTold n env count arcs used arcs' r) (λ k p. tt) s at 0x43 _ e refl h)
+        joined_told Plus e h = rw (expression_in_lem s n place left at le) (needed_by (ListedTold n env count arcs used arcs' r) (λ k p. tt) s at 0x42 _ e refl h)
 
     -- nothing is promised past the end, where no level is left for what is inside, and at a stray byte
     module _ (r : Multiset) where
-      pub listed_past : length s ≤ at → ListedTold n env count ranks counts used ranks' counts' r (read_expression s n place left at)
-      listed_past = expression_past (ListedTold n env count ranks counts used ranks' counts' r) (λ k p. tt) s n left at place
+      pub listed_past : length s ≤ at → ListedTold n env count arcs used arcs' r (read_expression s n place left at)
+      listed_past = expression_past (ListedTold n env count arcs used arcs' r) (λ k p. tt) s n left at place
 
-      pub listed_shut : left < 1 → (byte_at s at ≡ 0x41 → ⊥) → ListedTold n env count ranks counts used ranks' counts' r (read_expression s n place left at)
-      listed_shut = expression_shut (ListedTold n env count ranks counts used ranks' counts' r) (λ k p. tt) s n left at place
+      pub listed_shut : left < 1 → (byte_at s at ≡ 0x41 → ⊥) → ListedTold n env count arcs used arcs' r (read_expression s n place left at)
+      listed_shut = expression_shut (ListedTold n env count arcs used arcs' r) (λ k p. tt) s n left at place
 
       pub listed_stray : (byte_at s at ≡ 0x40 → ⊥) → (byte_at s at ≡ 0x41 → ⊥) → (byte_at s at ≡ 0x42 → ⊥) → (byte_at s at ≡ 0x43 → ⊥) → (byte_at s at ≡ 0x44 → ⊥)
-          → ListedTold n env count ranks counts used ranks' counts' r (read_expression s n place left at)
-      listed_stray = expression_stray (ListedTold n env count ranks counts used ranks' counts' r) (λ k p. tt) s n left at place
+          → ListedTold n env count arcs used arcs' r (read_expression s n place left at)
+      listed_stray = expression_stray (ListedTold n env count arcs used arcs' r) (λ k p. tt) s n left at place

@@ -10,7 +10,7 @@ use Rattle.reading.specs.Reading.{Answer, fine, fault, under, Check, ◌unless�
 use Rattle.reading.proofs.Lists.{end, also}
 use Rattle.reading.proofs.Commands.{known, needed_at}
 use Rattle.reading.proofs.Keeps.{no_value, then_went, under_went, needed_went}
-use Rattle.firing.specs.Arcs.{Arc}
+use Rattle.firing.specs.declared.Arc.{Arc}
 use Rattle.firing.specs.internal.RowLists.{arcs_in}
 use Rattle.net.specs.Net.{Colour, variable, constant, successor, predecessor, Expression, plus, Place, single, pair, Net, size_of, ceiling}
 use Rattle.net.specs.Reader.{width_of, opening, colour_commands, read_colour, read_expression, amount}
@@ -28,8 +28,10 @@ use Rattle.sums.specs.internal.Loaded.{terms, ListedTold}
 use Rattle.sums.specs.internal.Sums.{InTurn, together, Summing, SumTold}
 use Rattle.sums.specs.internal.Sums as sums
 use Rattle.sums.specs.declared.terms.Multiset.{Multiset}
-use Rattle.runs.proofs.Appending.{arcs_kept, append_none, append_join, behind}
-use Rattle.runs.proofs.Joining.{joined_counts, joined_rises, joined_few}
+use Rattle.firing.proofs.Rows.{arcs_front}
+use Rattle.runs.specs.declared.Operator.TheVariants.{Plus}
+use Rattle.runs.proofs.Appending.{append_none, append_join, behind}
+use Rattle.runs.proofs.Joining.{join_fits, joined_counts, joined_rises, joined_few}
 use Rattle.sums.proofs.Listing.{append-over, amount-term, OneTerm}
 
 -- ---- what is read with some levels left is read the same with more
@@ -180,25 +182,25 @@ module _ (s : List ℕ) (n : Net) (place : Place) (env : List ℕ) where
     -- both joined: their counts are added up
     both_counted : {l m : List Arc} (es fs gs : List Expression) → Terms count 0 l → Terms count 0 m → together ceiling es ≤ 65535 → (rank : ℕ)
         → weights rank es ≡ count_in l 0 rank + weights rank fs → weights rank fs ≡ count_in m 0 rank + weights rank gs
-        → weights rank es ≡ count_in (joined (join_by false) 0 0 l m) 0 rank + weights rank gs
+        → weights rank es ≡ count_in (joined (join_by Plus) 0 0 l m) 0 rank + weights rank gs
     both_counted {l} {m} es fs gs t u small rank e f =
         let le = weights_le rank es in
-        let sum : count_in (joined (join_by false) 0 0 l m) 0 rank ≡ count_in l 0 rank + count_in m 0 rank =
-        joined_counts (join_by false) 0 0 t u rank ∙ rw (le-leb (count_in l 0 rank + count_in m 0 rank) 65535 (omega arith)) in
+        let sum : count_in (joined (join_by Plus) 0 0 l m) 0 rank ≡ count_in l 0 rank + count_in m 0 rank =
+        joined_counts (join_by Plus) 0 0 t u rank ∙ rw (le-leb (count_in l 0 rank + count_in m 0 rank) 65535 (omega arith)) in
         omega arith
 
-    module _ (at many : ℕ) (ranks counts : List ℕ) (used : ℕ) where
+    module _ (at many : ℕ) (arcs : List Arc) (used : ℕ) where
       -- nothing is gone through yet
-      pub sum_begins : SumTold s n place env count at many ranks counts used ranks counts used at many
+      pub sum_begins : SumTold s n place env count at many arcs used arcs used at many
       unfolding count_in
-      sum_begins es stop t l small i j =
-          record { list = []; others = es; lie = append_none ranks counts used; rising = spec.none; turn = t; many = l; counted = λ rank lt. omega arith; few = omega arith; small = omega arith }
+      sum_begins es stop t l small i =
+          record { list = []; others = es; lie = append_none arcs used; rising = spec.none; turn = t; many = l; counted = λ rank lt. omega arith; few = omega arith; small = omega arith }
 
-      module _ (ranks₁ counts₁ : List ℕ) (end next ahead : ℕ) (told : SumTold s n place env count at many ranks counts used ranks₁ counts₁ end next ahead) where
+      module _ (arcs₁ : List Arc) (end next ahead : ℕ) (told : SumTold s n place env count at many arcs used arcs₁ end next ahead) where
         -- 0x42 opens two in the stead of one
-        pub sum_opens : 1 ≤ ahead → byte_at s next ≡ 0x42 → SumTold s n place env count at many ranks counts used ranks₁ counts₁ end (next + 1) (ahead + 1)
-        sum_opens lt b es stop t l small i j =
-            let g = told es stop t l small i j in
+        pub sum_opens : 1 ≤ ahead → byte_at s next ≡ 0x42 → SumTold s n place env count at many arcs used arcs₁ end (next + 1) (ahead + 1)
+        sum_opens lt b es stop t l small i =
+            let g = told es stop t l small i in
             let o = opens g.turn (omega (arith, g.many)) b in
             record {
               list = g.list;
@@ -213,50 +215,51 @@ module _ (s : List ℕ) (n : Net) (place : Place) (env : List ℕ) where
             }
 
         -- more terms are joined to those so far, and others are still to come
-        joins_more : {m : List Arc} {ranks' counts' : List ℕ} {next' ahead' end' : ℕ} (es others : List Expression) (stop : ℕ) (g : Summing s n place env count es stop ranks counts used ranks₁ counts₁ end next ahead)
+        joins_more : {m arcs' : List Arc} {next' ahead' end' : ℕ} (es others : List Expression) (stop : ℕ) (g : Summing s n place env count es stop arcs used arcs₁ end next ahead)
             → together ceiling es ≤ 65535 → Terms count 0 m → InTurn s n place others next' stop → length others ≡ ahead'
             → ((rank : ℕ) → rank < count → weights rank g.others ≡ count_in m 0 rank + weights rank others) → length m + together terms others ≤ together terms g.others
-            → together ceiling others ≤ together ceiling g.others → ArcsAppended (joined (join_by false) 0 0 g.list m) ranks counts used ranks' counts' end'
-            → Summing s n place env count es stop ranks counts used ranks' counts' end' next' ahead'
+            → together ceiling others ≤ together ceiling g.others → ArcsAppended (joined (join_by Plus) 0 0 g.list m) arcs used arcs' end'
+            → Summing s n place env count es stop arcs used arcs' end' next' ahead'
         joins_more {m} es others stop g small rise t l w f c lie =
             record {
-              list = joined (join_by false) 0 0 g.list m;
+              list = joined (join_by Plus) 0 0 g.list m;
               others = others;
               lie = lie;
-              rising = joined_rises (join_by false) 0 0 g.rising rise;
+              rising = joined_rises (join_by Plus) 0 0 (join_fits Plus) (omega arith) g.rising rise;
               turn = t;
               many = l;
               counted = λ rank h. both_counted es g.others others g.rising rise small rank (g.counted rank h) (w rank h);
-              few = omega (arith, joined_few (join_by false) 0 0 g.list m, g.few);
+              few = omega (arith, joined_few (join_by Plus) 0 0 g.list m, g.few);
               small = omega (arith, g.small);
             }
 
-        module _ (ranks₂ counts₂ : List ℕ) where
+        module _ (arcs₂ : List Arc) where
           -- 0x40 adds its one term, or none where its rank is not below the number
           pub sum_takes : (k : Ranked) (end' : ℕ) → 1 ≤ ahead → byte_at s next ≡ 0x40
               → Ranks n env (word_at s (next + 1)) k (amount n (read_colour s n 15) place (word_at s (next + 1)) next (next + 3))
-              → (k.rank < count → end < length ranks₁ → end < length counts₁ → Terms count 0 (arcs_in ranks₁ counts₁ used end)
-              → ArcsAppended (joined (join_by false) 0 0 (arcs_in ranks₁ counts₁ used end) (term k.rank (word_at s (next + 1)) ∷ [])) ranks₁ counts₁ used ranks₂ counts₂ end')
-              → (count ≤ k.rank → ArcsAppended [] ranks₁ counts₁ end ranks₂ counts₂ end')
-              → SumTold s n place env count at many ranks counts used ranks₂ counts₂ end' k.next (ahead - 1)
+              → word_at s (next + 1) ≤ 65535
+              → (k.rank < count → end < length arcs₁ → Terms count 0 (arcs_in arcs₁ used end)
+              → ArcsAppended (joined (join_by Plus) 0 0 (arcs_in arcs₁ used end) (term k.rank (word_at s (next + 1)) ∷ [])) arcs₁ used arcs₂ end')
+              → (count ≤ k.rank → ArcsAppended [] arcs₁ end arcs₂ end')
+              → SumTold s n place env count at many arcs used arcs₂ end' k.next (ahead - 1)
           unfolding count_in
-          sum_takes k end' lt b ranked inside outside es stop t l small i j = go (ltb k.rank count) refl (told es stop t l small i j)
+          sum_takes k end' lt b ranked fits inside outside es stop t l small i = go (ltb k.rank count) refl (told es stop t l small i)
             where
-              go : (y : Bool) → ltb k.rank count ≡ y → Summing s n place env count es stop ranks counts used ranks₁ counts₁ end next ahead → Summing s n place env count es stop ranks counts used ranks₂ counts₂ end' k.next (ahead - 1)
+              go : (y : Bool) → ltb k.rank count ≡ y → Summing s n place env count es stop arcs used arcs₁ end next ahead → Summing s n place env count es stop arcs used arcs₂ end' k.next (ahead - 1)
               go true f g =
                   let h = ltb-true k.rank count f in
                   let o = takes k g.turn (omega (arith, g.many)) b ranked in
                   let are = g.lie.are in
-                  joins_more {m = term k.rank (word_at s (next + 1)) ∷ []} es o.others stop g small (spec.more {from = 0} {a = term k.rank (word_at s (next + 1))} (omega arith) h spec.none) o.turn (omega (arith, o.many, g.many))
+                  joins_more {m = term k.rank (word_at s (next + 1)) ∷ []} es o.others stop g small (spec.more {from = 0} {a = term k.rank (word_at s (next + 1))} (omega arith) h fits spec.none) o.turn (omega (arith, o.many, g.many))
                   (λ rank _. o.weighs rank) (omega (arith, o.one)) o.ceilings
-                  (append-over g.lie (rw are at (inside h (omega (arith, g.lie.end, g.lie.size, g.few, o.one)) (omega (arith, g.lie.end, g.lie.sizes, g.few, o.one)) (rw are g.rising))))
+                  (append-over g.lie (rw are at (inside h (omega (arith, g.lie.end, g.lie.size, g.few, o.one)) (rw are g.rising))))
               go false f g =
                   let h = ltb-false k.rank count f in
                   let o = takes k g.turn (omega (arith, g.many)) b ranked in
                   record {
                     list = g.list;
                     others = o.others;
-                    lie = subst (λ xs. ArcsAppended xs ranks counts used ranks₂ counts₂ end') (append-nil g.list) (append_join g.lie (outside h));
+                    lie = subst (λ xs. ArcsAppended xs arcs used arcs₂ end') (append-nil g.list) (append_join g.lie (outside h));
                     rising = g.rising;
                     turn = o.turn;
                     many = omega (arith, o.many, g.many);
@@ -266,39 +269,37 @@ module _ (s : List ℕ) (n : Net) (place : Place) (env : List ℕ) where
                   }
 
           -- another run follows, and both are joined
-          module _ (end₂ next₂ ahead₂ : ℕ) (follows : SumTold s n place env count next ahead ranks₁ counts₁ end ranks₂ counts₂ end₂ next₂ ahead₂) (ranks₃ counts₃ : List ℕ) (r : ℕ)
-              (merged : (below : ℕ) → Terms below 0 (arcs_in ranks₂ counts₂ used end) → Terms below 0 (arcs_in ranks₂ counts₂ end end₂)
-              → end₂ + (end₂ - used) ≤ length ranks₂ → end₂ + (end₂ - used) ≤ length counts₂
-              → ArcsAppended (joined (join_by false) 0 0 (arcs_in ranks₂ counts₂ used end) (arcs_in ranks₂ counts₂ end end₂)) ranks₂ counts₂ used ranks₃ counts₃ r) where
-            pub sum-joins : SumTold s n place env count at many ranks counts used ranks₃ counts₃ r next₂ ahead₂
-            sum-joins es stop t l small i j =
-                let g = told es stop t l small i j in
-                let h = follows g.others stop g.turn g.many (omega (arith, g.small)) (omega (arith, g.lie.end, g.lie.size, g.few)) (omega (arith, g.lie.end, g.lie.sizes, g.few)) in
+          module _ (end₂ next₂ ahead₂ : ℕ) (follows : SumTold s n place env count next ahead arcs₁ end arcs₂ end₂ next₂ ahead₂) (arcs₃ : List Arc) (r : ℕ)
+              (merged : (below : ℕ) → Terms below 0 (arcs_in arcs₂ used end) → Terms below 0 (arcs_in arcs₂ end end₂) → end₂ + (end₂ - used) ≤ length arcs₂
+              → ArcsAppended (joined (join_by Plus) 0 0 (arcs_in arcs₂ used end) (arcs_in arcs₂ end end₂)) arcs₂ used arcs₃ r) where
+            pub sum-joins : SumTold s n place env count at many arcs used arcs₃ r next₂ ahead₂
+            sum-joins es stop t l small i =
+                let g = told es stop t l small i in
+                let h = follows g.others stop g.turn g.many (omega (arith, g.small)) (omega (arith, g.lie.end, g.lie.size, g.few)) in
                 let both = append_join g.lie h.lie in
-                let kept : arcs_in ranks₂ counts₂ used end ≡ g.list = arcs_kept ranks₁ counts₁ ranks₂ counts₂ used end h.lie.front h.lie.fronts ∙ g.lie.are in
-                let room = merged count (rw kept g.rising) (rw h.lie.are h.rising)
-                (omega (arith, g.lie.end, h.lie.end, g.few, h.few, both.size)) (omega (arith, g.lie.end, h.lie.end, g.few, h.few, both.sizes)) in
+                let kept : arcs_in arcs₂ used end ≡ g.list = arcs_front arcs₂ arcs₁ used end h.lie.front ∙ g.lie.are in
+                let room = merged count (rw kept g.rising) (rw h.lie.are h.rising) (omega (arith, g.lie.end, h.lie.end, g.few, h.few, both.size)) in
                 joins_more es h.others stop g small h.rising h.turn h.many h.counted h.few h.small (append-over both (rw (kept, h.lie.are) at room))
 
     -- ---- the one expression that stands at a place
-    module _ (at : ℕ) (ranks counts : List ℕ) (used : ℕ) (ranks₁ counts₁ : List ℕ) (end next ahead : ℕ) (told : SumTold s n place env count at 1 ranks counts used ranks₁ counts₁ end next ahead) (b : byte_at s at ≡ 0x42) where
-      alone : (e : Expression) (stop : ℕ) → read_expression s n place 16 at ≡ fine e stop → used + 2 * terms e ≤ length ranks → used + 2 * terms e ≤ length counts
-          → Summing s n place env count (e ∷ []) stop ranks counts used ranks₁ counts₁ end next ahead
-      alone e stop reads i j =
+    module _ (at : ℕ) (arcs : List Arc) (used : ℕ) (arcs₁ : List Arc) (end next ahead : ℕ) (told : SumTold s n place env count at 1 arcs used arcs₁ end next ahead) (b : byte_at s at ≡ 0x42) where
+      alone : (e : Expression) (stop : ℕ) → read_expression s n place 16 at ≡ fine e stop → used + 2 * terms e ≤ length arcs
+          → Summing s n place env count (e ∷ []) stop arcs used arcs₁ end next ahead
+      alone e stop reads i =
           let h : Halves s n place e (at + 1) stop = subst (HalvesOf s n place (at + 1)) reads (halves s n place 16 at (omega arith) b) in
-          told (e ∷ []) stop (sums.more 16 (omega arith) reads sums.none) refl (omega (arith, h.small)) (omega arith) (omega arith)
+          told (e ∷ []) stop (sums.more 16 (omega arith) reads sums.none) refl (omega (arith, h.small)) (omega arith)
 
       turn_none : {es : List Expression} {p stop : ℕ} → InTurn s n place es p stop → length es < 1 → (es ≡ []) × (p ≡ stop)
       turn_none sums.none lt = (refl, refl)
       turn_none (sums.more left le reads t) lt = absurd (omega arith)
 
       -- nothing is to come: the terms are its own
-      pub sum_listed : ahead < 1 → ListedTold n env count ranks counts used ranks₁ counts₁ (record { end = end; rest = 0; next = next }) (read_expression s n place 16 at)
+      pub sum_listed : ahead < 1 → ListedTold n env count arcs used arcs₁ (record { end = end; rest = 0; next = next }) (read_expression s n place 16 at)
       sum_listed lt = go (read_expression s n place 16 at) refl
         where
-          go : (x : Answer Expression) → read_expression s n place 16 at ≡ x → ListedTold n env count ranks counts used ranks₁ counts₁ (record { end = end; rest = 0; next = next }) x
-          go (fine e stop) reads = λ i j.
-              let g = alone e stop reads i j in
+          go : (x : Answer Expression) → read_expression s n place 16 at ≡ x → ListedTold n env count arcs used arcs₁ (record { end = end; rest = 0; next = next }) x
+          go (fine e stop) reads = λ i.
+              let g = alone e stop reads i in
               let z = turn_none g.turn (omega (arith, g.many)) in
               let few : length g.list + together terms [] ≤ terms e + 0 = subst (λ es. length g.list + together terms es ≤ terms e + 0) z.0 g.few in
               record {
@@ -316,50 +317,45 @@ module _ (s : List ℕ) (n : Net) (place : Place) (env : List ℕ) where
           go (fault number p) reads = tt
 
       -- something is: they were stored behind so many, and others may take their place
-      pub sum_over : (ranks₂ counts₂ : List ℕ) (m : Multiset) → ListedTold n env count ranks₁ counts₁ used ranks₂ counts₂ m (read_expression s n place 16 at)
-          → ListedTold n env count ranks counts used ranks₂ counts₂ m (read_expression s n place 16 at)
-      sum_over ranks₂ counts₂ m listed = go (read_expression s n place 16 at) refl listed
+      pub sum_over : (arcs₂ : List Arc) (m : Multiset) → ListedTold n env count arcs₁ used arcs₂ m (read_expression s n place 16 at)
+          → ListedTold n env count arcs used arcs₂ m (read_expression s n place 16 at)
+      sum_over arcs₂ m listed = go (read_expression s n place 16 at) refl listed
         where
-          go : (x : Answer Expression) → read_expression s n place 16 at ≡ x → ListedTold n env count ranks₁ counts₁ used ranks₂ counts₂ m x → ListedTold n env count ranks counts used ranks₂ counts₂ m x
-          go (fine e stop) reads h = λ i j.
-              let g = alone e stop reads i j in
-              let k = h (omega (arith, g.lie.size)) (omega (arith, g.lie.sizes)) in
+          go : (x : Answer Expression) → read_expression s n place 16 at ≡ x → ListedTold n env count arcs₁ used arcs₂ m x → ListedTold n env count arcs used arcs₂ m x
+          go (fine e stop) reads h = λ i.
+              let g = alone e stop reads i in
+              let k = h (omega (arith, g.lie.size)) in
               record { list = k.list; lie = append-over g.lie k.lie; counted = k.counted; after = k.after }
           go (fault number p) reads h = tt
 
 -- ---- one term added to those from a number up to an end, if its rank is below a number
-module _ (ranks counts ranks₁ counts₁ : List ℕ) (start end below rank number stop : ℕ) (low : start ≤ end)
-    (inside : rank < below → end < length ranks → end < length counts → ArcsAppended (term rank number ∷ []) ranks counts end ranks₁ counts₁ stop)
-    (outside : below ≤ rank → ArcsAppended [] ranks counts end ranks₁ counts₁ stop) where
-  abbrev Added : List ℕ → List ℕ → ℕ → Type 0
-  Added ranks' counts' r =
-      (rank < below → end < length ranks → end < length counts → Terms below 0 (arcs_in ranks counts start end)
-      → ArcsAppended (joined (join_by false) 0 0 (arcs_in ranks counts start end) (term rank number ∷ [])) ranks counts start ranks' counts' r)
-      × (below ≤ rank → ArcsAppended [] ranks counts end ranks' counts' r)
+module _ (arcs arcs₁ : List Arc) (start end below rank number stop : ℕ) (low : start ≤ end)
+    (inside : rank < below → end < length arcs → ArcsAppended (term rank number ∷ []) arcs end arcs₁ stop)
+    (outside : below ≤ rank → ArcsAppended [] arcs end arcs₁ stop) where
+  abbrev Added : List Arc → ℕ → Type 0
+  Added arcs' r =
+      (rank < below → end < length arcs → Terms below 0 (arcs_in arcs start end)
+      → ArcsAppended (joined (join_by Plus) 0 0 (arcs_in arcs start end) (term rank number ∷ [])) arcs start arcs' r)
+      × (below ≤ rank → ArcsAppended [] arcs end arcs' r)
 
   -- it was stored behind them, and put in
-  pub add_goes : (ranks₂ counts₂ : List ℕ) (r : ℕ) → end < stop
-      → ((b : ℕ) → Terms b 0 (arcs_in ranks₁ counts₁ start end) → end < length ranks₁ → end < length counts₁
-      → ArcsAppended (joined (join_by false) 0 0 (arcs_in ranks₁ counts₁ start end) (arcs_in ranks₁ counts₁ end (end + 1))) ranks₁ counts₁ start ranks₂ counts₂ r)
-      → Added ranks₂ counts₂ r
-  add_goes ranks₂ counts₂ r lt put = (
-    λ h i j t.
-        let g = inside h i j in
+  pub add_goes : (arcs₂ : List Arc) (r : ℕ) → end < stop
+      → ((b : ℕ) → Terms b 0 (arcs_in arcs₁ start end) → end < length arcs₁
+      → ArcsAppended (joined (join_by Plus) 0 0 (arcs_in arcs₁ start end) (arcs_in arcs₁ end (end + 1))) arcs₁ start arcs₂ r)
+      → Added arcs₂ r
+  add_goes arcs₂ r lt put = (
+    λ h i t.
+        let g = inside h i in
         let one : stop ≡ end + 1 = omega (arith, g.end) in
-        let are : arcs_in ranks₁ counts₁ end (end + 1) ≡ term rank number ∷ [] = subst (λ k. arcs_in ranks₁ counts₁ end k ≡ term rank number ∷ []) one g.are in
-        let kept : arcs_in ranks₁ counts₁ start end ≡ arcs_in ranks counts start end = arcs_kept ranks counts ranks₁ counts₁ start end g.front g.fronts in
-        behind start end r low g.front g.fronts g.size g.sizes (rw (kept, are) at (put below (rw kept t) (omega (arith, g.size)) (omega (arith, g.sizes)))),
+        let are : arcs_in arcs₁ end (end + 1) ≡ term rank number ∷ [] = subst (λ k. arcs_in arcs₁ end k ≡ term rank number ∷ []) one g.are in
+        let kept : arcs_in arcs₁ start end ≡ arcs_in arcs start end = arcs_front arcs₁ arcs start end g.front in
+        behind start end r low g.front g.size (rw (kept, are) at (put below (rw kept t) (omega (arith, g.size)))),
     λ h. absurd (omega (arith, (outside h).end)),
   )
 
   -- it was not
-  pub add_none : (end < stop → ⊥) → Added ranks₁ counts₁ end
+  pub add_none : (end < stop → ⊥) → Added arcs₁ end
   add_none not = (
-    λ h i j t. absurd (not (omega (arith, (inside h i j).end))),
-    λ h. let e : stop ≡ end = omega (arith, (outside h).end) in subst (ArcsAppended [] ranks counts end ranks₁ counts₁) e (outside h),
+    λ h i t. absurd (not (omega (arith, (inside h i).end))),
+    λ h. let e : stop ≡ end = omega (arith, (outside h).end) in subst (ArcsAppended [] arcs end arcs₁) e (outside h),
   )
-
--- ---- terms that were listed in lists that are the same
-pub listed_same : (n : Net) (env : List ℕ) (count : ℕ) (ranks₂ counts₂ : List ℕ) (used : ℕ) (m : Multiset) (x : Answer Expression) {ranks counts ranks₁ counts₁ : List ℕ} → ranks₁ ≡ ranks → counts₁ ≡ counts
-    → ListedTold n env count ranks₁ counts₁ used ranks₂ counts₂ m x → ListedTold n env count ranks counts used ranks₂ counts₂ m x
-listed_same n env count ranks₂ counts₂ used m x e f h = rw (← e, ← f) h

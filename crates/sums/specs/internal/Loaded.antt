@@ -2,13 +2,15 @@
 use Rattle.std.specs.Prelude.{◌≡◌, ◌≤◌, ◌<◌, ◌+◌, ◌*◌, ◌/◌, ◌∷◌, if◌then◌else◌}
 use Rattle.reading.specs.Basics.{ℕ, Bool, List, [], map, length, ltb, keep, numbers_from}
 use Rattle.reading.specs.Reading.{Answer, fine, fault}
-use Rattle.firing.specs.Arcs.{Arc}
+use Rattle.firing.specs.declared.Arc.{Arc}
 use Rattle.firing.specs.internal.RowLists.{arcs_in}
 use Rattle.plan.specs.internal.Layout.{sets_in, variables_in, expression_in, start_in, ranks_in, pair_in}
 use Rattle.net.specs.Net.{Expression, one, two, all, plus, minus, times, Place, Net, scope}
 use Rattle.net.specs.Reader.{read_expression}
 use Rattle.net.specs.Values.{weight}
-use Rattle.evaluation.specs.internal.Evaluated.{bound, place_by}
+use Rattle.evaluation.specs.internal.Evaluated.{scope_in, bound, place_by}
+use Rattle.runs.specs.declared.Operator.{Operator}
+use Rattle.runs.specs.declared.Operator.TheVariants.{Plus, Minus}
 use Rattle.runs.specs.internal.Terms.{ArcsAppended, Terms, count_in}
 use Rattle.sums.specs.internal.Slots.{slots_for}
 use Rattle.sums.specs.declared.terms.Multiset.{Multiset}
@@ -29,19 +31,28 @@ pub record Counted (n : Net) (env : List ℕ) (count : ℕ) (e : Expression) (l 
   pub counts : (rank : ℕ) → rank < count → weight n (bound env) rank e ≡ count_in l rest rank
   pub few : length l ≤ terms e
 
--- ---- its terms in lent lists
+-- the byte of a sum and of a difference
+abbrev pub byte_of : Operator → ℕ
+byte_of Plus = 0x42
+byte_of Minus = 0x43
+
+-- ---- its terms in a lent list
 -- they were appended after so many
-pub record Listed (n : Net) (env : List ℕ) (count : ℕ) (ranks counts : List ℕ) (used : ℕ) (ranks' counts' : List ℕ) (r : Multiset) (e : Expression) (next : ℕ) : Type 0 where
+pub record Listed (n : Net) (env : List ℕ) (count : ℕ) (arcs : List Arc) (used : ℕ) (arcs' : List Arc) (r : Multiset) (e : Expression) (next : ℕ) : Type 0 where
   pub list : List Arc
-  pub lie : ArcsAppended list ranks counts used ranks' counts' r.end
+  pub lie : ArcsAppended list arcs used arcs' r.end
   pub counted : Counted n env count e list r.rest
   pub after : r.next ≡ next
 
 -- where the bytes hold an arc expression, and there is room for twice its terms
-abbrev pub ListedTold : Net → List ℕ → ℕ → List ℕ → List ℕ → ℕ → List ℕ → List ℕ → Multiset → Answer Expression → Type 0
-ListedTold n env count ranks counts used ranks' counts' r (fine e next) =
-    used + 2 * terms e ≤ length ranks → used + 2 * terms e ≤ length counts → Listed n env count ranks counts used ranks' counts' r e next
-ListedTold n env count ranks counts used ranks' counts' r (fault number place) = Unit {0}
+abbrev pub ListedTold : Net → List ℕ → ℕ → List Arc → ℕ → List Arc → Multiset → Answer Expression → Type 0
+ListedTold n env count arcs used arcs' r (fine e next) = used + 2 * terms e ≤ length arcs → Listed n env count arcs used arcs' r e next
+ListedTold n env count arcs used arcs' r (fault number place) = Unit {0}
+
+-- those of the expression that stands at a place of the file with some levels left, by an arc's entry in the table of a prepared net, were appended so
+abbrev pub ListedAt : List ℕ → List ℕ → List ℕ → ℕ → ℕ → ℕ → List Arc → ℕ → List Arc → Multiset → Type 0
+ListedAt s plan env entry left at arcs used arcs' r =
+    (known : List Place) (first second : ℕ) → ListedTold (scope_in plan known) env (ranks_in entry) arcs used arcs' r (read_expression s (scope_in plan known) (place_by (pair_in entry) first second) left at)
 
 -- ---- arcs
 -- an arc at a place, none where its weight is 0
@@ -55,20 +66,20 @@ ranks_from start w from n = keep (λ a. ltb 0 a.weight) (map (λ r. record { pla
 abbrev pub rank_arcs : ℕ → ℕ → (ℕ → ℕ) → List Arc
 rank_arcs start count w = ranks_from start w 0 count
 
--- terms that lie in the lent lists from base up to stop, behind so many ranks, were turned into arcs
-abbrev pub TermsLoaded : ℕ → ℕ → ℕ → ℕ → ℕ → List ℕ → List ℕ → ℕ → List ℕ → List ℕ → ℕ → Type 0
-TermsLoaded start count base stop rest places amounts used places' amounts' r =
-    (w : ℕ → ℕ) → Terms count 0 (arcs_in places amounts base stop) → ((rank : ℕ) → rank < count → w rank ≡ count_in (arcs_in places amounts base stop) rest rank)
-    → used + count ≤ base → base ≤ stop → stop ≤ length places → stop ≤ length amounts
-    → ArcsAppended (rank_arcs start count w) places amounts used places' amounts' r
+-- terms that lie in the lent list from base up to stop, behind so many ranks, were turned into arcs
+abbrev pub TermsLoaded : ℕ → ℕ → ℕ → ℕ → ℕ → List Arc → ℕ → List Arc → ℕ → Type 0
+TermsLoaded start count base stop rest arcs used arcs' r =
+    (w : ℕ → ℕ) → Terms count 0 (arcs_in arcs base stop) → ((rank : ℕ) → rank < count → w rank ≡ count_in (arcs_in arcs base stop) rest rank)
+    → used + count ≤ base → base ≤ stop → stop ≤ length arcs
+    → ArcsAppended (rank_arcs start count w) arcs used arcs' r
 
 -- the arcs of the expression that stands at a place of the file were appended, where there is room for them and half the file
-abbrev pub ExpressionLoaded : List ℕ → List ℕ → List ℕ → List ℕ → Bool → ℕ → ℕ → ℕ → List ℕ → List ℕ → ℕ → List ℕ → List ℕ → ℕ → Type 0
-ExpressionLoaded s sizes vars env paired start count at places amounts used places' amounts' r =
+abbrev pub ExpressionLoaded : List ℕ → List ℕ → List ℕ → List ℕ → Bool → ℕ → ℕ → ℕ → List Arc → ℕ → List Arc → ℕ → Type 0
+ExpressionLoaded s sizes vars env paired start count at arcs used arcs' r =
     (known : List Place) (first second next : ℕ) (e : Expression) → read_expression s (scope sizes vars known) (place_by paired first second) 16 at ≡ fine e next
-    → used + slots_for s at count + length s / 2 ≤ length places → used + slots_for s at count + length s / 2 ≤ length amounts
-    → ArcsAppended (rank_arcs start count (λ rank. weight (scope sizes vars known) (bound env) rank e)) places amounts used places' amounts' r
+    → used + slots_for s at count + length s / 2 ≤ length arcs
+    → ArcsAppended (rank_arcs start count (λ rank. weight (scope sizes vars known) (bound env) rank e)) arcs used arcs' r
 
 -- those of an arc, by the table of a prepared net and the arc's entry in it
-abbrev pub ArcLoaded : List ℕ → List ℕ → List ℕ → ℕ → List ℕ → List ℕ → ℕ → List ℕ → List ℕ → ℕ → Type 0
+abbrev pub ArcLoaded : List ℕ → List ℕ → List ℕ → ℕ → List Arc → ℕ → List Arc → ℕ → Type 0
 ArcLoaded s plan env entry = ExpressionLoaded s (sets_in plan) (variables_in plan) env (pair_in entry) (start_in entry) (ranks_in entry) (expression_in entry)
