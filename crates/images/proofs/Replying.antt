@@ -1,5 +1,6 @@
 -- The calls for images and for the order of a row, on a net file that is read whole, or refused. Assumes nothing.
 use Rattle.std.specs.Prelude.{◌*◌, ◌/◌, ◌%◌}
+use Rattle.std.specs.Prelude as reply
 use mathlib.Core.Path.{◌≡◌, ap, subst}
 use Prim.Native.Nat.{◌≤◌, ◌<◌}
 use borrow.Author.Tests.{le-leb, lt-leb, eq-eqb, ne_eqb}
@@ -13,8 +14,7 @@ use Rattle.row_numbers.specs.Unfolding.{WriteCall, images, images_call, order_ca
 use Rattle.row_numbers.specs.internal.Walked.{LocatedTold, LocatedRoom}
 use Rattle.bindings.specs.Replies.{bytes_of}
 use Rattle.bindings.specs.declared.order.Order.{Order}
-use Rattle.row_numbers.specs.declared.seek.Located.{Located}
-use Rattle.row_numbers.specs.declared.seek.Located.TheVariants.{At, Nowhere}
+use Rattle.bindings.specs.declared.binding.Numbered.{Numbered}
 
 -- a result, and the lent list afterwards
 abbrev pub wrote : Outcome ℕ → List ℕ → WriteCall
@@ -46,20 +46,19 @@ module _ (s : List ℕ) {n : Net} (is : read_net s ≡ accepted n) where
     unfolding images_call refusing
     images_done after h e = rw (is, eq-eqb (length orders % 6) 0 whole, le-leb (length orders / 6 * 5) (length out) h, e)
 
-  -- no such row
-  pub order_none : (row : ℕ) {r : Located} → r ≡ Nowhere → LocatedTold n row r → accepted none ≡ order_call s row
+  -- no such row, and the order of a row
+  pub order_none : (row : ℕ) {r : reply.Option Numbered} → r ≡ reply.None → LocatedTold n row r → accepted none ≡ order_call s row
   unfolding order_call
   order_none row e h = rw (is, subst (LocatedTold n row) e h)
 
-  -- the order of a row
-  pub order_found : (row : ℕ) {t index : ℕ} {r : Located} (o : Order) → r ≡ At t index → LocatedTold n row r
-      → bytes_of o ≡ order_of (record { transition = t; colours = digits (sizes_of n (transition_at n t)) index }) → accepted (some (bytes_of o)) ≡ order_call s row
+  pub order_found : (row : ℕ) {b : Numbered} {r : reply.Option Numbered} (o : Order) → r ≡ reply.Some b → LocatedTold n row r
+      → bytes_of o ≡ order_of (record { transition = b.t; colours = digits (sizes_of n (transition_at n b.t)) b.index }) → accepted (some (bytes_of o)) ≡ order_call s row
   unfolding order_call
   order_found row o e h f = rw (is, (subst (LocatedTold n row) e h).1) (ap (λ l. accepted (some l)) f)
 
 -- its transition is there
-pub located_in : {t index : ℕ} {r : Located} → r ≡ At t index → LocatedRoom r → t < 32
+pub located_in : {b : Numbered} {r : reply.Option Numbered} → r ≡ reply.Some b → LocatedRoom r → b.t < 32
 located_in e h = subst LocatedRoom e h
 
-pub located_of : (n : Net) (row : ℕ) {t index : ℕ} {r : Located} → r ≡ At t index → LocatedTold n row r → t < length n.transitions
+pub located_of : (n : Net) (row : ℕ) {b : Numbered} {r : reply.Option Numbered} → r ≡ reply.Some b → LocatedTold n row r → b.t < length n.transitions
 located_of n row e h = (subst (LocatedTold n row) e h).0

@@ -1,23 +1,25 @@
--- What the calls' replies say, in the terms of the meanings: each case's number and values.
+-- What the calls' replies say, in the terms of the meanings.
+use Rattle.std.specs.Prelude.{Result}
+use Rattle.std.specs.Prelude as reply
 use Rattle.reading.specs.Basics.{ℕ, List, Option, none, some}
-use Rattle.reading.specs.Reading.{Outcome, accepted, refused}
+use Rattle.reading.specs.Reading.{Outcome}
+use Rattle.reading.specs.Refusals.{replied}
+use Rattle.reading.specs.declared.refusal.Refusal.{Refusal}
 use Rattle.row_numbers.specs.Unfolding.{WriteCall}
 use Rattle.bindings.specs.Replies.{bytes_of}
-use Rattle.images.specs.declared.ImagesReply.{ImagesReply}
-use Rattle.images.specs.declared.ImagesReply.TheVariants as images_reply_cases
-use Rattle.images.specs.declared.OrderReply.{OrderReply}
-use Rattle.images.specs.declared.OrderReply.TheVariants as order_reply_cases
+use Rattle.bindings.specs.declared.order.Order.{Order}
 
-abbrev pub images_reply : ImagesReply → Outcome ℕ
-images_reply (images_reply_cases.Answered count) = accepted count
-images_reply (images_reply_cases.Refused number place) = refused number place
+abbrev pub images_reply : Result ℕ Refusal → Outcome ℕ
+images_reply r = replied (λ count. count) r
 
 -- with the lent list afterwards
-abbrev pub images_called : ImagesReply → List ℕ → WriteCall
+abbrev pub images_called : Result ℕ Refusal → List ℕ → WriteCall
 images_called r out = record { result = images_reply r; out = out }
 
--- an order as its bytes
-abbrev pub order_reply : OrderReply → Outcome (Option (List ℕ))
-order_reply (order_reply_cases.Found order) = accepted (some (bytes_of order))
-order_reply order_reply_cases.NoRow = accepted none
-order_reply (order_reply_cases.Refused number place) = refused number place
+-- an order as its bytes, if there is one
+abbrev pub bytes_if : reply.Option Order → Option (List ℕ)
+bytes_if (reply.Some order) = some (bytes_of order)
+bytes_if reply.None = none
+
+abbrev pub order_reply : Result (reply.Option Order) Refusal → Outcome (Option (List ℕ))
+order_reply r = replied bytes_if r

@@ -1,18 +1,11 @@
-use native.Mathlib.Omega.{arith}
 use Rattle.images.proofs.Replying.{images_13, images_14, images_done}
 use Rattle.images.proofs.images_of.Goals as goal
 
 pub returns-then-orders-ne0 : goal.returns-then-orders-ne0
-returns-then-orders-ne0 c = λ n p. images_13 c.args.file.now p.read c.args.orders.now c.args.out.now c.if-orders-ne0.true
+returns-then-orders-ne0 c = λ n p. rw c.refused.ensures (images_13 c.args.file.now p.read c.args.orders.now c.args.out.now c.if-orders-ne0.true)
 
 pub returns-then-out-count : goal.returns-then-out-count
-returns-then-out-count c = λ n p. images_14 c.args.file.now p.read c.args.orders.now c.args.out.now c.if-orders-ne0.false c.if-out-count.true
-
-pub returns-then-entries-le64 : goal.returns-then-entries-le64
-returns-then-entries-le64 c = λ n p. images_done c.args.file.now p.read c.args.orders.now c.args.out.now c.if-orders-ne0.false _ c.if-out-count.false (c.images_few.ensures n p (omega (arith, c.if-entries-le64.true, c.count_entries-entries.ensures _ n p)))
-
-pub returns-then-entries-le1024 : goal.returns-then-entries-le1024
-returns-then-entries-le1024 c = λ n p. images_done c.args.file.now p.read c.args.orders.now c.args.out.now c.if-orders-ne0.false _ c.if-out-count.false (c.images_short.ensures n p (omega (arith, c.if-entries-le1024.true, c.count_entries-entries.ensures _ n p)))
+returns-then-out-count c = λ n p. rw c.refused-then-out-count.ensures (images_14 c.args.file.now p.read c.args.orders.now c.args.out.now c.if-orders-ne0.false c.if-out-count.true)
 
 pub returns : goal.returns
-returns c = λ n p. images_done c.args.file.now p.read c.args.orders.now c.args.out.now c.if-orders-ne0.false _ c.if-out-count.false (c.images_long.ensures n p)
+returns c = λ n p. images_done c.args.file.now p.read c.args.orders.now c.args.out.now c.if-orders-ne0.false _ c.if-out-count.false (c.images_on.ensures n p)

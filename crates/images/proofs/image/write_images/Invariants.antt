@@ -9,7 +9,4 @@ use Rattle.images.proofs.Imaging.{Imaging}
 use Rattle.images.proofs.image.write_images.Given as goal
 
 abbrev pub invariant-loop-i : goal.invariant-loop-i
-invariant-loop-i l = (l.i ≤ l.count) × (l.next ≡ l.i * 5) × (length l.out ≡ length l.initial.out) × ((s : List ℕ) (n : Net) → Prepared s n l.plan → Starts n l.plan l.starts l.numbers (length n.transitions) → Imaging n l.orders l.initial.out l.out l.i l.next)
-
-abbrev pub decreases-loop-i : goal.decreases-loop-i
-decreases-loop-i l = l.count - l.i
+invariant-loop-i l = (l.next ≡ l.i * 5) × ((s : List ℕ) (n : Net) → Prepared s n l.plan → Starts n l.plan l.starts l.numbers (length n.transitions) → Imaging n l.orders l.initial.out l.out l.i l.next)

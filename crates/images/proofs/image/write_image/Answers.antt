@@ -1,5 +1,0 @@
-use Rattle.flat_file.proofs.Appending.{append_then}
-use Rattle.images.proofs.image.write_image.Goals as goal
-
-pub returns : goal.returns
-returns c = append_then (append_then c.put_byte-next.ensures c.put_word-next.ensures) c.put_word.ensures
