@@ -5,3 +5,4 @@ pub mod Running
 pub mod Agree
 pub mod Weighted
 pub mod Lowest
+pub mod Told

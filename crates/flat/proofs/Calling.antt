@@ -1,27 +1,20 @@
 -- The calls on a flat file that is read whole, or refused. Assumes nothing.
-use Rattle.std.specs.Prelude.{◌+◌, ◌/◌, ◌%◌}
-use mathlib.Core.Path.{◌≡◌, sym, ap, ◌∙◌, subst}
+use Rattle.std.specs.Prelude.{◌/◌, ◌%◌, Result, Ok, Err}
+use mathlib.Core.Path.{◌≡◌, sym, ap, ◌∙◌}
 use Prim.Native.Nat.{◌≤◌, ◌<◌}
-use native.Mathlib.Omega.{arith}
 use borrow.Author.Tests.{le-leb, lt-leb, eq-eqb, ne_eqb}
 use Rattle.reading.specs.Basics.{ℕ, List, length, eqb, below, items}
 use Rattle.reading.specs.Reading.{accepted, refused}
+use Rattle.reading.specs.declared.refusal.Refusal.{Refusal}
 use Rattle.reading.proofs.Permits.{done, holds, fails, behind}
-use Rattle.firing.specs.Firing.{First, found, nothing, first}
-use Rattle.firing.specs.internal.Loops.{Ran, stopped_at}
+use Rattle.firing.specs.Firing.{First, first}
+use Rattle.firing.specs.internal.Loops.{Ran}
 use Rattle.firing.proofs.Running as running
-use Rattle.firing.proofs.Running.{called, length-items, stopped_in, stopped_out}
+use Rattle.firing.proofs.Running.{called, length-items}
 use Rattle.flat_file.specs.Flat.{Flat, read_flat, fire_row, fire_image, flat_sizes, fire_images, first_row}
-use Rattle.flat_file.specs.internal.ReaderEnums.{most_rows, FlatHeld, Scanned}
-use Rattle.flat_file.specs.declared.reader.Scan.{Scan}
-use Rattle.flat_file.specs.declared.reader.Scan.TheVariants.{Net, Refused}
-
--- what was read
-pub the_flat : (s starts : List ℕ) {r : Scan} {places rows : ℕ} → r ≡ Net places rows → Scanned s starts r → (f : Flat) × FlatHeld s starts places rows f
-the_flat s starts e h = subst (Scanned s starts) e h
-
-pub the_refusal : (s starts : List ℕ) {r : Scan} {number place : ℕ} → r ≡ Refused number place → Scanned s starts r → read_flat s ≡ refused number place
-the_refusal s starts e h = subst (Scanned s starts) e h
+use Rattle.flat_file.specs.internal.ReaderEnums.{FlatHeld, Scanned}
+use Rattle.flat_file.specs.declared.reader.FlatSizes.{FlatSizes}
+use Rattle.flat.specs.Replies.{sizes_reply}
 
 -- ---- refused files
 module _ (s : List ℕ) {number place : ℕ} (is : read_flat s ≡ refused number place) where
@@ -39,10 +32,6 @@ module _ (s : List ℕ) {number place : ℕ} (is : read_flat s ≡ refused numbe
 
 -- ---- files that are read
 module _ {s starts : List ℕ} {places rows : ℕ} {f : Flat} (held : FlatHeld s starts places rows f) where
-  -- a list of starts with room for the most rows has room for these
-  pub held_fits : {size : ℕ} → most_rows (length s) ≤ size → length starts ≡ size → rows ≤ length starts
-  held_fits enough e = omega (arith, held.fits)
-
   pub the_sizes : accepted (record { places = places; rows = rows }) ≡ flat_sizes s
   unfolding flat_sizes
   the_sizes = rw (held.is, held.places_are, held.rows_are)
@@ -64,15 +53,9 @@ module _ {s starts : List ℕ} {places rows : ℕ} {f : Flat} (held : FlatHeld s
     fitting = fits ∙ sym held.places_are
 
     -- the first row that fires, as a search tells it
-    searched : (i : ℕ) {x : First ℕ} → first (λ i. eqb (fire_row f i m).answer 0) (below rows) ≡ stopped_at rows i → stopped_at rows i ≡ x → accepted x ≡ first_row s m
+    pub first_is : {n : ℕ} {x : First ℕ} → n ≡ rows → first (λ i. eqb (fire_row f i m).answer 0) (below n) ≡ x → accepted x ≡ first_row s m
     unfolding first_row
-    searched i e g = running.first_is_lem _ _ _ _ m held.is (holds (eq-eqb _ _ fitting) done) (ap (λ n. first (λ i. eqb (fire_row f i m).answer 0) (below n)) held.rows_are ∙ e ∙ g)
-
-    pub first_found : (i : ℕ) → first (λ i. eqb (fire_row f i m).answer 0) (below rows) ≡ stopped_at rows i → i < rows → accepted (found i (i + 1)) ≡ first_row s m
-    first_found i e lt = searched i e (stopped_in rows i lt)
-
-    pub first_none : (i : ℕ) → first (λ i. eqb (fire_row f i m).answer 0) (below rows) ≡ stopped_at rows i → rows ≤ i → accepted (nothing rows) ≡ first_row s m
-    first_none i e le = searched i e (stopped_out rows i le)
+    first_is e g = running.first_is_lem _ _ _ _ m held.is (holds (eq-eqb _ _ fitting) done) (ap (λ n. first (λ i. eqb (fire_row f i m).answer 0) (below n)) (held.rows_are ∙ sym e) ∙ g)
 
     module _ (images answers : List ℕ) where
       pub fire_13 : (length images % 5 ≡ 0 → ⊥) → called (refused 13 0) m answers ≡ fire_images s m images answers
@@ -88,3 +71,8 @@ module _ {s starts : List ℕ} {places rows : ℕ} {f : Flat} (held : FlatHeld s
       unfolding fire_images
       fire_done e h ran =
           running.call_done _ _ _ m _ answers held.is (holds (eq-eqb _ _ fitting) (holds (eq-eqb _ _ e) (holds (le-leb _ _ h) done))) (length-items 5 images) ran
+
+-- how many flat places and rows
+pub the_reply : (s starts : List ℕ) (r : Result FlatSizes Refusal) → Scanned s starts r → sizes_reply r ≡ flat_sizes s
+the_reply s starts (Ok sizes) h = the_sizes h.1
+the_reply s starts (Err e) h = no_sizes s h

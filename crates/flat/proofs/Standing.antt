@@ -1,18 +1,47 @@
--- A row loaded from the file, as the engine meets it. Assumes nothing.
-use mathlib.Core.Path.{◌≡◌, sym, subst}
-use Prim.Native.Nat.{◌≤◌}
+-- The rows of a net that was read, as the engine meets them. Assumes nothing.
+use Rattle.std.specs.Prelude.{take}
+use Rattle.std.proofs.lemmas.List.{length-take-le}
+use Rattle.std.proofs.Common.{get_or-take}
+use mathlib.Core.Path.{◌≡◌, refl, sym, ap, subst, ◌∙◌}
+use Prim.Native.Nat.{◌≤◌, ◌<◌}
 use native.Mathlib.Omega.{arith}
-use Rattle.reading.specs.Basics.{ℕ, List, length}
+use Rattle.reading.specs.Basics.{ℕ, true, List, length, get_or}
+use Rattle.reading.specs.Reading.{Answer, fine, fault}
 use Rattle.firing.specs.Arcs.{Row, Proper}
 use Rattle.flat_file.specs.Flat.{Flat}
-use Rattle.flat_file.specs.internal.ReaderEnums.{RowsStand, FlatHeld}
+use Rattle.flat_file.specs.internal.ReaderEnums.{ArcsStand, FlatHeld, arcs_at}
+use Rattle.flat.specs.internal.Stand.{is_fine, AllStand}
 
--- what holds of the row in the lent lists where it is proper, holds of the one that stands there
-pub by_row : (P : Row → Type 0) {n : ℕ} {loaded row : Row} → (loaded ≡ row) × Proper n row → (Proper n loaded → P loaded) → P row
-by_row P {n} same h = subst P same.0 (h (subst (Proper n) (sym same.0) same.1))
+-- what holds of the row that was loaded holds of the row of the net
+pub by_row : (P : Row → Type 0) {n : ℕ} {held loaded row : Row} → held ≡ loaded → (loaded ≡ row) × Proper n row → (Proper n held → P held) → P row
+by_row P {n} e same h = let q = e ∙ same.0 in subst P q (h (subst (Proper n) (sym q) same.1))
 
--- the rows of a net that is held stand where their starts say
-pub all_stand : {s starts : List ℕ} {places rows : ℕ} {f : Flat} → FlatHeld s starts places rows f → rows ≤ length starts → RowsStand s starts rows
-all_stand held fits i lt =
-    let there = held.stands i lt (omega arith) in
-    record { places = _; few = held.few_places; arcs = _; next = there.0; is = there.1 }
+fine_is : {A : Type 0} (a : Answer A) → is_fine a ≡ true → (v : A) × (next : ℕ) × (a ≡ fine v next)
+fine_is (fine v next) e = (v, next, refl)
+fine_is (fault number place) e = absurd (cc)
+
+-- a row's arcs stand where its start says
+pub arcs_stand : (s starts : List ℕ) {places : ℕ} → places ≤ 4096 → AllStand s places starts → (i : ℕ) → i < length starts → ArcsStand s (get_or starts i 0)
+arcs_stand s starts {places} few all i h = let x = fine_is _ (all i h) in record { places = places; few = few; arcs = x.0; next = x.1; is = x.2 }
+
+-- the starts of all rows of a net that is held, in the front of a list
+module _ {s starts : List ℕ} {places rows : ℕ} {f : Flat} (held : FlatHeld s starts places rows f) (fits : rows ≤ length starts) where
+  pub front_long : length (take rows starts) ≡ rows
+  front_long = length-take-le rows starts fits
+
+  front_at : (i : ℕ) → i < rows → get_or (take rows starts) i 0 ≡ get_or starts i 0
+  front_at i h = get_or-take rows starts i 0 h
+
+  pub held_front : FlatHeld s (take rows starts) places (length (take rows starts)) f
+  held_front =
+      record {
+        is = held.is;
+        places_are = held.places_are;
+        rows_are = held.rows_are ∙ sym front_long;
+        few_places = held.few_places;
+        fits = omega (arith, front_long, held.fits);
+        stands = λ i h k. let lt : i < rows = omega (arith, front_long) in let x = held.stands i lt (omega arith) in (x.0, ap (arcs_at s places) (front_at i lt) ∙ x.1);
+      }
+
+  pub all_stand : AllStand s places (take rows starts)
+  all_stand i h = let lt : i < rows = omega (arith, front_long) in ap is_fine (ap (arcs_at s places) (front_at i lt) ∙ (held.stands i lt (omega arith)).1)
