@@ -6,5 +6,5 @@ mod space;
 mod transition;
 mod transitions;
 
-pub use space::size_of;
+pub use space::{has, size_of};
 pub use transitions::{Head, read_transitions};

@@ -5,10 +5,11 @@ ghost use Rattle.reading.specs.Basics.{keep, below, product};
 ghost use Rattle.net.specs.Net.{Net, size_of};
 ghost use Rattle.net.specs.internal.ReaderEnums.{bits, size_in};
 
+use net::Scope;
 use reading::element;
 
 // Whether a variable is in a set.
-fn has(uses: u32, v: usize) -> bool
+pub fn has(uses: u32, v: usize) -> bool
     ensures { result ≡ eqb (uses / 2 ^ v % 2) 1 }
 {
     v < 32 && (uses >> v) & 1 == 1
@@ -22,29 +23,30 @@ pub fn count_of(uses: u32, variables: usize) -> usize
 }
 
 // The size of a variable's set.
-pub fn size_of(sizes: &[u8], vars: &[u8], v: usize) -> usize
-    ensures is { result ≡ size_in sizes.now vars.now v }
+pub fn size_of(scope: &Scope, v: usize) -> usize
+    ensures is { result ≡ size_in scope.now.sizes.now scope.now.vars.now v }
     ensures small { result ≤ 255 }
 {
-    usize::from(element(sizes, usize::from(element(vars, v, 0)), 0))
+    let set = element(scope.vars, v, 0);
+    usize::from(element(scope.sizes, usize::from(set), 0))
 }
 
 // How many bindings the variables of a set have: the product of the sizes of their sets. More than 65,536 where the set has more than 4.
-pub fn bindings_of(uses: u32, sizes: &[u8], vars: &[u8]) -> usize
-    ensures few { (n : Net) (stands : ℕ → Bool) → n.sets ≡ sizes.now → n.variables ≡ vars.now → length n.variables ≤ 32 → uses ≡ bits stands 32
+pub fn bindings_of(uses: u32, scope: &Scope) -> usize
+    ensures few { (n : Net) (stands : ℕ → Bool) → n.sets ≡ scope.now.sizes.now → n.variables ≡ scope.now.vars.now → length n.variables ≤ 32 → uses ≡ bits stands 32
         → length (keep stands (below (length n.variables))) ≤ 4
         → result ≡ product (map (λ v. size_of n (get_or n.variables v 0)) (keep stands (below (length n.variables)))) }
-    ensures many { (stands : ℕ → Bool) → length vars.now ≤ 32 → uses ≡ bits stands 32
-        → 4 < length (keep stands (below (length vars.now))) → 65536 < result }
+    ensures many { (stands : ℕ → Bool) → length scope.now.vars.now ≤ 32 → uses ≡ bits stands 32
+        → 4 < length (keep stands (below (length scope.now.vars.now))) → 65536 < result }
     ensures small { result ≤ 4228250625 }
 {
-    if 4 < count_of(uses, vars.len()) {
+    if 4 < count_of(uses, scope.vars.len()) {
         return 65537;
     }
     let mut total = 1;
-    for v in 0..vars.len() {
+    for v in 0..scope.vars.len() {
         if has(uses, v) {
-            total *= size_of(sizes, vars, v);
+            total *= size_of(scope, v);
         }
     }
     total

@@ -25,7 +25,7 @@ fn close_at(scope: &Scope, set: u32, space: usize, at: usize, end: usize) -> Res
     if 4 < count_of(set, scope.vars.len()) {
         return refused(Reason::ManyVariables, at);
     }
-    let more = space + bindings_of(set, scope.sizes, scope.vars);
+    let more = space + bindings_of(set, scope);
     if 65536 < more {
         return refused(Reason::WideBinding, at);
     }
