@@ -4,46 +4,71 @@ use mathlib.Core.Path.{◌≡◌, refl, sym, ap, subst, ◌∙◌}
 use Prim.Native.Nat.{◌≤◌, ◌<◌}
 use native.Mathlib.Omega.{arith}
 use borrow.Author.Tests.{le-leb, le-ltb, ltb-true, ltb-false}
-use lib.ListN.{set, length-append, length-map, length-drop, get_or-map, get_or-eq_default}
-use lib.Seq.{length-take-le, ext_get_or, get_or-take, get_or-drop}
+use mathlib.Core.Logic.{⊎_elim}
+use native.Mathlib.Nat.{eq-or-lt_of_le}
+use lib.ListN.{set, length-set, length-append, length-map, length-drop, get_or-map, get_or-eq_default}
+use lib.Seq.{length-take-le, ext_get_or, get_or-set_same, get_or-set_other, get_or-take, get_or-drop}
 use Rattle.reading.specs.Basics.{ℕ, Bool, true, false, ltb, List, [], map, length, get_or, take, drop, below}
 use Rattle.reading.proofs.Lists.{length-below, get_d_below}
 use Rattle.net.specs.Net.{Net, in_transition, scope, tokens_on, transition_at}
 use Rattle.net.specs.internal.ReaderEnums.{bits}
 use Rattle.net_file.specs.Limits.{Limits}
-use Rattle.net_file.specs.Formed.{Formed}
 use Rattle.net_transitions.proofs.Transitioning.{part_in, part_before}
 use Rattle.plan.specs.internal.Layout.{up_to, low, arc_with, sets_in, variables_in, places_in, guards_in, own_in, packed_in, OthersKept, Placed}
-use Rattle.plan.proofs.Sections.{Placing, placing_begins, placing_goes, placing_ends, own_at, guard_at, arc_at_lem}
+use Rattle.plan.proofs.Sections.{Placing, placing_goes, own_at, guard_at, arc_at_lem}
 use Rattle.net_parts.specs.internal.Tables.{count_of}
-use Rattle.net_transitions.specs.internal.TransitionTables.{GuardHolds}
+use Rattle.net_transitions.specs.internal.TransitionTables.{no_head}
+use Rattle.net_transitions.specs.declared.transitions.Head.{Head}
+use Rattle.net_file.specs.declared.file.Tables.{Tables}
+use Rattle.net_file.specs.declared.file.Counts.{Counts}
 use Rattle.net_file.specs.internal.NetTables.{NetHolds, NetHeld}
 use Rattle.net_file.proofs.Limits.{limits}
 use Rattle.prepared.specs.internal.Packed.{shape_in, holding, entries_of, SlotsFit, Packed}
-use Rattle.prepared.proofs.Packing.{holding_at, entries_many, entry_at, holding-same, entries-same}
+use Rattle.prepared.proofs.Packing.{get_d_inside, holding_at, entries_many, entry_at, holding-same, entries-same}
 use Rattle.prepared.specs.internal.Drawing.{Drawing}
-use Rattle.prepared.proofs.Accepted.{Gathered, gathered, shaped}
+use Rattle.prepared.proofs.Tabled.{shapes, drawing}
 use Rattle.prepared.specs.internal.TransitionVariables.{Owned}
-use Rattle.prepared.specs.internal.Filled.{ListStands, ListsPlaced, Readied}
-
--- ---- the counts
-pub counts_placed : (plan : List ℕ) (a b c d e f : ℕ) → 7 ≤ length plan
-    → Placed 0 (a ∷ b ∷ c ∷ d ∷ e ∷ f ∷ 1 ∷ []) plan (set (set (set (set (set (set (set plan 0 a) 1 b) 2 c) 3 d) 4 e) 5 f) 6 1)
-counts_placed plan a b c d e f room = placing_ends (go 1 (go f (go e (go d (go c (go b (go a (placing_begins 0 values plan) (omega arith) refl) (omega arith) refl) (omega arith) refl) (omega arith) refl) (omega arith) refl) (omega arith) refl) (omega arith) refl) (omega arith)
-  where
-    values : List ℕ
-    values = a ∷ b ∷ c ∷ d ∷ e ∷ f ∷ 1 ∷ []
-
-    go : {now : List ℕ} {i : ℕ} (x : ℕ) → Placing 0 values plan now i → i < 7 → x ≡ get_or values i 0 → Placing 0 values plan (set now (0 + i) x) (i + 1)
-    go x here lt is = placing_goes x here lt room is
+use Rattle.prepared.specs.internal.Filled.{ListStands, HeadsPlaced, ListsPlaced, Readied}
 
 -- ---- what each place is like
 pub values_many : (f : ℕ → ℕ) (n : ℕ) → length (map f (below n)) ≡ n
 values_many f n = length-map (below n) f ∙ length-below n
 
-pub shaping_goes : {before now : List ℕ} {i : ℕ} (shape : ℕ → ℕ) (places x : ℕ) → Placing 56 (map shape (below places)) before now i → i < places → places ≤ 32 → length before ≡ 3584
-    → x ≡ shape i → Placing 56 (map shape (below places)) before (set now (56 + i) x) (i + 1)
-shaping_goes {i = i} shape places x here lt few room is = placing_goes x here (omega (arith, values_many shape places)) (omega (arith, values_many shape places)) (is ∙ sym (get_d_below shape places i lt))
+pub shaping_goes : {before now : List ℕ} {i : ℕ} (shape : ℕ → ℕ) (places x : ℕ) → Placing (λ x y. y ≡ x) 56 (map shape (below places)) before now i → i < places → places ≤ 32 → length before ≡ 3584
+    → x ≡ shape i → Placing (λ x y. y ≡ x) 56 (map shape (below places)) before (set now (56 + i) x) (i + 1)
+shaping_goes {i = i} shape places x here lt few room is =
+    placing_goes x here (omega (arith, values_many shape places)) (omega (arith, values_many shape places))
+    (λ other. is ∙ sym (get_d_inside (map shape (below places)) i other 0 (omega (arith, values_many shape places)) ∙ get_d_below shape places i lt))
+
+-- ---- what each transition begins with
+pub record Heading (heads : List Head) (before now : List ℕ) (i : ℕ) : Type 0 where
+  pub long : length now ≡ length before
+  pub uses : (t : ℕ) → t < i → get_or now (88 + t) 0 ≡ (get_or heads t no_head).uses
+  pub guards : (t : ℕ) → t < i → get_or now (120 + t) 0 ≡ (get_or heads t no_head).guard
+  pub front : (j : ℕ) → j < 88 → get_or now j 0 ≡ get_or before j 0
+  pub back : (j : ℕ) → 152 ≤ j → get_or now j 0 ≡ get_or before j 0
+
+pub heading_begins : (heads : List Head) (before : List ℕ) → Heading heads before before 0
+heading_begins heads before = record { long = refl; uses = λ t lt. absurd (omega arith); guards = λ t lt. absurd (omega arith); front = λ j lt. refl; back = λ j le. refl }
+
+pub heading_goes : {heads : List Head} {before now : List ℕ} {i : ℕ} → Heading heads before now i → i < 32 → length before ≡ 3584 → {h : Head} → get_or heads i no_head ≡ h
+    → Heading heads before (set (set now (88 + i) h.uses) (120 + i) h.guard) (i + 1)
+heading_goes {heads} {before} {now} {i} here lt room {h} is =
+    record {
+      long = length-set once (120 + i) h.guard ∙ length-set now (88 + i) h.uses ∙ here.long;
+      uses = λ t less. get_or-set_other once (120 + i) (88 + t) h.guard 0 (λ e. omega arith) ∙ ⊎_elim (λ e. rw (e, is) (get_or-set_same now (88 + i) h.uses 0 (omega (arith, here.long))))
+          (λ d. get_or-set_other now (88 + i) (88 + t) h.uses 0 (λ e. omega arith) ∙ here.uses t d) (eq-or-lt_of_le (let le : t ≤ i = omega arith in le));
+      guards = λ t less. ⊎_elim (λ e. rw (e, is) (get_or-set_same once (120 + i) h.guard 0 (omega (arith, length-set now (88 + i) h.uses, here.long))))
+          (λ d. get_or-set_other once (120 + i) (120 + t) h.guard 0 (λ e. omega arith) ∙ get_or-set_other now (88 + i) (120 + t) h.uses 0 (λ e. omega arith) ∙ here.guards t d) (eq-or-lt_of_le (let le : t ≤ i = omega arith in le));
+      front = λ j less. get_or-set_other once (120 + i) j h.guard 0 (λ e. omega arith) ∙ get_or-set_other now (88 + i) j h.uses 0 (λ e. omega arith) ∙ here.front j less;
+      back = λ j far. get_or-set_other once (120 + i) j h.guard 0 (λ e. omega arith) ∙ get_or-set_other now (88 + i) j h.uses 0 (λ e. omega arith) ∙ here.back j far;
+    }
+  where
+    once : List ℕ
+    once = set now (88 + i) h.uses
+
+pub heading_ends : {heads : List Head} {before now : List ℕ} → Heading heads before now 32 → HeadsPlaced heads before now
+heading_ends here = record { uses_are = here.uses; guards_are = here.guards; others = record { front = here.front; back = λ j le. here.back j (omega arith) } }
 
 -- ---- the arcs
 -- rows over slots that are the same, in entries that are the same
@@ -117,21 +142,20 @@ packed_told {shape} {slots} {places} plan few are packs = record {
 stands_on : (from : ℕ) {at : ℕ} (values : List ℕ) {others a b : List ℕ} → Placed at others a b → from + length values ≤ at → ListStands from values a → ListStands from values b
 stands_on from values placed le stands i lt = placed.kept.front (from + i) (omega arith) ∙ stands i lt
 
-pub lists_placed : {sizes vars heads own p₀ p₁ p₂ p₃ p₄ : List ℕ} {transitions : ℕ}
-    → length sizes ≤ 16 → length vars ≤ 32 → length heads ≡ 64 → length own ≡ 128 → transitions ≤ 32
-    → Placed 8 sizes p₀ p₁ → Placed 24 vars p₁ p₂ → Placed 88 heads p₂ p₃ → Placed 152 own p₃ p₄
-    → ((n : Net) → n.sets ≡ sizes → n.variables ≡ vars → Limits n → Formed n → length n.transitions ≡ transitions
-    → ((t : ℕ) → t < length n.transitions → get_or heads t 0 ≡ bits (λ v. in_transition v (transition_at n t)) 32) → Owned n own)
+pub lists_placed : {sizes vars own p₀ p₁ p₂ p₃ p₄ : List ℕ} {heads : List Head} {transitions : ℕ}
+    → length sizes ≤ 16 → length vars ≤ 32 → length own ≡ 128 → Placed 8 sizes p₀ p₁ → Placed 24 vars p₁ p₂ → HeadsPlaced heads p₂ p₃ → Placed 152 own p₃ p₄
+    → ((n : Net) → n.sets ≡ sizes → n.variables ≡ vars → Limits n → length n.transitions ≡ transitions
+    → ((t : ℕ) → t < length n.transitions → (get_or heads t no_head).uses ≡ bits (λ v. in_transition v (transition_at n t)) 32) → Owned n own)
     → ListsPlaced sizes vars heads transitions p₀ p₄
-lists_placed {sizes} {vars} {heads} {own} {p₄ = p₄} few few' many long few'' a b c e owns =
+lists_placed {sizes} {vars} {own} {p₄ = p₄} few few' long a b c e owns =
     record {
-      sets = stands_on 8 sizes e (omega arith) (stands_on 8 sizes c (omega arith) (stands_on 8 sizes b (omega arith) a.values_are));
-      variables = stands_on 24 vars e (omega arith) (stands_on 24 vars c (omega arith) b.values_are);
-      headed = stands_on 88 heads e (omega arith) c.values_are;
-      owned = λ n es ev l formed are used. record {
-        slot = λ t k lt less. sym (own_at p₄ (t * 4 + k)) ∙ e.values_are (t * 4 + k) (omega arith) ∙ (owns n es ev l formed are used).slot t k lt less;
+      sets = stands_on 8 sizes e (omega arith) (λ i lt. c.others.front (8 + i) (omega arith) ∙ stands_on 8 sizes b (omega arith) a.values_are i lt);
+      variables = stands_on 24 vars e (omega arith) (λ i lt. c.others.front (24 + i) (omega arith) ∙ b.values_are i lt);
+      guards = λ t lt. e.kept.front (120 + t) (omega arith) ∙ c.guards_are t lt;
+      owned = λ n es ev l are used. record {
+        slot = λ t k lt less. own_at p₄ (t * 4 + k) ∙ e.values_are (t * 4 + k) (omega (arith, l.transitions)) ∙ (owns n es ev l are used).slot t k lt less;
       };
-      behind = λ i le. e.kept.back i (omega arith) ∙ c.kept.back i (omega arith) ∙ b.kept.back i (omega arith) ∙ a.kept.back i (omega arith);
+      behind = λ i le. e.kept.back i (omega arith) ∙ c.others.back i (omega arith) ∙ b.kept.back i (omega arith) ∙ a.kept.back i (omega arith);
     }
 
 -- ---- the whole table
@@ -146,40 +170,23 @@ lows from count values plan many room stands small =
 within : {most count entry : ℕ} → entry ≡ count → count ≤ most → count ≡ up_to most entry
 within {most} {count} is le = rw (is, le-leb count most le)
 
--- guards told by entries that are the same
-guards_same : {s sizes vars guards after arcs : List ℕ} {n : Net} → ((t : ℕ) → t < length n.transitions → get_or after t 0 ≡ get_or guards t 0) → Drawing s n sizes vars guards arcs → Drawing s n sizes vars after arcs
-guards_same {s} {sizes} {vars} {n = n} same d =
-    record {
-      sets = d.sets;
-      variables = d.variables;
-      limits = d.limits;
-      guard = λ t lt. subst (GuardHolds s (scope sizes vars n.places) (transition_at n t).guard) (sym (same t lt)) (d.guard t lt);
-      slots = d.slots;
-      arc = d.arc;
-      shape = d.shape;
-      shaped = d.shaped;
-      packed = d.packed;
-    }
-
 -- the slots of the arcs are kept while the lists and the places are written
-pub slots_kept : {sizes vars heads read first second : List ℕ} {transitions : ℕ} (arcs : List ℕ) (shape : ℕ → ℕ) (places : ℕ) → places ≤ 32 → ((i : ℕ) → i < 3072 → get_or (drop 512 read) i 0 ≡ get_or arcs i 0)
+pub slots_kept : {sizes vars read first second : List ℕ} {heads : List Head} {transitions : ℕ} (arcs : List ℕ) (shape : ℕ → ℕ) (places : ℕ) → places ≤ 32 → ((i : ℕ) → i < 3072 → get_or (drop 512 read) i 0 ≡ get_or arcs i 0)
     → ListsPlaced sizes vars heads transitions read first → Placed 56 (map shape (below places)) first second → (i : ℕ) → i < 3072 → get_or (drop 512 second) i 0 ≡ get_or arcs i 0
 slots_kept {read = read} {second = second} arcs shape places few stood lists placed i lt =
     get_or-drop 512 second i 0 ∙ placed.kept.back (512 + i) (omega (arith, values_many shape places)) ∙ lists.behind (512 + i) (omega arith) ∙ sym (get_or-drop 512 read i 0) ∙ stood i lt
 
 -- the lists were placed, then the places, then the arcs packed, then the counts placed
-module _ (s sizes vars kinds starts heads arcs initial : List ℕ) {sets variables places total transitions space : ℕ}
-    (held : NetHeld s sizes vars kinds starts heads arcs initial sets variables places total transitions space)
-    (sized : length sizes ≡ 16) (many : length vars ≡ 32) (headed : length heads ≡ 64)
+module _ {s arcs initial : List ℕ} {t : Tables} {c : Counts} (held : NetHeld s t arcs initial c) (sized : length t.sizes ≡ 16) (many : length t.vars ≡ 32)
     {read first second third plan : List ℕ} (long : length plan ≡ 3584) (stood : (i : ℕ) → i < 3072 → get_or (drop 512 read) i 0 ≡ get_or arcs i 0)
-    (lists : ListsPlaced (take sets sizes) (take variables vars) heads transitions read first)
-    (placed : Placed 56 (map (shape_in kinds starts) (below places)) first second)
-    (packs : Packed 32 (λ p. p) (drop 512 second) (drop 512 third) places transitions) (elsewhere : OthersKept 512 3072 second third)
-    (counts : Placed 0 (sets ∷ variables ∷ places ∷ total ∷ transitions ∷ space ∷ 1 ∷ []) third plan) where
+    (lists : ListsPlaced (take c.sets t.sizes) (take c.variables t.vars) t.heads c.transitions read first)
+    (placed : Placed 56 (map (shape_in t.kinds t.starts) (below c.places)) first second)
+    (packs : Packed 32 (λ p. p) (drop 512 second) (drop 512 third) c.places c.transitions) (elsewhere : OthersKept 512 3072 second third)
+    (counts : Placed 0 (c.sets ∷ c.variables ∷ c.places ∷ c.total ∷ c.transitions ∷ c.space ∷ 1 ∷ []) third plan) where
   abbrev n : Net
   n = held.value
 
-  abbrev h : NetHolds s n sizes vars kinds starts heads arcs initial sets variables places total transitions space
+  abbrev h : NetHolds s n t arcs initial c
   h = held.holds
 
   keeps : Limits n
@@ -190,70 +197,68 @@ module _ (s sizes vars kinds starts heads arcs initial : List ℕ) {sets variabl
   low_kept i le lt = counts.kept.back i le ∙ elsewhere.front i (omega arith) ∙ placed.kept.front i lt
 
   high_kept : (i : ℕ) → 88 ≤ i → i < 512 → get_or plan i 0 ≡ get_or first i 0
-  high_kept i le lt = counts.kept.back i (omega arith) ∙ elsewhere.front i lt ∙ placed.kept.back i (omega (arith, values_many (shape_in kinds starts) places, h.started.few))
+  high_kept i le lt = counts.kept.back i (omega arith) ∙ elsewhere.front i lt ∙ placed.kept.back i (omega (arith, values_many (shape_in t.kinds t.starts) c.places, h.started.few))
 
-  shape_at : (p : ℕ) → p < places → get_or (places_in plan) p 0 ≡ shape_in kinds starts p
+  shape_at : (p : ℕ) → p < c.places → get_or (places_in plan) p 0 ≡ shape_in t.kinds t.starts p
   unfolding places_in
   shape_at p lt =
       let few = h.started.few in
-      get_or-drop 56 plan p 0 ∙ counts.kept.back (56 + p) (omega arith) ∙ elsewhere.front (56 + p) (omega arith) ∙ placed.values_are p (omega (arith, values_many (shape_in kinds starts) places))
-      ∙ get_d_below (shape_in kinds starts) places p lt
+      get_or-drop 56 plan p 0 ∙ counts.kept.back (56 + p) (omega arith) ∙ elsewhere.front (56 + p) (omega arith) ∙ placed.values_are p (omega (arith, values_many (shape_in t.kinds t.starts) c.places))
+      ∙ get_d_below (shape_in t.kinds t.starts) c.places p lt
 
-  arcs_told : Packed 134217728 (shape_in kinds starts) arcs (packed_in plan) places transitions
+  arcs_told : Packed 134217728 (shape_in t.kinds t.starts) arcs (packed_in plan) c.places c.transitions
   arcs_told =
       packed_told plan h.started.few shape_at
-      (packed_same h.started.few h.few_transitions (slots_kept arcs (shape_in kinds starts) places h.started.few stood lists placed) (λ i lt. get_or-drop 512 plan i 0 ∙ counts.kept.back (512 + i) (omega arith) ∙ sym (get_or-drop 512 third i 0)) packs)
+      (packed_same h.started.few h.few_transitions (slots_kept arcs (shape_in t.kinds t.starts) c.places h.started.few stood lists placed) (λ i lt. get_or-drop 512 plan i 0 ∙ counts.kept.back (512 + i) (omega arith) ∙ sym (get_or-drop 512 third i 0)) packs)
 
-  count_is : (i : ℕ) → i < 7 → get_or plan (0 + i) 0 ≡ get_or (sets ∷ variables ∷ places ∷ total ∷ transitions ∷ space ∷ 1 ∷ []) i 0
+  count_is : (i : ℕ) → i < 7 → get_or plan (0 + i) 0 ≡ get_or (c.sets ∷ c.variables ∷ c.places ∷ c.total ∷ c.transitions ∷ c.space ∷ 1 ∷ []) i 0
   count_is i lt = counts.values_are i lt
 
-  sets_many : length (take sets sizes) ≡ sets
-  sets_many = length-take-le sets sizes (omega (arith, h.few_sets))
+  sets_many : length (take c.sets t.sizes) ≡ c.sets
+  sets_many = length-take-le c.sets t.sizes (omega (arith, h.few_sets))
 
-  variables_many : length (take variables vars) ≡ variables
-  variables_many = length-take-le variables vars (omega (arith, h.few_variables))
+  variables_many : length (take c.variables t.vars) ≡ c.variables
+  variables_many = length-take-le c.variables t.vars (omega (arith, h.few_variables))
 
-  sets_same : take sets sizes ≡ sets_in plan
+  sets_same : n.sets ≡ sets_in plan
   unfolding sets_in
   sets_same =
-      lows 8 sets (take sets sizes) plan sets_many (omega (arith, h.few_sets)) (λ i lt. low_kept (8 + i) (omega arith) (omega (arith, h.few_sets, sets_many)) ∙ lists.sets i lt)
+      sym h.sets_are ∙ lows 8 c.sets (take c.sets t.sizes) plan sets_many (omega (arith, h.few_sets)) (λ i lt. low_kept (8 + i) (omega arith) (omega (arith, h.few_sets, sets_many)) ∙ lists.sets i lt)
       (subst (λ l. (i : ℕ) → i < length l → get_or l i 0 < 256) (sym h.sets_are) (λ i lt. omega (arith, (keeps.sizes i lt).1)))
       ∙ ap (λ c. map low (take c (drop 8 plan))) (sym (count_is 0 (omega arith)))
 
-  variables_same : take variables vars ≡ variables_in plan
+  variables_same : n.variables ≡ variables_in plan
   unfolding variables_in
   variables_same =
-      lows 24 variables (take variables vars) plan variables_many (omega (arith, h.few_variables)) (λ i lt. low_kept (24 + i) (omega arith) (omega (arith, h.few_variables, variables_many)) ∙ lists.variables i lt)
+      sym h.variables_are
+      ∙ lows 24 c.variables (take c.variables t.vars) plan variables_many (omega (arith, h.few_variables)) (λ i lt. low_kept (24 + i) (omega arith) (omega (arith, h.few_variables, variables_many)) ∙ lists.variables i lt)
       (subst (λ l. (i : ℕ) → i < length l → get_or l i 0 < 256) (sym h.variables_are) (λ i lt. omega (arith, keeps.variable_sets i lt, keeps.sets)))
       ∙ ap (λ c. map low (take c (drop 24 plan))) (sym (count_is 1 (omega arith)))
-
-  gathers : Gathered s n (take sets sizes) (take variables vars) (own_in first) heads (drop 32 heads) (packed_in plan) transitions
-  gathers = gathered s sizes vars kinds starts heads arcs initial held arcs_told lists.owned
 
   few : length n.transitions ≤ 32
   few = omega (arith, h.transitions_are, h.few_transitions)
 
-  -- the places of guards stand behind the variables of 32 transitions
-  guard_is : (t : ℕ) → t < length n.transitions → get_or (guards_in plan) t 0 ≡ get_or (drop 32 heads) t 0
-  guard_is t lt =
-      let e : 120 + t ≡ 88 + (32 + t) = omega arith in
-      sym (guard_at plan t) ∙ high_kept (120 + t) (omega arith) (omega (arith, few)) ∙ ap (λ i. get_or first i 0) e ∙ lists.headed (32 + t) (omega (arith, few)) ∙ sym (get_or-drop 32 heads t 0)
+  guard_is : (u : ℕ) → u < length n.transitions → get_or (guards_in plan) u 0 ≡ (get_or t.heads u no_head).guard
+  guard_is u lt = guard_at plan u ∙ high_kept (120 + u) (omega arith) (omega (arith, few)) ∙ lists.guards u (omega (arith, few))
 
-  drawn : Drawing s n (sets_in plan) (variables_in plan) (guards_in plan) (packed_in plan)
-  drawn =
-      subst (λ l. Drawing s n l (variables_in plan) (guards_in plan) (packed_in plan)) sets_same (subst (λ l. Drawing s n (take sets sizes) l (guards_in plan) (packed_in plan)) variables_same
-      (guards_same guard_is gathers.drawing))
+  drawn_there : Drawing s n (sets_in plan) (variables_in plan) (guards_in plan) (packed_in plan)
+  drawn_there =
+      subst (λ l. Drawing s n l (variables_in plan) (guards_in plan) (packed_in plan)) sets_same
+      (subst (λ l. Drawing s n n.sets l (guards_in plan) (packed_in plan)) variables_same (drawing s n h keeps (guards_in plan) (packed_in plan) guard_is arcs_told))
+
+  owned : Owned n (own_in first)
+  owned = lists.owned n (sym h.sets_are) (sym h.variables_are) keeps h.transitions_are (λ u lt. (h.holds u lt).used)
 
   pub readied : Readied s plan initial
   readied = record {
     value = n;
     prepared = record {
       read = held.read;
-      drawing = drawn;
+      drawing = drawn_there;
       owned = record {
-        slot = λ t k lt less. sym (own_at plan (t * 4 + k)) ∙ high_kept (152 + (t * 4 + k)) (omega arith) (omega (arith, few)) ∙ own_at first (t * 4 + k) ∙ gathers.owned.slot t k lt less;
+        slot = λ u k lt less. own_at plan (u * 4 + k) ∙ high_kept (152 + (u * 4 + k)) (omega arith) (omega (arith, few)) ∙ sym (own_at first (u * 4 + k)) ∙ owned.slot u k lt less;
       };
-      shapes = λ p lt. shape_at p (omega (arith, h.started.are)) ∙ shaped s sizes vars kinds starts heads arcs initial held p lt;
+      shapes = λ p lt. shape_at p (omega (arith, h.started.are)) ∙ shapes s n h keeps p lt;
       flat_places_are = h.started.all ∙ within (count_is 3 (omega arith)) h.started.small;
       transitions_are = h.transitions_are ∙ within (count_is 4 (omega arith)) h.few_transitions;
     };

@@ -1,7 +1,10 @@
 -- What a prepared table tells beside its fields, and a prepared file: its net, or the refusal. Assumes nothing.
 use mathlib.Core.Path.{◌≡◌, subst}
 use Rattle.reading.specs.Basics.{List, ℕ}
+use Rattle.std.specs.Prelude.{Result, Ok, Err}
 use Rattle.reading.specs.Reading.{refused}
+use Rattle.reading.specs.Refusals.{number_of}
+use Rattle.reading.specs.declared.refusal.Refusal.{Refusal}
 use Rattle.net.specs.Net.{Net}
 use Rattle.net_file.specs.NetFile.{read_net}
 use Rattle.net_file.specs.Limits.{Limits}
@@ -10,8 +13,6 @@ use Rattle.net_file.proofs.Limits.{limits}
 use Rattle.net_file.proofs.Formed.{formed}
 use Rattle.prepared.specs.internal.Prepared.{Prepared}
 use Rattle.prepared.specs.internal.Filled.{Readied, PreparedTold}
-use Rattle.prepared.specs.declared.fill.Preparing.{Preparing}
-use Rattle.prepared.specs.declared.fill.Preparing.TheVariants as preparing
 
 module _ {s plan : List ℕ} {n : Net} (p : Prepared s n plan) where
   -- its net keeps to the limits, and is well formed
@@ -22,9 +23,9 @@ module _ {s plan : List ℕ} {n : Net} (p : Prepared s n plan) where
   its_form = formed s n p.read
 
 -- what preparing a file tells
-module _ (s plan initial : List ℕ) {r : Preparing} where
-  pub the_net : r ≡ preparing.Ready → PreparedTold s plan initial r → Readied s plan initial
+module _ (s plan initial : List ℕ) {r : Result (Unit {0}) Refusal} where
+  pub the_net : {done : Unit {0}} → r ≡ Ok done → PreparedTold s plan initial r → Readied s plan initial
   the_net e h = subst (PreparedTold s plan initial) e h
 
-  pub the_refusal : {number place : ℕ} → r ≡ preparing.Refused number place → PreparedTold s plan initial r → read_net s ≡ refused number place
+  pub the_refusal : {f : Refusal} → r ≡ Err f → PreparedTold s plan initial r → read_net s ≡ refused (number_of f.reason) f.place
   the_refusal e h = subst (PreparedTold s plan initial) e h

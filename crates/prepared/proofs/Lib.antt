@@ -1,4 +1,3 @@
-pub mod Used
 pub mod Listing
 pub mod Packing
 pub mod Starts

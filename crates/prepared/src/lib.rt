@@ -5,6 +5,4 @@ mod fill;
 mod own;
 mod pack;
 
-pub use fill::{Preparing, prepare};
-pub use own::{list_variables, size_of, uses_at};
-pub use pack::pack_arcs;
+pub use fill::prepare;

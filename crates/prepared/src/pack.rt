@@ -1,32 +1,32 @@
 // Packs the table of arcs in place: of each row of 32 slots, one a place, only those that hold an arc, by rising place.
-ghost use Rattle.std.specs.Prelude.{◌≡◌, ℕ, ◌≤◌, ◌<◌, ◌+◌, ◌-◌, ◌/◌, length, get_or, take, eqb, if◌then◌else◌};
-ghost use Rattle.reading.specs.Basics.{not};
+ghost use Rattle.std.specs.Prelude.{◌≡◌, ℕ, ◌≤◌, ◌<◌, ◌+◌, length, get_or, take, if◌then◌else◌};
+ghost use Rattle.evaluation.specs.internal.Evaluated.{is_pair};
+ghost use Rattle.net.specs.internal.ReaderEnums.{place_in};
 ghost use Rattle.prepared.specs.internal.Packed.{shape_in, Packed, RowPacked, RowFits, SlotsFit, EntryPut};
 
-// A number less another, or 0.
-fn less(a: usize, b: usize) -> usize
-    ensures { result ≡ a - b }
-{
-    if a < b { 0 } else { a - b }
-}
+use net::PlaceSets;
+use net_file::Tables;
 
-// 1 where a place has a second set, by its sets in one word.
-fn pair_bit(kind: u16) -> u32
-    ensures is { result ≡ (if not (eqb (kind / 256) 255) then 1 else 0) }
+// 1 where a place has a second set.
+fn pair_bit(sets: PlaceSets) -> u32
+    ensures is { result ≡ (if is_pair (place_in sets) then 1 else 0) }
     ensures small { result ≤ 1 }
 {
-    if kind / 256 == 255 { 0 } else { 1 }
+    match sets {
+        PlaceSets::One { .. } => 0,
+        PlaceSets::Two { .. } => 1,
+    }
 }
 
 // What a place is like: where its flat places begin, how many ranks it has, and whether it is a pair.
-pub fn shape_of(kinds: &[u16; 32], starts: &[usize; 33], p: usize) -> u32
+pub fn shape_of(tables: &Tables, p: usize) -> u32
     requires { p < 32 }
-    ensures is { result ≡ shape_in kinds.now starts.now p }
+    ensures is { result ≡ shape_in tables.now.kinds tables.now.starts p }
     ensures small { result < 134217728 }
 {
-    let start = starts[p];
-    let count = less(starts[p + 1], start) % 8192;
-    ((start % 8192) as u32) * 16384 + (count as u32) * 2 + pair_bit(kinds[p])
+    let start = tables.starts[p];
+    let count = tables.starts[p + 1].saturating_sub(start) % 8192;
+    ((start % 8192) as u32) * 16384 + (count as u32) * 2 + pair_bit(tables.kinds[p])
 }
 
 // Puts the entry of a place at `end`, if its slot holds an arc: where the next one goes.
@@ -38,8 +38,7 @@ fn pack_place(slot: u32, p: usize, arcs: &mut [u32], end: usize) -> usize
     if slot < 1 {
         return end;
     }
-    let entry = slot * 32 + p as u32;
-    arcs[end] = entry;
+    arcs[end] = slot * 32 + p as u32;
     end + 1
 }
 
@@ -51,10 +50,8 @@ fn pack_row(base: usize, places: usize, arcs: &mut [u32])
     ensures back { (j : ℕ) → base + 32 ≤ j → get_or arcs.new j 0 ≡ get_or arcs.old j 0 }
 {
     let mut end = base;
-    let mut p: usize = 0;
-    while p < places {
+    for p in 0..places {
         end = pack_place(arcs[base + p], p, arcs, end);
-        p += 1;
     }
     if end < base + 32 {
         arcs[end] = 0;
@@ -66,10 +63,7 @@ pub fn pack_arcs(places: usize, transitions: usize, arcs: &mut [u32])
     requires { (places ≤ 32) × (transitions ≤ 32) × (length arcs.old ≡ 3072) × SlotsFit arcs.old places transitions }
     ensures { Packed 32 (λ p. p) arcs.old arcs.new places transitions }
 {
-    let rows = transitions * 3;
-    let mut row: usize = 0;
-    while row < rows {
+    for row in 0..transitions * 3 {
         pack_row(row * 32, places, arcs);
-        row += 1;
     }
 }

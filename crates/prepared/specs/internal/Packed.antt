@@ -1,14 +1,18 @@
 -- The packed table of arcs: of each row of 32 slots, one a place, only those that hold an arc, by rising place.
-use Rattle.std.specs.Prelude.{◌≡◌, ◌≤◌, ◌<◌, ◌+◌, ◌-◌, ◌*◌, ◌/◌, ◌%◌, ◌∷◌, ◌++◌, if◌then◌else◌}
-use Rattle.reading.specs.Basics.{ℕ, Bool, not, List, [], map, flat_map, length, get_or, take, ltb, eqb, below}
+use Rattle.std.specs.Prelude.{◌≡◌, ◌≤◌, ◌<◌, ◌+◌, ◌-◌, ◌*◌, ◌%◌, ◌∷◌, ◌++◌, if◌then◌else◌}
+use Rattle.reading.specs.Basics.{ℕ, Bool, List, [], map, flat_map, length, get_or, take, ltb, below}
+use Rattle.net.specs.internal.ReaderEnums.{place_in}
+use Rattle.net.specs.declared.PlaceSets.{PlaceSets}
+use Rattle.net.specs.declared.PlaceSets.TheVariants.{One}
+use Rattle.evaluation.specs.internal.Evaluated.{is_pair}
 
 -- what a place is like: where its flat places begin, how many ranks it has, and whether it is a pair
 abbrev pub shape_of : ℕ → ℕ → Bool → ℕ
 shape_of start count paired = start * 16384 + count * 2 + (if paired then 1 else 0)
 
 -- from the tables of sets and of starts; each number is kept below 8,192
-abbrev pub shape_in : List ℕ → List ℕ → ℕ → ℕ
-shape_in kinds starts p = shape_of (get_or starts p 0 % 8192) ((get_or starts (p + 1) 0 - get_or starts p 0) % 8192) (not (eqb (get_or kinds p 0 / 256) 255))
+abbrev pub shape_in : List PlaceSets → List ℕ → ℕ → ℕ
+shape_in kinds starts p = shape_of (get_or starts p 0 % 8192) ((get_or starts (p + 1) 0 - get_or starts p 0) % 8192) (is_pair (place_in (get_or kinds p (One 0))))
 
 -- an entry: so many times where the arc's expression stands, and what it tells of the place. In the table that is the place's number, below 32; an arc that is read is
 -- told together with what its place is like, below 134,217,728

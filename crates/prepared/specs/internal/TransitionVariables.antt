@@ -23,21 +23,9 @@ slot_size slot = slot % 256
 abbrev pub slot_of : List ℕ → List ℕ → ℕ → ℕ
 slot_of sizes vars v = v * 256 + size_in sizes vars v
 
--- four slots from base on are 0, what stands before them is kept
-pub record Cleared (base : ℕ) (own after : List ℕ) : Type 0 where
-  pub zeros : (k : ℕ) → k < 4 → get_or after (base + k) 0 ≡ 0
-  pub front : (i : ℕ) → i < base → get_or after i 0 ≡ get_or own i 0
-
--- a variable whose bit is 1 was put into slot k from base on, and the next goes to r
-pub record SlotPut (bit slot base k : ℕ) (own after : List ℕ) (r : ℕ) : Type 0 where
-  pub room : length own ≡ 128
-  pub few : r ≤ 4
-  pub out : bit < 1 → (r ≡ k) × (after ≡ own)
-  pub stored : 1 ≤ bit → k < 4 → (r ≡ k + 1) × (after ≡ set own (base + k) slot)
-  pub front : (i : ℕ) → i < base → get_or after i 0 ≡ get_or own i 0
-
--- four slots from base on hold the variables of which a test holds, where a set of bits tells them; what stands before them is kept
+-- four slots from base on, which were 0, hold the variables of which a test holds, where a set of bits tells them; the other slots are kept
 pub record SlotsListed (uses : ℕ) (sizes vars : List ℕ) (base : ℕ) (own after : List ℕ) : Type 0 where
-  pub slots : (stands : ℕ → Bool) (count : ℕ) → uses ≡ bits stands 32 → count ≤ 32 → ((v : ℕ) → stands v ≡ true → v < count) → length (keep stands (below count)) ≤ 4
-      → (k : ℕ) → k < 4 → get_or after (base + k) 0 ≡ get_or (map (slot_of sizes vars) (keep stands (below count))) k 0
+  pub slots : (stands : ℕ → Bool) → uses ≡ bits stands 32 → length (keep stands (below (length vars))) ≤ 4 → ((k : ℕ) → k < 4 → get_or own (base + k) 0 ≡ 0)
+      → (k : ℕ) → k < 4 → get_or after (base + k) 0 ≡ get_or (map (slot_of sizes vars) (keep stands (below (length vars)))) k 0
   pub front : (i : ℕ) → i < base → get_or after i 0 ≡ get_or own i 0
+  pub back : (i : ℕ) → base + 4 ≤ i → get_or after i 0 ≡ get_or own i 0

@@ -5,7 +5,4 @@ use Rattle.prepared.specs.internal.Packed.{shape_in}
 use Rattle.prepared.proofs.fill.place_shapes.Given as goal
 
 abbrev pub invariant-loop-p : goal.invariant-loop-p
-invariant-loop-p l = Placing 56 (map (shape_in l.kinds l.starts) (below l.places)) l.initial.plan l.plan l.p
-
-abbrev pub decreases-loop-p : goal.decreases-loop-p
-decreases-loop-p l = l.places - l.p
+invariant-loop-p l = Placing (λ x y. y ≡ x) 56 (map (shape_in l.tables.kinds l.tables.starts) (below l.places)) l.initial.plan l.plan l.p

@@ -6,6 +6,3 @@ use Rattle.prepared.proofs.pack.pack_arcs.Given as goal
 
 abbrev pub invariant-loop-row : goal.invariant-loop-row
 invariant-loop-row l = (length l.arcs ≡ length l.initial.arcs) × Packing (λ p. p) l.initial.arcs l.places l.arcs l.row
-
-abbrev pub decreases-loop-row : goal.decreases-loop-row
-decreases-loop-row l = l.rows - l.row
