@@ -3,4 +3,5 @@ pub mod Packed
 pub mod TransitionVariables
 pub mod Drawing
 pub mod Prepared
+pub mod Drawn
 pub mod Filled
