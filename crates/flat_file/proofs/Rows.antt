@@ -1,6 +1,6 @@
 -- Rows that lie in two lent lists, and rows with one more arc: what they hold, that they stay proper, and how many arcs they have. Assumes nothing.
 use Rattle.std.specs.Prelude.{◌+◌, ◌-◌, ◌*◌, ◌&&◌, ◌∷◌}
-use mathlib.Core.Path.{◌≡◌, refl, sym, ◌∙◌}
+use mathlib.Core.Path.{◌≡◌, sym, ◌∙◌}
 use mathlib.Core.Bool.{and_assoc, and-true}
 use Prim.Native.Nat.{◌≤◌, ◌<◌}
 use native.Mathlib.Omega.{arith}
@@ -9,6 +9,7 @@ use borrow.Author.Tests.{lt-ltb, le-ltb, le-leb, lt-leb, ne_eqb, ltb-true, eqb-t
 use lib.ListN.{set, length-append}
 use Rattle.reading.specs.Basics.{ℕ, Bool, true, false, List, [], length, ltb, leb, eqb, with, every}
 use Rattle.reading.proofs.Commands.{first_fails, second_fails}
+use Rattle.reading.proofs.Keeps.{both_true}
 use Rattle.firing.specs.declared.Arc.{Arc}
 use Rattle.firing.specs.Arcs.{Row, Rising, none, more, Proper}
 use Rattle.firing.specs.internal.RowLists.{arcs_in, row_in}
@@ -20,15 +21,6 @@ use Rattle.flat_file.specs.declared.reader.Kind.TheVariants.{Take, Put, Hinder}
 use Rattle.firing.specs.declared.Ends.{Ends}
 
 -- ---- tests
--- the parts of a test that holds
-pub left_holds : (a b : Bool) → a && b ≡ true → a ≡ true
-left_holds true b e = refl
-left_holds false b e = e
-
-pub right_holds : (a b : Bool) → a && b ≡ true → b ≡ true
-right_holds true b e = e
-right_holds false b e = let z : ◌≡◌ {A = ℕ} 0 1 = cc in absurd (omega arith)
-
 -- a test of every element, with one more at the end
 every-with : {A : Type 0} (test : A → Bool) (l : List A) (a : A) → every test (with l a) ≡ every test l && test a
 unfolding every
@@ -42,8 +34,8 @@ rising_with : {n from : ℕ} {l : List Arc} (a : Arc) → Rising n from l → ri
 unfolding every
 rising_with a none e le lt w = more le lt w none
 rising_with a (more {a = b} {l = l} p q v r) e le lt w =
-    more p q v (rising_with a r (right_holds (ltb b.place a.place) (rise l a.place) e)
-    (omega (arith, ltb-true b.place a.place (left_holds (ltb b.place a.place) (rise l a.place) e))) lt w)
+    let (here, rest) = both_true (ltb b.place a.place) (rise l a.place) e in
+    more p q v (rising_with a r rest (omega (arith, ltb-true b.place a.place here)) lt w)
 
 -- so many arcs rise over n places
 rising_few : {n from : ℕ} {l : List Arc} → Rising n from l → length l ≤ n - from
@@ -55,11 +47,11 @@ module _ (n : ℕ) (r : Row) (a : Arc) (proper : Proper n r) (lt : a.place < n) 
   pub proper_added : (kind : Kind) → in_order kind r a.place ≡ true → Proper n (added kind r a)
   proper_added Take e =
       record {
-        takes = rising_with a proper.takes (left_holds _ _ (left_holds _ _ e)) (omega arith) lt w;
+        takes = rising_with a proper.takes (both_true _ _ (both_true _ _ e).0).0 (omega arith) lt w;
         puts = proper.puts;
         hinders = proper.hinders;
       }
-  proper_added Put e = record { takes = proper.takes; puts = rising_with a proper.puts (left_holds _ _ e) (omega arith) lt w; hinders = proper.hinders }
+  proper_added Put e = record { takes = proper.takes; puts = rising_with a proper.puts (both_true _ _ e).0 (omega arith) lt w; hinders = proper.hinders }
   proper_added Hinder e = record { takes = proper.takes; puts = proper.puts; hinders = rising_with a proper.hinders e (omega arith) lt w }
 
 -- how many arcs a row has
@@ -136,10 +128,10 @@ module _ (arcs : List Arc) (ends : Ends) (a : Arc) (least : ℕ) (room : ends.hi
 
   -- before a take there are no puts, and before those no hinders
   no_puts : in_order Take R a.place ≡ true → ends.takes ≡ ends.puts
-  no_puts e = empty ends.takes ends.puts first (omega arith) (right_holds (rise R.takes a.place) _ (left_holds (rise R.takes a.place && eqb (length R.puts) 0) _ e))
+  no_puts e = empty ends.takes ends.puts first (omega arith) (both_true (rise R.takes a.place) _ (both_true (rise R.takes a.place && eqb (length R.puts) 0) _ e).0).1
 
   no_hinders : (t : Bool) → t && eqb (length R.hinders) 0 ≡ true → ends.puts ≡ ends.hinders
-  no_hinders t e = empty ends.puts ends.hinders second (omega arith) (right_holds t _ e)
+  no_hinders t e = empty ends.puts ends.hinders second (omega arith) (both_true t _ e).1
 
   -- the row with it is the row in the list after the store
   abbrev Stored : Kind → Row
