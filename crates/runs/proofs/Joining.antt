@@ -1,12 +1,12 @@
 -- Two multisets joined rank by rank, and a multiset times a factor. Assumes nothing.
 use Rattle.std.specs.Prelude.{◌+◌, ◌-◌, ◌*◌, ◌∷◌, ◌++◌, if◌then◌else◌}
-use mathlib.Core.Path.{◌≡◌, refl, sym, ap, ap₂, ◌∙◌}
+use mathlib.Core.Path.{◌≡◌, refl, sym, ap, ap₂, subst, ◌∙◌}
 use Prim.Native.Nat.{◌≤◌, ◌<◌}
 use native.Mathlib.Omega.{arith}
 use borrow.Author.Tests.{le-leb, lt-leb, ltb-true, ltb-false, lt-ltb, le-ltb, eqb-true, eqb-false, eq-eqb, ne_eqb}
-use mathlib.Core.List.{append-nil}
+use Rattle.std.proofs.lemmas.List.{append-nil, take_more, take_all, nil_from_length}
 use lib.ListN.{length-map}
-use Rattle.reading.specs.Basics.{ℕ, Bool, true, false, List, [], map, length, ltb, eqb}
+use Rattle.reading.specs.Basics.{ℕ, Bool, true, false, List, [], map, length, get_or, take, ltb, eqb}
 use Rattle.firing.specs.declared.Arc.{Arc}
 use Rattle.std.proofs.lemmas.Bool.{cases_lt}
 use Rattle.std.proofs.Common.{inl, inr}
@@ -59,6 +59,23 @@ terms-before {from = from} (a ∷ l) z (more x y w t) = let h = terms_last l z t
 pub terms_front : {count from : ℕ} (l m : List Arc) → Terms count from (l ++ m) → Terms count from l
 terms_front [] m t = none
 terms_front {from = from} (a ∷ l) m (more x y w t) = more {a = a} x y w (terms_front {from = a.place + 1} l m t)
+
+-- where the last rank is below a number, all are
+pub terms_under : {count from : ℕ} (l : List Arc) (below : ℕ) → Terms count from l → (0 < length l → (get_or l (length l - 1) (term 0 0)).place < below) → Terms below from l
+terms_under {count} {from} l below t h =
+    elim (cases_lt 0 (length l)) [
+      | inl p ↦
+          let e : length l - 1 + 1 ≡ length l = omega arith in
+          let z : Arc = get_or l (length l - 1) (term 0 0) in
+          let split : l ≡ take (length l - 1) l ++ (z ∷ []) = sym (take_all (length l - 1 + 1) l (omega arith)) ∙ take_more l (length l - 1) (term 0 0) (omega arith) in
+          subst (Terms below from) (sym split) (terms-below (take (length l - 1) l) z below (subst (Terms count from) split t) (h p))
+      | inr p ↦ let e : l ≡ [] = nil_from_length l (omega arith) in rw e none
+    ]
+
+-- those behind some
+pub terms_behind : {count from : ℕ} (l m : List Arc) → Terms count from (l ++ m) → Terms count from m
+terms_behind [] m t = t
+terms_behind {from = from} (a ∷ l) m (more x y w t) = terms_from (terms_behind {from = a.place + 1} l m t) from (omega arith)
 
 -- ---- joined counts are u16 again
 pub limit_fits : (w : ℕ) → limit w ≤ 65535

@@ -1,3 +1,4 @@
 pub mod Appending
 pub mod Joining
 pub mod Merging
+pub mod Inserting

@@ -135,14 +135,14 @@ pub fn insert(arcs: &mut [Arc], start: usize, end: usize) -> usize
     if arcs.len() <= end {
         return end;
     }
-    let term = arcs[end];
-    let i = start + seat(&arcs[start..end], term.place);
-    if start < i && arcs[i - 1].place == term.place {
-        arcs[i - 1].weight = join(Operator::Plus, arcs[i - 1].weight, term.weight);
+    let Arc { place, weight } = arcs[end];
+    let i = start + seat(&arcs[start..end], place);
+    if start < i && arcs[i - 1].place == place {
+        arcs[i - 1].weight = join(Operator::Plus, arcs[i - 1].weight, weight);
         return end;
     }
     arcs.copy_within(i..end, i + 1);
-    arcs[i] = term;
+    arcs[i] = Arc { place, weight };
     end + 1
 }
 

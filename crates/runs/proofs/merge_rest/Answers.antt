@@ -3,7 +3,7 @@ use Rattle.runs.specs.internal.Terms.{term, joined}
 use Rattle.runs.proofs.Appending.{append_none}
 use Rattle.runs.proofs.Merging.{rest_goes, rest_length}
 use Rattle.runs.proofs.merge_rest.Goals as goal
-use Rattle.std.proofs.Common.{length, take}
+use Rattle.std.proofs.Common.{take}
 use Rattle.std.proofs.lemmas.List.{length-take-le}
 use Rattle.runs.specs.internal.Terms.{join_by}
 
