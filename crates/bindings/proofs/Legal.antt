@@ -1,9 +1,10 @@
 -- A binding has an effect exactly where it is legal, and that is where its guard holds. Assumes nothing.
-use Rattle.std.specs.Prelude.{◌||◌, if◌then◌else◌}
+use Rattle.std.specs.Prelude.{◌||◌, if◌then◌else◌, is_some, not, MatchOption}
+use Rattle.std.specs.Prelude as reply
 use mathlib.Core.Path.{◌≡◌, refl, sym, ap, subst, ◌∙◌}
 use Prim.Native.Nat.{◌≤◌, ◌<◌}
 use native.Mathlib.Omega.{arith}
-use borrow.Author.Tests.{ltb-true}
+use borrow.Author.Tests.{ltb-true, le-ltb}
 use Rattle.reading.specs.Basics.{ℕ, Bool, true, false, List, length, get_or, any, Option, none, some, given}
 use Rattle.firing.specs.Firing.{Weights}
 use Rattle.net.specs.Net.{Net, in_guard, in_expression, transition_at}
@@ -59,9 +60,9 @@ in_first a b e = rw e
 
 module _ {s plan : List ℕ} {n : Net} {t : ℕ} (p : Prepared s n plan) (lt : t < length n.transitions) (colours : List ℕ) where
   -- there is no guard
-  pub guard_none : {at : ℕ} → at ≡ get_or (guards_in plan) t 0 → at < 1 → true ≡ legal n (binding t colours)
+  pub guard_none : get_or (guards_in plan) t 0 ≡ 0 → true ≡ legal n (binding t colours)
   unfolding holds
-  guard_none is h = let e : get_or (guards_in plan) t 0 ≡ 0 = omega arith in rw ((p.drawing.guard t lt).without e) at (sym (legal_is n (binding t colours)))
+  guard_none e = rw ((p.drawing.guard t lt).without e) at (sym (legal_is n (binding t colours)))
 
   -- it is evaluated where it stands
   pub guard_told : {at : ℕ} (env : List ℕ) (r : Tested) → at ≡ get_or (guards_in plan) t 0 → 1 ≤ at → Binds n (binding t colours) env
@@ -77,4 +78,12 @@ module _ {s plan : List ℕ} {n : Net} {t : ℕ} (p : Prepared s n plan) (lt : t
 
   -- where every binding has a row, it is legal
   pub every-legal : every_row plan t ≡ true → legal n (binding t colours) ≡ true
-  every-legal e = sym (guard_none refl (ltb-true (get_or (guards_in plan) t 0) 1 e))
+  every-legal e = let h = ltb-true (get_or (guards_in plan) t 0) 1 e in sym (guard_none (omega arith))
+
+-- no guard's place was found
+pub none_found : (plan : List ℕ) (t : ℕ) (o : reply.Option ℕ) {b : Bool} → MatchOption o (get_or (guards_in plan) t 0 ≡ 0) (λ place. (0 < place) × (place ≡ get_or (guards_in plan) t 0))
+    → is_some o ≡ not b → b ≡ every_row plan t
+none_found plan t reply.None {b = true} h e = rw h
+none_found plan t reply.None {b = false} h e = cc
+none_found plan t (reply.Some place) {b = true} h e = cc
+none_found plan t (reply.Some place) {b = false} h e = sym (le-ltb (get_or (guards_in plan) t 0) 1 (omega arith))

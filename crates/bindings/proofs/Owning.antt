@@ -20,7 +20,7 @@ use Rattle.bindings.specs.internal.Bindings.{Binds, binding, numbered}
 use Rattle.prepared.specs.internal.TransitionVariables.{own_of, Owned, slot_variable, slot_size}
 use Rattle.bindings.specs.internal.SlotSteps.{colours_at}
 use Rattle.bindings.proofs.Digits.{product-with}
-use Rattle.prepared.proofs.Used.{used_below}
+use Rattle.bindings.proofs.Used.{used_below}
 use Rattle.reading.proofs.Clash.{clash}
 
 -- ---- what is kept of a list

@@ -1,5 +1,5 @@
 use mathlib.Core.List.{List}
-use Prim.Native.Nat.{ℕ, ◌≤◌, ◌<◌, ◌-◌, ◌^◌}
+use Prim.Native.Nat.{ℕ, ◌<◌, ◌^◌}
 use Rattle.net.specs.Net.{Net}
 use Rattle.prepared.specs.internal.Prepared.{Prepared}
 use Rattle.bindings.proofs.Naming.{GivenTo}

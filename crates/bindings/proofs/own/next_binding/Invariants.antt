@@ -1,5 +1,5 @@
 use Rattle.plan.specs.internal.Layout.{own_in}
-use Prim.Native.Nat.{ℕ, ◌≤◌, ◌<◌, ◌+◌}
+use Prim.Native.Nat.{ℕ, ◌<◌, ◌+◌}
 use lib.ListN.{length}
 use Rattle.reading.specs.Basics.{product}
 use Rattle.net.specs.Net.{Net}

@@ -1,6 +1,6 @@
 use Rattle.plan.specs.internal.Layout.{own_in}
 use mathlib.Core.Path.{◌≡◌}
-use Prim.Native.Nat.{◌≤◌, ◌<◌, ◌-◌, ◌^◌}
+use Prim.Native.Nat.{◌≤◌, ◌<◌, ◌^◌}
 use lib.ListN.{length, take}
 use Rattle.reading.specs.Basics.{product}
 use Rattle.net.specs.Net.{Net}

@@ -1,7 +1,5 @@
 use native.Mathlib.Omega.{arith}
-use mathlib.Core.Path.{refl, ap}
-use Prim.Native.Nat.{◌/◌, ◌%◌}
-use lib.ListN.{set}
+use mathlib.Core.Path.{refl}
 use Rattle.bindings.proofs.own.turn_slot.Goals as goal
 
 pub returns-then-slot-lt1 : goal.returns-then-slot-lt1
