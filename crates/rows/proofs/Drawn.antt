@@ -29,6 +29,9 @@ use Rattle.prepared.specs.internal.Prepared.{Prepared}
 use Rattle.rows.specs.internal.Effects.{place_slots, slots_below, kind_slots, place_arcs, kind_arcs}
 use Rattle.rows.proofs.Needing.{slots_next, slots_rise, kind_arcs_lem}
 use Rattle.rows.specs.internal.Loading.{KindLoaded}
+use Rattle.rows.specs.internal.Entries.{Told}
+use Rattle.rows.specs.declared.entries.Entries.{Entries as Left}
+use Rattle.std.specs.Prelude.{Some, None}
 use Rattle.prepared.proofs.Starts.{start_next, start_low}
 use Rattle.rows.proofs.Split.{kind_more, place_none}
 use Rattle.prepared.proofs.Packing.{HoldingAt, holding_at, holding-with, holding_few, holding_give, entries_many, entry_at}
@@ -255,12 +258,48 @@ module _ {s plan : List ℕ} {base : ℕ} {P : (n : Net) (t k : ℕ) → Prepare
         → P n t k p (holding p.drawing.slots base (length n.places))
     all_entries n t k p ht hk hb past = subst (P n t k p) (take_all i (holding p.drawing.slots base (length n.places)) past) (l.each n t k p ht hk hb).1
 
-    pub entries_stop : (entry : ℕ) → i < 32 → entry ≡ get_or (packed_in plan) (base + i) 0 → entry < 1
+    pub entries_end : (i < 32 → get_or (packed_in plan) (base + i) 0 < 1)
         → (n : Net) (t k : ℕ) (p : Prepared s n plan) → t < length n.transitions → k < 3 → base ≡ t * 96 + k * 32 → P n t k p (holding p.drawing.slots base (length n.places))
-    entries_stop entry h e free n t k p ht hk hb = all_entries n t k p ht hk hb (entry_past (λ v. 0) p.drawing ht hk hb i entry h (l.each n t k p ht hk hb).0 e free)
+    entries_end none_next n t k p ht hk hb = go (ltb i 32) refl
+      where
+        go : (b : Bool) → ltb i 32 ≡ b → P n t k p (holding p.drawing.slots base (length n.places))
+        go true e = let h = ltb-true i 32 e in all_entries n t k p ht hk hb (entry_past (λ v. 0) p.drawing ht hk hb i (get_or (packed_in plan) (base + i) 0) h (l.each n t k p ht hk hb).0 refl (none_next h))
+        go false e = all_entries n t k p ht hk hb (omega (arith, row_few (λ v. 0) p.drawing ht hk hb, ltb-false i 32 e))
 
-    pub entries_end : 32 ≤ i → (n : Net) (t k : ℕ) (p : Prepared s n plan) → t < length n.transitions → k < 3 → base ≡ t * 96 + k * 32 → P n t k p (holding p.drawing.slots base (length n.places))
-    entries_end g n t k p ht hk hb = all_entries n t k p ht hk hb (omega (arith, row_few (λ v. 0) p.drawing ht hk hb))
+-- ---- going over the entries
+-- it has come to number i, up to which something holds
+pub record Upto (plan : List ℕ) (base : ℕ) (left : Left) (P : ℕ → Type 0) : Type 0 where
+  pub i : ℕ
+  pub few : i ≤ 32
+  pub plan_is : left.plan.now ≡ plan
+  pub at_is : left.at ≡ base + i
+  pub end_is : left.end ≡ base + 32
+  pub holds : P i
+
+-- it begins
+pub upto_begins : {plan : List ℕ} {base : ℕ} {all left : Left} {P : ℕ → Type 0} → left ≡ all → (all.plan.now ≡ plan) × (all.at ≡ base) × (all.end ≡ base + 32) → P 0 → Upto plan base left P
+upto_begins e (same, at, end) holds = rw e (record { i = 0; few = omega arith; plan_is = same; at_is = omega arith; end_is = end; holds = holds })
+
+module _ {plan : List ℕ} {base : ℕ} {left : Left} {P : ℕ → Type 0} (u : Upto plan base left P) where
+  -- an entry more
+  pub upto_goes : {left' : Left} {Q : ℕ → Type 0} {entry : ℕ} → Told left.plan.now left.at left.end (Some entry) left'.plan.now left'.at left'.end
+      → ((i : ℕ) → i < 32 → entry ≡ get_or (packed_in plan) (base + i) 0 → 1 ≤ entry → P i → Q (i + 1)) → Upto plan base left' Q
+  upto_goes {entry = entry} told step =
+      let (before, is, has, next) = told.entry in
+      let lt : u.i < 32 = omega arith in
+      record {
+        i = u.i + 1;
+        few = omega arith;
+        plan_is = told.same ∙ u.plan_is;
+        at_is = omega arith;
+        end_is = told.same_end ∙ u.end_is;
+        holds = step u.i lt (rw (u.plan_is, u.at_is) at is) has u.holds;
+      }
+
+  -- no entry is left
+  pub upto_ends : {plan' : List ℕ} {at' end' : ℕ} {C : Type 0} → Told left.plan.now left.at left.end None plan' at' end'
+      → ((i : ℕ) → i ≤ 32 → (i < 32 → get_or (packed_in plan) (base + i) 0 < 1) → P i → C) → C
+  upto_ends told end = end u.i u.few (λ h. rw (u.plan_is, u.at_is) at (told.entry (omega arith))) u.holds
 
 -- ---- one kind loaded, entry after entry
 -- where the lists have the room, the arcs of these places were appended
@@ -291,8 +330,5 @@ module _ {s plan env : List ℕ} {base : ℕ} {places₀ amounts₀ : List ℕ} 
     loaded_all all n t k p ht hk hb x y =
         subst (λ arcs. ArcsAppended arcs places₀ amounts₀ used places amounts end) (row_gives (bound env) p.drawing ht hk hb (length n.places) (omega arith)) (all n t k p ht hk hb x y)
 
-    pub kind_stops : {entry : ℕ} → i < 32 → entry ≡ get_or (packed_in plan) (base + i) 0 → entry < 1 → KindLoaded s plan env base places₀ amounts₀ used places amounts end
-    kind_stops {entry} h e free = loaded_all (entries_stop l.entries entry h e free)
-
-    pub kind_ends : 32 ≤ i → KindLoaded s plan env base places₀ amounts₀ used places amounts end
-    kind_ends g = loaded_all (entries_end l.entries g)
+    pub kind_ends : (i < 32 → get_or (packed_in plan) (base + i) 0 < 1) → KindLoaded s plan env base places₀ amounts₀ used places amounts end
+    kind_ends none_next = loaded_all (entries_end l.entries none_next)

@@ -21,7 +21,7 @@ use Rattle.rows.specs.internal.Effects.{place_slots, slots_below, row_slots}
 use Rattle.rows.specs.internal.Slots.{KindSlotted, RowSlotted, NetSlotted}
 use Rattle.prepared.proofs.Packing.{by_slot, held_none, held_some, holding_more}
 use Rattle.rows.proofs.Needing.{greatest_least, map_at}
-use Rattle.rows.proofs.Drawn.{slot, Entered, entered, Entries, entries_begin, entries_go, entries_stop, entries_end}
+use Rattle.rows.proofs.Drawn.{slot, Entered, entered, Entries, entries_begin, entries_go, entries_end}
 
 -- ---- sums over the places of a row that hold an arc
 snoc_sum : (f : ℕ → ℕ) (l : List ℕ) (x : ℕ) → sum (map f (l ++ (x ∷ []))) ≡ sum (map f l) + f x
@@ -104,11 +104,8 @@ module _ {s plan : List ℕ} {base : ℕ} where
         → SlotsUpto total n t k p (holding p.drawing.slots base (length n.places))) → KindSlotted s plan base total
     slotted_all all n t k p ht hk hb = omega (arith, all n t k p ht hk hb, held_slots p.drawing ht hk hb (length n.places) (omega arith))
 
-    pub slots_stop : (entry : ℕ) → i < 32 → entry ≡ get_or (packed_in plan) (base + i) 0 → entry < 1 → KindSlotted s plan base total
-    slots_stop entry h e free = slotted_all (entries_stop l entry h e free)
-
-    pub slots_end : 32 ≤ i → KindSlotted s plan base total
-    slots_end g = slotted_all (entries_end l g)
+    pub slots_end : (i < 32 → get_or (packed_in plan) (base + i) 0 < 1) → KindSlotted s plan base total
+    slots_end none_next = slotted_all (entries_end l none_next)
 
 -- the rows of a transition
 pub row_slotted : {s plan : List ℕ} {t takes puts hinders : ℕ} → KindSlotted s plan (t * 96) takes → KindSlotted s plan (t * 96 + 32) puts → KindSlotted s plan (t * 96 + 64) hinders

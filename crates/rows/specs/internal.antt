@@ -1,4 +1,5 @@
 -- What the code's own tables, lists and enums stand for. Contracts between functions and proofs cite these; no call for users does.
 pub mod Effects
+pub mod Entries
 pub mod Loading
 pub mod Slots

@@ -3,7 +3,8 @@ ghost use Rattle.std.specs.Prelude.{◌≡◌, ℕ, ◌≤◌, ◌<◌, ◌+◌,
 ghost use Rattle.sums.specs.internal.Slots.{slots_for};
 ghost use Rattle.rows.specs.internal.Slots.{KindSlotted, RowSlotted, NetSlotted};
 
-use plan::{arc_of, expression_of, ranks_of, transitions_of};
+use crate::entries::entries_of;
+use plan::{expression_of, ranks_of, transitions_of};
 use reading::byte_at;
 
 // The slots for the expression at a place of the file, over so many ranks.
@@ -12,26 +13,20 @@ fn slots_for(file: &[u8], at: usize, count: usize) -> usize
     ensures small { result ≤ count }
 {
     if byte_at(file, at) == 0x40 {
-        return if 1 <= count { 1 } else { count };
+        return count.min(1);
     }
     count
 }
 
-// For the arcs of a kind, entry after entry of its row in the packed table, up to the first 0.
+// For the arcs of a kind, whose row of entries begins at base.
 fn kind_slots(file: &[u8], plan: &[u32; 3584], base: usize) -> usize
     requires { base ≤ 3040 }
     ensures is { KindSlotted file.now plan.now base result }
     ensures small { result ≤ 262144 }
 {
     let mut total: usize = 0;
-    let mut i: usize = 0;
-    while i < 32 {
-        let entry = arc_of(plan, base + i);
-        if entry < 1 {
-            return total;
-        }
+    for entry in entries_of(plan, base) {
         total += slots_for(file, expression_of(entry), ranks_of(entry));
-        i += 1;
     }
     total
 }
@@ -49,26 +44,14 @@ fn row_slots(file: &[u8], plan: &[u32; 3584], t: usize) -> usize
     takes + puts + hinders
 }
 
-// The greater of two numbers.
-fn greater(a: usize, b: usize) -> usize
-    ensures first { a ≤ result }
-    ensures second { b ≤ result }
-    ensures least { (most : ℕ) → a ≤ most → b ≤ most → result ≤ most }
-{
-    if a < b { b } else { a }
-}
-
 // For the rows of any transition.
 pub fn most_slots(file: &[u8], plan: &[u32; 3584]) -> usize
     ensures is { NetSlotted file.now plan.now result }
     ensures small { result ≤ 786432 }
 {
-    let transitions = transitions_of(plan);
     let mut most: usize = 0;
-    let mut t: usize = 0;
-    while t < transitions {
-        most = greater(most, row_slots(file, plan, t));
-        t += 1;
+    for t in 0..transitions_of(plan) {
+        most = most.max(row_slots(file, plan, t));
     }
     most
 }
@@ -77,8 +60,5 @@ pub fn most_slots(file: &[u8], plan: &[u32; 3584]) -> usize
 pub fn is_small(slots: usize, len: usize) -> bool
     ensures { result ≡ leb (slots + len / 2) 1024 }
 {
-    if 1024 < slots {
-        return false;
-    }
-    slots + len / 2 <= 1024
+    slots <= 1024 && len / 2 <= 1024 - slots
 }

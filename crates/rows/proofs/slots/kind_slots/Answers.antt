@@ -1,27 +1,17 @@
 use native.Mathlib.Omega.{arith}
-use Rattle.rows.proofs.Slotting.{slots_begin, slots_go, slots_stop, slots_end}
+use Rattle.rows.proofs.Drawn.{upto_begins, upto_goes, upto_ends}
+use Rattle.rows.proofs.Slotting.{slots_begin, slots_go, slots_end}
 use Rattle.rows.proofs.slots.kind_slots.Goals as goal
 
-pub loop-i-init : goal.loop-i-init
-loop-i-init c = (omega arith, omega arith, slots_begin)
-
-pub arc_of-entry-requires : goal.arc_of-entry-requires
-arc_of-entry-requires c = omega (arith, c.requires, c.loop-i-test.true)
-
-pub returns-then-entry-lt1 : goal.returns-then-entry-lt1
-returns-then-entry-lt1 c = record { is = slots_stop c.loop-i.invariant.2 _ c.loop-i-test.true c.arc_of-entry.ensures c.if-entry-lt1.true; small = omega (arith, c.loop-i.invariant.0, c.loop-i.invariant.1) }
+pub loop-entry-init : goal.loop-entry-init
+loop-entry-init c = upto_begins c.into_iter-entry-iterator.ensures.into_iter_gives c.entries_of-entry-items.ensures (omega arith, slots_begin)
 
 pub overflow_add-total : goal.overflow_add-total
-overflow_add-total c = omega (arith, c.loop-i.invariant.0, c.loop-i.invariant.1, c.slots_for-total.ensures.small, c.ranks_of.ensures.small)
+overflow_add-total c = let few = c.loop-entry.invariant.few in let low = c.loop-entry.invariant.holds.0 in omega arith
 
-pub overflow_add-i : goal.overflow_add-i
-overflow_add-i c = omega (arith, c.loop-i-test.true)
-
-pub loop-i-smaller : goal.loop-i-smaller
-loop-i-smaller c = omega (arith, c.loop-i-test.true)
-
-pub loop-i-preserved : goal.loop-i-preserved
-loop-i-preserved c = (omega (arith, c.loop-i-test.true), omega (arith, c.loop-i.invariant.1, c.slots_for-total.ensures.small, c.ranks_of.ensures.small), slots_go c.loop-i.invariant.2 _ _ c.loop-i-test.true c.arc_of-entry.ensures c.if-entry-lt1.false (rw (← c.expression_of.ensures, ← c.ranks_of.ensures.is) c.slots_for-total.ensures.is))
+pub loop-entry-preserved : goal.loop-entry-preserved
+loop-entry-preserved c = upto_goes c.loop-entry.invariant c.in-Some.ensures.steps
+    (λ i h e has so_far. (omega (arith, so_far.0), slots_go so_far.1 _ _ h e has (rw (← c.expression_of.ensures, ← c.ranks_of.ensures.is) c.slots_for-total.ensures.is)))
 
 pub returns : goal.returns
-returns c = record { is = slots_end c.loop-i.invariant.2 c.loop-i-test.false; small = omega (arith, c.loop-i.invariant.0, c.loop-i.invariant.1) }
+returns c = upto_ends c.loop-entry.invariant c.in-None.ensures.steps (λ i few none_next so_far. record { is = slots_end so_far.1 none_next; small = omega (arith, so_far.0) })

@@ -1,9 +1,6 @@
-use Prim.Native.Nat.{◌≤◌, ◌-◌}
+use Prim.Native.Nat.{◌≤◌}
 use Rattle.rows.proofs.Slotting.{Enough}
 use Rattle.rows.proofs.slots.most_slots.Given as goal
 
 abbrev pub invariant-loop-t : goal.invariant-loop-t
-invariant-loop-t l = (l.t ≤ l.transitions) × (l.most ≤ 786432) × Enough l.file l.plan l.most l.t × (l.transitions ≤ 32)
-
-abbrev pub decreases-loop-t : goal.decreases-loop-t
-decreases-loop-t l = l.transitions - l.t
+invariant-loop-t l = (l.most ≤ 786432) × Enough l.file l.plan l.most l.t
