@@ -8,7 +8,7 @@ use lib.ListN.{get_or-eq_default}
 use lib.Seq.{take_all}
 use Rattle.reading.specs.Basics.{ℕ, Bool, true, false, List, [], flat_map, Option, none, some, option_map, length, get_or, take, ltb, eqb}
 use Rattle.reading.specs.Reading.{fine}
-use Rattle.firing.specs.Arcs.{Arc}
+use Rattle.firing.specs.declared.Arc.{Arc}
 use Rattle.net.specs.Net as net
 use Rattle.net.specs.Net.{Expression, Place, single, pair, Net, net, colours_of, place_at, arc_on, scope, transition_at}
 use Rattle.net.specs.Reader.{read_expression}
@@ -178,32 +178,32 @@ module _ {s : List ℕ} {n : Net} {plan : List ℕ} (env : List ℕ) (prepared :
   over = scope_in plan n.places
 
   -- the expression of an arc on a place was
-  place_loads : (entry p : ℕ) (e : Expression) {places amounts places' amounts' : List ℕ} {used r next : ℕ} → entry / 16384 % 8192 ≡ start_of n p
+  place_loads : (entry p : ℕ) (e : Expression) {list list' : List Arc} {used r next : ℕ} → entry / 16384 % 8192 ≡ start_of n p
       → entry / 2 % 8192 ≡ colours_of n (place_at n p) → eqb (entry % 2) 1 ≡ is_pair (place_at n p)
-      → ArcLoaded s plan env entry places amounts used places' amounts' r
+      → ArcLoaded s plan env entry list used list' r
       → read_expression s over (place_at n p) 16 (entry / 134217728) ≡ fine e next
-      → used + expression_slots (colours_of n (place_at n p)) e + length s / 2 ≤ length places → used + expression_slots (colours_of n (place_at n p)) e + length s / 2 ≤ length amounts
-      → ArcsAppended (rank_arcs (start_of n p) (colours_of n (place_at n p)) (λ rank. weight n (bound env) rank e)) places amounts used places' amounts' r
-  place_loads entry p e {places} {amounts} {places'} {amounts'} {used} {r} {next} begins many paired loaded reads x y =
+      → used + expression_slots (colours_of n (place_at n p)) e + length s / 2 ≤ length list
+      → ArcsAppended (rank_arcs (start_of n p) (colours_of n (place_at n p)) (λ rank. weight n (bound env) rank e)) list used list' r
+  place_loads entry p e {list} {list'} {used} {r} {next} begins many paired loaded reads x =
       let by = place_by_lem (place_at n p) in
-      subst (λ l. ArcsAppended l places amounts used places' amounts' r)
+      subst (λ l. ArcsAppended l list used list' r)
       (rank_same (entry / 16384 % 8192) (start_of n p) (entry / 2 % 8192) (colours_of n (place_at n p)) (λ rank. weight over (bound env) rank e) (λ rank. weight n (bound env) rank e) begins many
       (λ rank. weight_alike over n (sym d.sets) (sym d.variables) (bound env) rank e))
       (loaded n.places by.0 by.1 next e
       (ap (λ b. read_expression s over (place_by b by.0 by.1) 16 (entry / 134217728)) paired ∙ ap (λ q. read_expression s over q 16 (entry / 134217728)) by.2 ∙ reads)
-      (omega (arith, few)) (omega (arith, few)))
+      (omega (arith, few)))
     where
       few : slots_for s (entry / 134217728) (entry / 2 % 8192) ≡ expression_slots (colours_of n (place_at n p)) e
       few = slots_told s over (place_at n p) (entry / 134217728) (entry / 2 % 8192) reads ∙ ap (λ c. expression_slots c e) many
 
   pub row_loads : (i entry : ℕ) → i < 32 → i ≤ length (holding d.slots base (length n.places)) → entry ≡ get_or (packed_in plan) (base + i) 0 → 1 ≤ entry
-      → {places₀ amounts₀ places amounts places' amounts' : List ℕ} {used end end' : ℕ}
-      → ArcsAppended (flat_map (place_arcs n (transition_at n t) (bound env) (0x16 + k)) (take i (holding d.slots base (length n.places)))) places₀ amounts₀ used places amounts end
-      → ArcLoaded s plan env entry places amounts end places' amounts' end'
-      → used + kind_slots n (transition_at n t) (0x16 + k) + length s / 2 ≤ length places₀ → used + kind_slots n (transition_at n t) (0x16 + k) + length s / 2 ≤ length amounts₀
-      → ArcsAppended (flat_map (place_arcs n (transition_at n t) (bound env) (0x16 + k)) (take (i + 1) (holding d.slots base (length n.places)))) places₀ amounts₀ used places' amounts' end'
-  row_loads i entry h far e has {places₀} {amounts₀} {places} {amounts} {places'} {amounts'} {used} {end} {end'} so_far loaded x y =
-      subst (λ l. ArcsAppended l places₀ amounts₀ used places' amounts' end') (sym en.with_it) (append_join before (here (arc_on (transition_at n t).arcs (0x16 + k) p) refl (slot (bound env) d ht hk hb p en.inside)))
+      → {list₀ list list' : List Arc} {used end end' : ℕ}
+      → ArcsAppended (flat_map (place_arcs n (transition_at n t) (bound env) (0x16 + k)) (take i (holding d.slots base (length n.places)))) list₀ used list end
+      → ArcLoaded s plan env entry list end list' end'
+      → used + kind_slots n (transition_at n t) (0x16 + k) + length s / 2 ≤ length list₀
+      → ArcsAppended (flat_map (place_arcs n (transition_at n t) (bound env) (0x16 + k)) (take (i + 1) (holding d.slots base (length n.places)))) list₀ used list' end'
+  row_loads i entry h far e has {list₀} {list} {list'} {used} {end} {end'} so_far loaded x =
+      subst (λ l. ArcsAppended l list₀ used list' end') (sym en.with_it) (append_join before (here (arc_on (transition_at n t).arcs (0x16 + k) p) refl (slot (bound env) d ht hk hb p en.inside)))
     where
       en : Entered (bound env) d ht hk hb i entry
       en = entered (bound env) d ht hk hb i entry h far e has
@@ -211,8 +211,8 @@ module _ {s : List ℕ} {n : Net} {plan : List ℕ} (env : List ℕ) (prepared :
       p : ℕ
       p = en.place
 
-      before : ArcsAppended (kind_arcs n (transition_at n t) (bound env) (0x16 + k) p) places₀ amounts₀ used places amounts end
-      before = subst (λ l. ArcsAppended l places₀ amounts₀ used places amounts end) en.before so_far
+      before : ArcsAppended (kind_arcs n (transition_at n t) (bound env) (0x16 + k) p) list₀ used list end
+      before = subst (λ l. ArcsAppended l list₀ used list end) en.before so_far
 
       room : end + place_slots n (transition_at n t) (0x16 + k) p ≤ used + kind_slots n (transition_at n t) (0x16 + k)
       room =
@@ -222,12 +222,12 @@ module _ {s : List ℕ} {n : Net} {plan : List ℕ} (env : List ℕ) (prepared :
 
       here : (o : Option net.Arc) → arc_on (transition_at n t).arcs (0x16 + k) p ≡ o
           → Slot (read_expression s over (place_at n p) 16) (option_map (λ a. a.expression) o) (get_or d.slots (base + p) 0)
-          → ArcsAppended (place_arcs n (transition_at n t) (bound env) (0x16 + k) p) places amounts end places' amounts' end'
+          → ArcsAppended (place_arcs n (transition_at n t) (bound env) (0x16 + k) p) list end list' end'
       here none q sl = absurd (omega (arith, en.held))
       here (some a) q sl =
           let needs : place_slots n (transition_at n t) (0x16 + k) p ≡ expression_slots (colours_of n (place_at n p)) a.expression = rw q refl in
-          subst (λ l. ArcsAppended l places amounts end places' amounts' end') (arcs_given (bound env) d ht hk hb p a q)
-          (place_loads entry p a.expression en.starts_at en.ranks en.paired loaded (ap (read_expression s over (place_at n p) 16) en.stands_at ∙ sl.1.reads) (omega (arith, needs, room, before.size)) (omega (arith, needs, room, before.sizes)))
+          subst (λ l. ArcsAppended l list end list' end') (arcs_given (bound env) d ht hk hb p a q)
+          (place_loads entry p a.expression en.starts_at en.ranks en.paired loaded (ap (read_expression s over (place_at n p) 16) en.stands_at ∙ sl.1.reads) (omega (arith, needs, room, before.size)))
 
 -- ---- the entries of a row, one after the other up to the first 0
 -- so many are there, and a property holds of the places that they stand for
@@ -302,33 +302,33 @@ module _ {plan : List ℕ} {base : ℕ} {left : Left} {P : ℕ → Type 0} (u : 
   upto_ends told end = end u.i u.few (λ h. rw (u.plan_is, u.at_is) at (told.entry (omega arith))) u.holds
 
 -- ---- one kind loaded, entry after entry
--- where the lists have the room, the arcs of these places were appended
-abbrev pub PlacesLoaded : {s plan : List ℕ} (env places₀ amounts₀ : List ℕ) (used : ℕ) (places amounts : List ℕ) (end : ℕ) (n : Net) (t k : ℕ) → Prepared s n plan → List ℕ → Type 0
-PlacesLoaded {s} env places₀ amounts₀ used places amounts end n t k p l =
-    used + kind_slots n (transition_at n t) (0x16 + k) + length s / 2 ≤ length places₀ → used + kind_slots n (transition_at n t) (0x16 + k) + length s / 2 ≤ length amounts₀
-    → ArcsAppended (flat_map (place_arcs n (transition_at n t) (bound env) (0x16 + k)) l) places₀ amounts₀ used places amounts end
+-- where the list has the room, the arcs of these places were appended
+abbrev pub PlacesLoaded : {s plan : List ℕ} (env : List ℕ) (list₀ : List Arc) (used : ℕ) (list : List Arc) (end : ℕ) (n : Net) (t k : ℕ) → Prepared s n plan → List ℕ → Type 0
+PlacesLoaded {s} env list₀ used list end n t k p l =
+    used + kind_slots n (transition_at n t) (0x16 + k) + length s / 2 ≤ length list₀
+    → ArcsAppended (flat_map (place_arcs n (transition_at n t) (bound env) (0x16 + k)) l) list₀ used list end
 
-pub record KindLoading (s plan env : List ℕ) (base : ℕ) (places₀ amounts₀ : List ℕ) (used : ℕ) (places amounts : List ℕ) (end i : ℕ) : Type 0 where
-  pub entries : Entries {s = s} {plan = plan} base (PlacesLoaded env places₀ amounts₀ used places amounts end) i
+pub record KindLoading (s plan env : List ℕ) (base : ℕ) (list₀ : List Arc) (used : ℕ) (list : List Arc) (end i : ℕ) : Type 0 where
+  pub entries : Entries {s = s} {plan = plan} base (PlacesLoaded env list₀ used list end) i
 
-module _ {s plan env : List ℕ} {base : ℕ} {places₀ amounts₀ : List ℕ} {used : ℕ} where
-  pub kind_begins : KindLoading s plan env base places₀ amounts₀ used places₀ amounts₀ used 0
+module _ {s plan env : List ℕ} {base : ℕ} {list₀ : List Arc} {used : ℕ} where
+  pub kind_begins : KindLoading s plan env base list₀ used list₀ used 0
   unfolding flat_map
-  kind_begins = record { entries = entries_begin (λ n t k p x y. append_none places₀ amounts₀ used) }
+  kind_begins = record { entries = entries_begin (λ n t k p x. append_none list₀ used) }
 
-  module _ {places amounts : List ℕ} {end i : ℕ} (l : KindLoading s plan env base places₀ amounts₀ used places amounts end i) where
-    pub kind_goes : {places' amounts' : List ℕ} {entry end' : ℕ} → i < 32 → entry ≡ get_or (packed_in plan) (base + i) 0 → 1 ≤ entry
-        → ArcLoaded s plan env entry places amounts end places' amounts' end'
-        → KindLoading s plan env base places₀ amounts₀ used places' amounts' end' (i + 1)
+  module _ {list : List Arc} {end i : ℕ} (l : KindLoading s plan env base list₀ used list end i) where
+    pub kind_goes : {list' : List Arc} {entry end' : ℕ} → i < 32 → entry ≡ get_or (packed_in plan) (base + i) 0 → 1 ≤ entry
+        → ArcLoaded s plan env entry list end list' end'
+        → KindLoading s plan env base list₀ used list' end' (i + 1)
     kind_goes {entry = entry} h e has loaded = record {
-      entries = entries_go l.entries entry h e has (λ n t k p ht hk hb far so_far x y. row_loads env p ht hk hb i entry h far e has (so_far x y) loaded x y);
+      entries = entries_go l.entries entry h e has (λ n t k p ht hk hb far so_far x. row_loads env p ht hk hb i entry h far e has (so_far x) loaded x);
     }
 
     -- the arcs of its places are the kind's
     loaded_all : ((n : Net) (t k : ℕ) (p : Prepared s n plan) → t < length n.transitions → k < 3 → base ≡ t * 96 + k * 32
-        → PlacesLoaded env places₀ amounts₀ used places amounts end n t k p (holding p.drawing.slots base (length n.places))) → KindLoaded s plan env base places₀ amounts₀ used places amounts end
-    loaded_all all n t k p ht hk hb x y =
-        subst (λ arcs. ArcsAppended arcs places₀ amounts₀ used places amounts end) (row_gives (bound env) p.drawing ht hk hb (length n.places) (omega arith)) (all n t k p ht hk hb x y)
+        → PlacesLoaded env list₀ used list end n t k p (holding p.drawing.slots base (length n.places))) → KindLoaded s plan env base list₀ used list end
+    loaded_all all n t k p ht hk hb x =
+        subst (λ arcs. ArcsAppended arcs list₀ used list end) (row_gives (bound env) p.drawing ht hk hb (length n.places) (omega arith)) (all n t k p ht hk hb x)
 
-    pub kind_ends : (i < 32 → get_or (packed_in plan) (base + i) 0 < 1) → KindLoaded s plan env base places₀ amounts₀ used places amounts end
+    pub kind_ends : (i < 32 → get_or (packed_in plan) (base + i) 0 < 1) → KindLoaded s plan env base list₀ used list end
     kind_ends none_next = loaded_all (entries_end l.entries none_next)

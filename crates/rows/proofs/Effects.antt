@@ -9,7 +9,8 @@ use Rattle.reading.specs.Basics.{ℕ, Bool, true, false, List, [], Option, none,
 use Rattle.reading.proofs.Lists.{In, here, there, in_cases}
 use Rattle.firing.specs.Firing.{Weights, fired, fire}
 use Rattle.firing.specs.internal.Steps.{lacking}
-use Rattle.firing.specs.Arcs.{Arc, arcs_of, row, weights, Proper}
+use Rattle.firing.specs.declared.Arc.{Arc}
+use Rattle.firing.specs.Arcs.{arcs_of, row, weights, Proper}
 use Rattle.firing.specs.internal.RowLists.{arcs_in, row_in}
 use Rattle.firing.proofs.Rule.{fires_3}
 use Rattle.firing.proofs.Agree.{fire-same}
@@ -20,7 +21,8 @@ use Rattle.net.specs.Values.{weight}
 use Rattle.evaluation.specs.internal.Evaluated.{bound}
 use Rattle.net.proofs.Alike.{weight-bound}
 use Rattle.runs.specs.internal.Terms.{ArcsAppended}
-use Rattle.runs.proofs.Appending.{arcs_kept}
+use Rattle.firing.proofs.Rows.{arcs_front}
+use Rattle.runs.proofs.Appending.{kept_shorter}
 use Rattle.bindings.specs.Effect.{Binding, FlatPlace, stands_for, flat_places, arc_weight, effect, flat_row}
 use Rattle.prepared.specs.internal.Prepared.{Prepared}
 use Rattle.rows.specs.internal.Effects.{kind_slots, row_slots, room, kind_arcs, TakesLoaded, RowLoaded}
@@ -96,27 +98,27 @@ module _ {s : List ℕ} {n : Net} {plan : List ℕ} (env : List ℕ) (prepared :
   rows_of kind = kind_row n (transition_at n t) (bound env) other binds kind
 
   -- the takes were appended
-  pub takes_loaded : {places amounts p1 a1 : List ℕ} {end : ℕ} → room s n ≤ length places → room s n ≤ length amounts
-      → KindLoaded s plan env (t * 96) places amounts 0 p1 a1 end → TakesLoaded n (binding t colours) p1 a1 end
-  takes_loaded x y k1 =
-      let first = k1 n t 0 prepared ht (omega arith) (omega arith) (omega (arith, wide)) (omega (arith, wide)) in
+  pub takes_loaded : {list list' : List Arc} {end : ℕ} → room s n ≤ length list
+      → KindLoaded s plan env (t * 96) list 0 list' end → TakesLoaded n (binding t colours) list' end
+  takes_loaded x k1 =
+      let first = k1 n t 0 prepared ht (omega arith) (omega arith) (omega (arith, wide)) in
       record {
         takes = λ w is. first.are ∙ rows_of 0x16 ∙ ap (λ w. arcs_of (flat_place_count n) w.take) (effect_weighs n (binding t colours) is);
         few = omega (arith, low 0x16, first.end);
       }
 
   -- the puts and hinders were appended to the takes, one after the other
-  pub effect_rest : {p1 a1 p2 a2 p3 a3 : List ℕ} {takes puts hinders : ℕ} → room s n ≤ length p1 → room s n ≤ length a1
-      → TakesLoaded n (binding t colours) p1 a1 takes
-      → KindLoaded s plan env (t * 96 + 32) p1 a1 takes p2 a2 puts
-      → KindLoaded s plan env (t * 96 + 64) p2 a2 puts p3 a3 hinders
-      → RowLoaded n (binding t colours) p3 a3 takes puts hinders
-  effect_rest {p1} {a1} {p2} {a2} {p3} {a3} {takes} {puts} {hinders} x y k k2 k3 =
+  pub effect_rest : {l1 l2 l3 : List Arc} {takes puts hinders : ℕ} → room s n ≤ length l1
+      → TakesLoaded n (binding t colours) l1 takes
+      → KindLoaded s plan env (t * 96 + 32) l1 takes l2 puts
+      → KindLoaded s plan env (t * 96 + 64) l2 puts l3 hinders
+      → RowLoaded n (binding t colours) l3 takes puts hinders
+  effect_rest {l1} {l2} {l3} {takes} {puts} {hinders} x k k2 k3 =
       record {
         row = λ w is.
             let same = effect_weighs n (binding t colours) is in
-            rows (arcs_kept p2 a2 p3 a3 0 takes (shorter p2 p3 third.front) (shorter a2 a3 third.fronts) ∙ arcs_kept p1 a1 p2 a2 0 takes second.front second.fronts ∙ k.takes w is)
-            (arcs_kept p2 a2 p3 a3 takes puts third.front third.fronts ∙ second.are ∙ rows_of 0x17 ∙ ap (λ w. arcs_of (flat_place_count n) w.put) same)
+            rows (arcs_front l3 l2 0 takes (kept_shorter takes puts l3 l2 (omega (arith, second.end)) third.front) ∙ arcs_front l2 l1 0 takes second.front ∙ k.takes w is)
+            (arcs_front l3 l2 takes puts third.front ∙ second.are ∙ rows_of 0x17 ∙ ap (λ w. arcs_of (flat_place_count n) w.put) same)
             (third.are ∙ rows_of 0x18 ∙ ap (λ w. arcs_of (flat_place_count n) w.hinder) same);
         puts_after = omega (arith, second.end);
         hinders_after = omega (arith, third.end);
@@ -124,38 +126,35 @@ module _ {s : List ℕ} {n : Net} {plan : List ℕ} (env : List ℕ) (prepared :
         inside = omega (arith, k.few, low 0x17, low 0x18, second.end, third.end);
       }
     where
-      second : ArcsAppended (arcs_of_lem 0x17) p1 a1 takes p2 a2 puts
-      second = k2 n t 1 prepared ht (omega arith) (omega arith) (omega (arith, wide, k.few)) (omega (arith, wide, k.few))
+      second : ArcsAppended (arcs_of_lem 0x17) l1 takes l2 puts
+      second = k2 n t 1 prepared ht (omega arith) (omega arith) (omega (arith, wide, k.few))
 
-      third : ArcsAppended (arcs_of_lem 0x18) p2 a2 puts p3 a3 hinders
-      third = k3 n t 2 prepared ht (omega arith) (omega arith) (omega (arith, wide, k.few, low 0x17, second.end, second.size)) (omega (arith, wide, k.few, low 0x17, second.end, second.sizes))
-
-      shorter : (l l' : List ℕ) → take puts l' ≡ take puts l → take takes l' ≡ take takes l
-      shorter l l' q = let u : takes ≤ puts = omega (arith, second.end) in sym (take-take takes puts l' u) ∙ ap (take takes) q ∙ take-take takes puts l u
+      third : ArcsAppended (arcs_of_lem 0x18) l2 puts l3 hinders
+      third = k3 n t 2 prepared ht (omega arith) (omega arith) (omega (arith, wide, k.few, low 0x17, second.end, second.size))
 
       rows : {a b c a' b' c' : List Arc} → a ≡ a' → b ≡ b' → c ≡ c' → row a b c ≡ row a' b' c'
       rows f g h = cc
 
 -- ---- for callers: firing the row that was loaded is firing the effect
-module _ {n : Net} {b : Binding} {places amounts : List ℕ} {takes puts hinders : ℕ} (l : RowLoaded n b places amounts takes puts hinders) {w : Weights} (is : effect n b ≡ some w)
+module _ {n : Net} {b : Binding} {list : List Arc} {takes puts hinders : ℕ} (l : RowLoaded n b list takes puts hinders) {w : Weights} (is : effect n b ≡ some w)
     (m : List ℕ) (sized : length m ≡ flat_place_count n) where
   -- what firing asks of a row
-  pub loaded_proper : Proper (length m) (row_in places amounts takes puts hinders)
+  pub loaded_proper : Proper (length m) (row_in list takes puts hinders)
   loaded_proper = rw (l.row w is, sized) (row_proper (flat_place_count n) w)
 
   -- the row's weights fire as the effect's
-  pub loaded_fires : (caps : List ℕ) → fire caps (weights (row_in places amounts takes puts hinders)) m ≡ fire caps w m
+  pub loaded_fires : (caps : List ℕ) → fire caps (weights (row_in list takes puts hinders)) m ≡ fire caps w m
   loaded_fires caps = ap (λ r. fire caps (weights r) m) (l.row w is) ∙ fire-same caps (weights (flat_row n w)) w m (rw sized (row_agrees (flat_place_count n) w))
 
 -- the takes alone
-module _ {n : Net} {b : Binding} {places amounts : List ℕ} {end : ℕ} (k : TakesLoaded n b places amounts end) {w : Weights} (is : effect n b ≡ some w) (m : List ℕ) where
+module _ {n : Net} {b : Binding} {list : List Arc} {end : ℕ} (k : TakesLoaded n b list end) {w : Weights} (is : effect n b ≡ some w) (m : List ℕ) where
   -- one is lacking
-  pub takes_lack : (caps : List ℕ) → length m ≡ flat_place_count n → any (lacking m) (arcs_in places amounts 0 end) ≡ true → fired 3 m ≡ fire caps w m
+  pub takes_lack : (caps : List ℕ) → length m ≡ flat_place_count n → any (lacking m) (arcs_in list 0 end) ≡ true → fired 3 m ≡ fire caps w m
   takes_lack caps sized e =
       fires_3 m (flat_row n w) (rw sized (row_proper (flat_place_count n) w)) caps (ap (any (lacking m)) (sym (k.takes w is)) ∙ e)
       ∙ fire-same caps (weights (flat_row n w)) w m (rw sized (row_agrees (flat_place_count n) w))
 
   -- none is, nor in the whole row
-  pub none_lacks : {p' a' : List ℕ} {takes puts hinders : ℕ} → RowLoaded n b p' a' takes puts hinders → any (lacking m) (arcs_in places amounts 0 end) ≡ false
-      → any (lacking m) (arcs_in p' a' 0 takes) ≡ false
+  pub none_lacks : {list' : List Arc} {takes puts hinders : ℕ} → RowLoaded n b list' takes puts hinders → any (lacking m) (arcs_in list 0 end) ≡ false
+      → any (lacking m) (arcs_in list' 0 takes) ≡ false
   none_lacks l e = ap (any (lacking m)) (ap (λ r. r.takes) (l.row w is) ∙ sym (k.takes w is)) ∙ e

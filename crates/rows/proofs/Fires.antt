@@ -1,15 +1,17 @@
 -- What follows from the tables of an accepted net, for the calls, and from a row that was loaded to be fired. Assumes nothing.
 use Rattle.std.specs.Prelude.{◌+◌, ◌*◌, ◌/◌}
-use mathlib.Core.Path.{◌≡◌, sym, ◌∙◌}
+use mathlib.Core.Path.{◌≡◌, sym, ap, ◌∙◌}
 use Prim.Native.Nat.{◌≤◌, ◌<◌}
 use native.Mathlib.Omega.{arith}
 use borrow.Author.Tests.{leb-true}
-use Rattle.reading.specs.Basics.{ℕ, Bool, true, false, not, List, [], none, some, map, length, leb, any}
+use Rattle.reading.specs.Basics.{ℕ, Bool, true, false, not, List, [], none, some, map, length, take, leb, any}
 use Rattle.reading.specs.Reading.{accepted}
 use Rattle.reading.proofs.Clash.{not_true, not_false}
 use Rattle.firing.specs.Firing.{fired}
 use Rattle.firing.specs.internal.RowLists.{arcs_in}
-use Rattle.firing.specs.internal.Steps.{lacking, Within}
+use Rattle.firing.specs.internal.Steps.{lacking}
+use Rattle.firing.specs.declared.Arc.{Arc}
+use Rattle.firing.proofs.Rows.{arcs_first}
 use Rattle.firing.specs.declared.Ends.{Ends}
 use Rattle.net.specs.Net.{Net, flat_place_count, variables_of, transition_at}
 use Rattle.net_file.specs.NetFile.{read_net}
@@ -52,27 +54,25 @@ none_fires n b m {r} told e = rw (effect_none n b (sym told ∙ not_true r e))
 -- it has one, and its takes were loaded, of which the code tells whether one is lacking
 module _ {s plan : List ℕ} {n : Net} (env : List ℕ) (p : Prepared s n plan) (t : ℕ) (ht : t < length n.transitions) (colours : List ℕ) (binds : Binds n (binding t colours) env)
     (m : List ℕ) (sized : length m ≡ flat_place_count n) {r : Bool} (told : r ≡ legal n (binding t colours)) (has : not r ≡ false)
-    {places amounts ps ws : List ℕ} {end : ℕ} (x : room s n ≤ length places) (y : room s n ≤ length amounts)
-    (kind : KindLoaded s plan env (t * 96) places amounts 0 ps ws end) (kept : length ps ≡ length places) (kept' : length ws ≡ length amounts)
-    {lacks : Bool} (says : Within ps ws end → lacks ≡ any (lacking m) (arcs_in ps ws 0 end)) where
-  takes : TakesLoaded n (binding t colours) ps ws end
-  takes = takes_loaded env p t ht colours binds x y kind
+    {list list' : List Arc} {end : ℕ} (x : room s n ≤ length list) (kind : KindLoaded s plan env (t * 96) list 0 list' end)
+    {lacks : Bool} (says : lacks ≡ any (lacking m) (take end list')) where
+  takes : TakesLoaded n (binding t colours) list' end
+  takes = takes_loaded env p t ht colours binds x kind
 
   is : effect n (binding t colours) ≡ some (weights_of n (transition_at n t) (stands_for (variables_of n (transition_at n t)) colours))
   is = effect-legal n (binding t colours) (sym told ∙ not_false r has)
 
-  lacks_is : lacks ≡ any (lacking m) (arcs_in ps ws 0 end)
-  lacks_is = says (omega (arith, takes.few, row_room s n t ht), omega (arith, takes.few, row_room s n t ht))
+  lacks_is : lacks ≡ any (lacking m) (arcs_in list' 0 end)
+  lacks_is = says ∙ ap (any (lacking m)) (sym (arcs_first list' end))
 
   pub lack_fires : lacks ≡ true → fired 3 m ≡ fire_binding n (binding t colours) m
   lack_fires e = rw is (takes_lack takes is m [] sized (sym lacks_is ∙ e))
 
   -- none is, and the rest was loaded
-  pub row_ready : lacks ≡ false → {p' a' : List ℕ} {ends : Ends} → LoadsRest s plan env t end ps ws p' a' ends → length p' ≡ length ps → length a' ≡ length ws → RowReady n (binding t colours) m p' a' ends
-  row_ready e rest size size' =
-      let l = rest n colours p ht binds (omega arith) (omega arith) takes in
+  pub row_ready : lacks ≡ false → length list' ≡ length list → {list'' : List Arc} {ends : Ends} → LoadsRest s plan env t end list' list'' ends → RowReady n (binding t colours) m list'' ends
+  row_ready e kept rest =
+      let l = rest n colours p ht binds (omega arith) takes in
       record {
-        within = (l.puts_after, l.hinders_after, (omega (arith, l.inside, row_room s n t ht), omega (arith, l.inside, row_room s n t ht)));
         proper = loaded_proper l is m sized;
         there = none_lacks takes is m l (sym lacks_is ∙ e);
         fires = rw is (loaded_fires l is m sized []);

@@ -10,7 +10,8 @@ use lib.ListN.{length-append, length-map}
 use Rattle.reading.specs.Basics.{ℕ, zero, suc, Bool, true, false, List, [], map, flat_map, none, length, get_elem?, ltb, given, keep, numbers_from, below, product, every}
 use Rattle.reading.proofs.Lists.{map_same, map_from, length_from, flat_more}
 use Rattle.reading.proofs.Gives.{both_first, both_second}
-use Rattle.firing.specs.Arcs.{Arc, arcs_of}
+use Rattle.firing.specs.declared.Arc.{Arc}
+use Rattle.firing.specs.Arcs.{arcs_of}
 use Rattle.net.specs.Net.{Transition, Net, size_of, sets_of, colours_of, place_at, flat_place_count, arc_on}
 use Rattle.net_file.specs.Limits.{Limits}
 use Rattle.sums.specs.internal.Loaded.{ranks_from, rank_arcs}

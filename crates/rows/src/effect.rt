@@ -1,34 +1,30 @@
-// Loads the effect of a binding as a row, into two lent lists, one of places and one of weights.
-ghost use Rattle.std.specs.Prelude.{◌≤◌, ◌<◌};
+// Loads the effect of a binding as a row, into a lent list of arcs.
+ghost use Rattle.std.specs.Prelude.{◌≤◌, ◌<◌, length, IfOk};
+ghost use Rattle.firing.specs.internal.RowLists.{EndsWithin};
 ghost use Rattle.rows.specs.internal.Loading.{KindLoaded, LoadsRest, LoadsRow, LoadsBound};
 
+use crate::entries::entries_of;
 use bindings::has_effect;
-use firing::{Ends, some_lacks};
+use firing::{Answer, Arc, Ends, some_lacks};
 use multiset::load_arc;
-use plan::arc_of;
 
-// Appends the arcs of a kind, entry after entry of its row in the packed table, up to the first 0.
+// Appends the arcs of a kind, whose row of entries begins at base.
 fn load_kind(
     file: &[u8],
     plan: &[u32; 3584],
     env: &[u8; 32],
     base: usize,
-    places: &mut [u16],
-    amounts: &mut [u16],
+    arcs: &mut [Arc],
     used: usize,
 ) -> usize
     requires { base ≤ 3040 }
-    ensures { KindLoaded file.now plan.now env.now base places.old amounts.old used places.new amounts.new result }
+    ensures is { KindLoaded file.now plan.now env.now base arcs.old used arcs.new result }
+    ensures low { used ≤ result }
+    ensures within { used ≤ length arcs.old → result ≤ length arcs.old }
 {
     let mut end = used;
-    let mut i: usize = 0;
-    while i < 32 {
-        let entry = arc_of(plan, base + i);
-        if entry < 1 {
-            return end;
-        }
-        end = load_arc(file, plan, env, entry, places, amounts, end);
-        i += 1;
+    for entry in entries_of(plan, base) {
+        end = load_arc(file, plan, env, entry, arcs, end);
     }
     end
 }
@@ -40,15 +36,15 @@ fn load_rest(
     env: &[u8; 32],
     t: usize,
     takes: usize,
-    places: &mut [u16],
-    amounts: &mut [u16],
+    arcs: &mut [Arc],
 ) -> Ends
     requires { t < 32 }
-    ensures { LoadsRest file.now plan.now env.now t takes places.old amounts.old places.new amounts.new result }
+    ensures is { LoadsRest file.now plan.now env.now t takes arcs.old arcs.new result }
+    ensures within { takes ≤ length arcs.old → EndsWithin arcs.new result.takes result.puts result.hinders }
 {
     let base = t * 96;
-    let puts = load_kind(file, plan, env, base + 32, places, amounts, takes);
-    let hinders = load_kind(file, plan, env, base + 64, places, amounts, puts);
+    let puts = load_kind(file, plan, env, base + 32, arcs, takes);
+    let hinders = load_kind(file, plan, env, base + 64, arcs, puts);
     Ends {
         takes,
         puts,
@@ -62,45 +58,36 @@ pub fn load_row(
     plan: &[u32; 3584],
     env: &[u8; 32],
     t: usize,
-    places: &mut [u16],
-    amounts: &mut [u16],
+    arcs: &mut [Arc],
 ) -> Ends
     requires { t < 32 }
-    ensures { LoadsRow file.now plan.now env.now t places.old amounts.old places.new amounts.new result }
+    ensures is { LoadsRow file.now plan.now env.now t arcs.old arcs.new result }
+    ensures within { EndsWithin arcs.new result.takes result.puts result.hinders }
 {
-    let takes = load_kind(file, plan, env, t * 96, places, amounts, 0);
-    load_rest(file, plan, env, t, takes, places, amounts)
+    let takes = load_kind(file, plan, env, t * 96, arcs, 0);
+    load_rest(file, plan, env, t, takes, arcs)
 }
 
-// A binding on a marking: it has no row; a take of its row is lacking; or none is, and its row stands in the lent lists.
-#[derive(Clone, Copy)]
-pub enum Loaded {
-    NoRow,
-    Lacking,
-    Row { ends: Ends },
-}
-
-// Loads a binding's row as far as firing it needs: its takes tell that one is lacking before its puts and hinders are loaded.
+// Loads a binding's row as far as firing it needs: where each kind ends, or the answer that comes before it is loaded whole.
+// Its takes tell that one is lacking before its puts and hinders are loaded.
 pub fn load_bound(
     file: &[u8],
     plan: &[u32; 3584],
     env: &[u8; 32],
     t: usize,
     m: &[u16],
-    places: &mut [u16],
-    amounts: &mut [u16],
-) -> Loaded
+    arcs: &mut [Arc],
+) -> Result<Ends, Answer>
     requires { t < 32 }
-    ensures { LoadsBound file.now plan.now env.now t m.now places.old amounts.old places.new amounts.new result }
+    ensures told { LoadsBound file.now plan.now env.now t m.now arcs.old arcs.new result }
+    ensures within { IfOk result (λ ends. EndsWithin arcs.new ends.takes ends.puts ends.hinders) }
 {
     if !has_effect(file, plan, env, t) {
-        return Loaded::NoRow;
+        return Err(Answer::NoRow);
     }
-    let end = load_kind(file, plan, env, t * 96, places, amounts, 0);
-    if some_lacks(places, amounts, end, m) {
-        return Loaded::Lacking;
+    let takes = load_kind(file, plan, env, t * 96, arcs, 0);
+    if some_lacks(&arcs[..takes], m) {
+        return Err(Answer::Lacking);
     }
-    Loaded::Row {
-        ends: load_rest(file, plan, env, t, end, places, amounts),
-    }
+    Ok(load_rest(file, plan, env, t, takes, arcs))
 }

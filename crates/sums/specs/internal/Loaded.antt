@@ -3,7 +3,6 @@ use Rattle.std.specs.Prelude.{◌≡◌, ◌≤◌, ◌<◌, ◌+◌, ◌*◌, �
 use Rattle.reading.specs.Basics.{ℕ, Bool, List, [], map, length, ltb, keep, numbers_from}
 use Rattle.reading.specs.Reading.{Answer, fine, fault}
 use Rattle.firing.specs.declared.Arc.{Arc}
-use Rattle.firing.specs.internal.RowLists.{arcs_in}
 use Rattle.plan.specs.internal.Layout.{sets_in, variables_in, expression_in, start_in, ranks_in, pair_in}
 use Rattle.net.specs.Net.{Expression, one, two, all, plus, minus, times, Place, Net, scope}
 use Rattle.net.specs.Reader.{read_expression}
@@ -66,11 +65,10 @@ ranks_from start w from n = keep (λ a. ltb 0 a.weight) (map (λ r. record { pla
 abbrev pub rank_arcs : ℕ → ℕ → (ℕ → ℕ) → List Arc
 rank_arcs start count w = ranks_from start w 0 count
 
--- terms that lie in the lent list from base up to stop, behind so many ranks, were turned into arcs
-abbrev pub TermsLoaded : ℕ → ℕ → ℕ → ℕ → ℕ → List Arc → ℕ → List Arc → ℕ → Type 0
-TermsLoaded start count base stop rest arcs used arcs' r =
-    (w : ℕ → ℕ) → Terms count 0 (arcs_in arcs base stop) → ((rank : ℕ) → rank < count → w rank ≡ count_in (arcs_in arcs base stop) rest rank)
-    → used + count ≤ base → base ≤ stop → stop ≤ length arcs
+-- terms were turned into arcs, where there is room for those of so many ranks
+abbrev pub TermsLoaded : ℕ → ℕ → List Arc → ℕ → List Arc → ℕ → List Arc → ℕ → Type 0
+TermsLoaded start count l rest arcs used arcs' r =
+    (w : ℕ → ℕ) → Terms count 0 l → ((rank : ℕ) → rank < count → w rank ≡ count_in l rest rank) → used + count ≤ length arcs
     → ArcsAppended (rank_arcs start count w) arcs used arcs' r
 
 -- the arcs of the expression that stands at a place of the file were appended, where there is room for them and half the file

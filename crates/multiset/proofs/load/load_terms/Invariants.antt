@@ -1,11 +1,13 @@
-use mathlib.Core.Path.{◌≡◌}
-use Prim.Native.Nat.{◌≤◌, ◌-◌}
+use Prim.Native.Nat.{◌≤◌}
 use lib.ListN.{length}
+use Rattle.reading.specs.Basics.{drop}
 use Rattle.multiset.proofs.Walking.{Walking}
 use Rattle.multiset.proofs.load.load_terms.Given as goal
 
-abbrev pub invariant-loop-i : goal.invariant-loop-i
-invariant-loop-i l = Walking l.start l.count l.base l.stop l.rest l.initial.places l.initial.amounts l.used l.places l.amounts l.end l.i l.rank × (l.rank ≤ l.count) × (length l.places ≡ length l.initial.places) × (length l.amounts ≡ length l.initial.amounts)
-
-abbrev pub decreases-loop-i : goal.decreases-loop-i
-decreases-loop-i l = l.stop - l.i
+abbrev pub invariant-loop-term : goal.invariant-loop-term
+invariant-loop-term l = record {
+  walking : Walking l.start l.count l.rest l.terms l.initial.arcs l.used (drop l.term-index l.terms) l.arcs l.end l.rank;
+  below : l.rank ≤ l.count;
+  low : l.used ≤ l.end;
+  within : l.used ≤ length l.initial.arcs → l.end ≤ length l.arcs;
+}

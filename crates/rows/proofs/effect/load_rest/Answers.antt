@@ -1,5 +1,5 @@
 use Rattle.rows.proofs.Effects.{effect_rest}
 use Rattle.rows.proofs.effect.load_rest.Goals as goal
 
-pub returns : goal.returns
-returns c = λ n colours p ht binds x y k. effect_rest c.args.env.now p _ ht colours binds x y k c.load_kind-puts.ensures c.load_kind-hinders.ensures
+pub returns-clause-is : goal.returns-clause-is
+returns-clause-is c = λ n colours p ht binds x k. effect_rest c.args.env.now p _ ht colours binds x k c.load_kind-puts.ensures.is c.load_kind-hinders.ensures.is

@@ -2,5 +2,5 @@ use native.Mathlib.Omega.{arith}
 use Rattle.rows.proofs.Effects.{takes_loaded}
 use Rattle.rows.proofs.effect.load_row.Goals as goal
 
-pub returns : goal.returns
-returns c = λ n colours p ht binds x y. c.load_rest.ensures n colours p ht binds (omega (arith, c.load_kind-takes.auto.places)) (omega (arith, c.load_kind-takes.auto.amounts)) (takes_loaded c.args.env.now p _ ht colours binds x y c.load_kind-takes.ensures)
+pub returns-clause-is : goal.returns-clause-is
+returns-clause-is c = λ n colours p ht binds x. c.load_rest.ensures.is n colours p ht binds (omega (arith, c.load_kind-takes.auto.arcs)) (takes_loaded c.args.env.now p _ ht colours binds x c.load_kind-takes.ensures.is)
