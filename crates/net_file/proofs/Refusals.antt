@@ -1,14 +1,16 @@
--- Every refusal of a net file has a number of at most 15, at a place of at most 16,384. Assumes nothing.
+-- Every refusal of a net file has a number from 1 to 15, at a place of at most 16,384. Assumes nothing.
 use Rattle.std.specs.Prelude.{◌+◌, ◌&&◌, ◌∷◌, if◌then◌else◌}
-use mathlib.Core.Path.{◌≡◌, refl}
+use mathlib.Core.Path.{◌≡◌, refl, sym, ap, ◌∙◌}
 use Prim.Native.Nat.{◌≤◌}
 use native.Mathlib.Omega.{arith}
 use borrow.Author.Tests.{ltb-false}
 use Rattle.reading.specs.Basics.{ℕ, zero, suc, Bool, true, false, List, [], length, ltb, leb, eqb, with, byte_at, word_at}
 use Rattle.reading.specs.Reading.{Answer, fault, outcome, refused, ◌unless◌, needed, file}
+use Rattle.reading.specs.Refusals.{number_of, reason_of}
+use Rattle.reading.specs.declared.refusal.Refusal.{Refusal}
 use Rattle.reading.proofs.Lists.{end, also}
 use Rattle.reading.proofs.Within.{by_test}
-use Rattle.reading.proofs.Faults.{Fits, goes, tells, From, Steps, checks_fit, given-fits, repeat-fits, of_refusal, then_fits, under-fits, standing-fits, needed-fits, file-fits}
+use Rattle.reading.proofs.Faults.{Fits, goes, tells, From, Steps, checks_fit, given-fits, repeat-fits, of_refusal, then_fits, under-fits, standing-fits, needed-fits, file-fits, numbered}
 use Rattle.net.specs.Net.{Colour, successor, predecessor, Guard, opposite, both, either, equal, less, Expression, plus, minus, times, Place, single, pair, Transition, Net, net, place_at, set_of, ceiling, variables_of, binding_space, scope}
 use Rattle.net.specs.Reader.{two_of, colour_commands, read_colour, comparison, guard_commands, read_guard, amount, capped, expression_commands, read_expression, read_guard_if}
 use Rattle.net.proofs.Shut.{commands}
@@ -19,7 +21,7 @@ use Rattle.net_file.specs.Limits.{RefusalsFit}
 
 -- what stands for the reading inside the deepest level: too deep (7)
 deep_fits : {A : Type 0} {len : ℕ} → From {A = A} len (fault 7)
-deep_fits at le = tells {number = 7} (omega arith) le
+deep_fits at le = tells {number = 7} (omega arith) (omega arith) le
 
 -- two expressions one after the other
 two_fits : {A B : Type 0} {len : ℕ} {inner : ℕ → Answer A} (join : A → A → B) → From len inner → From len (two_of inner join)
@@ -113,7 +115,7 @@ module _ (s : List ℕ) (n : Net) where
 
   -- 10 and 11 are told at the transition's own place
   ended-fits : (transitions : List Transition) (at : ℕ) → at ≤ length s → (t : Transition) → From (length s) (ended s n transitions at t)
-  ended-fits transitions at le t last there = by_test (Fits (length s)) (eqb (byte_at s last) 0x15) (λ e. tells {number = 3} (omega arith) there)
+  ended-fits transitions at le t last there = by_test (Fits (length s)) (eqb (byte_at s last) 0x15) (λ e. tells {number = 3} (omega arith) (omega arith) there)
       (λ e. checks_fit ((10 unless leb (length (variables_of n t)) 4) ∷ (11 unless leb (binding_space n (with transitions t)) 65536) ∷ []) refl le (goes there))
 
   transition_fits : Steps (length s) (transition_part s n)
@@ -137,13 +139,20 @@ content-fits s at le =
     then_fits (repeat-fits _ (tokens_fit s (net sets variables places transitions [])) _ [] at le) (λ tokens at le. goes le)))))
 
 -- a file that is not overlong has 16,384 bytes at most
-pub refusal-fits : (s : List ℕ) {number place : ℕ} → read_net s ≡ refused number place → (number ≤ 15) × (place ≤ 16384)
+pub refusal-fits : (s : List ℕ) {number place : ℕ} → read_net s ≡ refused number place → (1 ≤ number) × (number ≤ 15) × (place ≤ 16384)
 unfolding read_net
 refusal-fits s {number} {place} e = go (ltb 16384 (length s)) refl e
   where
-    go : (long : Bool) → ltb 16384 (length s) ≡ long → (if long then refused 1 16384 else outcome (file 0x01 (1 ∷ []) (content s) 0x1F s)) ≡ refused number place → (number ≤ 15) × (place ≤ 16384)
-    go true t q = let a : 1 ≡ number = cc in let b : 16384 ≡ place = cc in omega arith
-    go false t q = omega (arith, of_refusal (file-fits 0x01 (1 ∷ []) (content s) 0x1F s (content-fits s)) q, ltb-false 16384 (length s) t)
+    go : (long : Bool) → ltb 16384 (length s) ≡ long → (if long then refused 1 16384 else outcome (file 0x01 (1 ∷ []) (content s) 0x1F s)) ≡ refused number place
+        → (1 ≤ number) × (number ≤ 15) × (place ≤ 16384)
+    go true t q = let a : 1 ≡ number = cc in let b : 16384 ≡ place = cc in (omega arith, omega arith, omega arith)
+    go false t q =
+        let h = of_refusal (file-fits 0x01 (1 ∷ []) (content s) 0x1F s (content-fits s)) q in
+        (h.0, h.1, omega (arith, h.2, ltb-false 16384 (length s) t))
 
 pub refusals_fit : RefusalsFit
-refusals_fit s number place e = omega (arith, refusal-fits s e)
+refusals_fit s number place e = let h = refusal-fits s e in (h.1, h.2)
+
+-- a refusal by its reason
+pub by_reason : (s : List ℕ) {number : ℕ} (r : Refusal) → read_net s ≡ refused number r.place → reason_of number ≡ r.reason → read_net s ≡ refused (number_of r.reason) r.place
+by_reason s {number} r e q = let h = refusal-fits s e in e ∙ ap (λ k. refused k r.place) (sym (numbered number h.0 h.1) ∙ ap number_of q)

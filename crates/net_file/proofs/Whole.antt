@@ -1,5 +1,5 @@
 -- The whole file: part after part, and the first and the last command. Assumes nothing.
-use Rattle.std.specs.Prelude.{◌+◌, ◌∷◌}
+use Rattle.std.specs.Prelude.{◌+◌, ◌∷◌, Result, Ok, Err}
 use mathlib.Core.Path.{◌≡◌, refl, sym, ap, ◌∙◌}
 use Prim.Native.Nat.{◌≤◌, ◌<◌}
 use native.Mathlib.Omega.{arith}
@@ -9,7 +9,9 @@ use Rattle.std.proofs.lemmas.List.{get_or-map}
 use Rattle.reading.specs.Basics.{ℕ, List, [], some, length, get_or, take, eqb, byte_at}
 use Rattle.reading.proofs.Commands.{end, other, passes, done, fails, needed_past, needed_stray, needs_cut, needs_fails, needs_goes}
 use Rattle.reading.proofs.Lists.{any_in, any_out, one_in, not_one}
-use Rattle.reading.specs.Reading.{Answer, fine, fault, ◌and_then◌, outcome, accepted, refused, ◌unless◌, checked, command, needed, whole, file}
+use Rattle.reading.specs.Reading.{Answer, fine, fault, ◌and_then◌, outcome, refused, ◌unless◌, checked, command, needed, whole, file}
+use Rattle.reading.specs.Refusals.{number_of}
+use Rattle.reading.specs.declared.refusal.Refusal.{Refusal}
 use Rattle.net.specs.Net.{Place, single, Transition, Tokens, Net, net, variables_of, binding_space, scope}
 use Rattle.net.specs.Reader.{width_of}
 use Rattle.net_parts.specs.Parts.{set_part, variable_part, place_part, tokens_part}
@@ -17,12 +19,16 @@ use Rattle.net_transitions.specs.Transitions.{transition_part}
 use Rattle.net_file.specs.NetFile.{content, read_net}
 use Rattle.net.specs.internal.ReaderEnums.{place_in}
 use Rattle.net.specs.declared.PlaceSets.{PlaceSets}
-use Rattle.net_parts.specs.internal.Tables.{places_of, Started, TokensRead}
-use Rattle.net_transitions.specs.internal.TransitionTables.{over, TransitionsRead}
+use Rattle.net_parts.specs.internal.Tables.{places_of, places_read, Started, TokensRead, TokensTold}
+use Rattle.net_transitions.specs.internal.TransitionTables.{TransitionsRead, TransitionsTold}
+use Rattle.net_parts.specs.internal.Steps.{sets_read}
+use Rattle.net_parts.specs.declared.Part.{Part}
+use Rattle.net_transitions.specs.declared.transitions.Head.{Head}
 use Rattle.net_file.specs.declared.file.Tables.{Tables}
-use Rattle.net_file.specs.internal.NetTables.{opened, closed, NetHolds}
+use Rattle.net_file.specs.internal.NetTables.{opened, open_told, closed, close_told, NetHolds, NetHeld}
 use Rattle.net.proofs.Shut.{commands}
 use Rattle.net.proofs.Answers.{checked_goes, checked_stops}
+use Rattle.net_file.proofs.Refusals.{by_reason}
 
 -- ---- part after part
 -- what the reading of a file comes down to: what is left of its content, and the last command
@@ -42,50 +48,6 @@ after_variables s sets variables at = whole s (place_part s (scope sets variable
 
 abbrev pub after_sets : List ℕ → List ℕ → ℕ → Answer Net
 after_sets s sets at = whole s (variable_part s (scope sets [] [])) [] at and_then after_variables s sets
-
--- a part that is whole hands its value and the next place on; a fault of it is the file's
-goes : {A : Type 0} (s : List ℕ) (f : A → ℕ → Answer Net) {x : Answer A} {a : A} {at : ℕ} → Left s (x and_then f) → fine a at ≡ x → Left s (f a at)
-goes s f l e = rw (← e) at l
-
-stops : {A : Type 0} (s : List ℕ) (f : A → ℕ → Answer Net) {x : Answer A} {k p : ℕ} → Left s (x and_then f) → fault k p ≡ x → read_net s ≡ refused k p
-stops s f l e = rw (← e) at l
-
-module _ (s : List ℕ) (start : ℕ) (l : Left s (content s start)) where
-  pub sets_go : {sets : List ℕ} {at : ℕ} → fine sets at ≡ whole s (set_part s) [] start → Left s (after_sets s sets at)
-  sets_go e = goes s (after_sets s) l e
-
-  pub sets_stop : {k p : ℕ} → fault k p ≡ whole s (set_part s) [] start → read_net s ≡ refused k p
-  sets_stop e = stops s (after_sets s) l e
-
-module _ (s sets : List ℕ) (start : ℕ) (l : Left s (after_sets s sets start)) where
-  pub variables_go : {variables : List ℕ} {at : ℕ} → fine variables at ≡ whole s (variable_part s (scope sets [] [])) [] start → Left s (after_variables s sets variables at)
-  variables_go e = goes s (after_variables s sets) l e
-
-  pub variables_stop : {k p : ℕ} → fault k p ≡ whole s (variable_part s (scope sets [] [])) [] start → read_net s ≡ refused k p
-  variables_stop e = stops s (after_variables s sets) l e
-
-module _ (s sets variables : List ℕ) (start : ℕ) (l : Left s (after_variables s sets variables start)) where
-  pub places_go : {places : List Place} {at : ℕ} → fine places at ≡ whole s (place_part s (scope sets variables [])) [] start → Left s (after_places s sets variables places at)
-  places_go e = goes s (after_places s sets variables) l e
-
-  pub places_stop : {k p : ℕ} → fault k p ≡ whole s (place_part s (scope sets variables [])) [] start → read_net s ≡ refused k p
-  places_stop e = stops s (after_places s sets variables) l e
-
-module _ (s sets variables : List ℕ) (places : List Place) (start : ℕ) (l : Left s (after_places s sets variables places start)) where
-  pub transitions_go : {transitions : List Transition} {at : ℕ} → fine transitions at ≡ whole s (transition_part s (scope sets variables places)) [] start
-      → Left s (after_transitions s sets variables places transitions at)
-  transitions_go e = goes s (after_transitions s sets variables places) l e
-
-  pub transitions_stop : {k p : ℕ} → fault k p ≡ whole s (transition_part s (scope sets variables places)) [] start → read_net s ≡ refused k p
-  transitions_stop e = stops s (after_transitions s sets variables places) l e
-
-module _ (s sets variables : List ℕ) (places : List Place) (transitions : List Transition) (start : ℕ) (l : Left s (after_transitions s sets variables places transitions start)) where
-  pub tokens_go : {tokens : List Tokens} {at : ℕ} → fine tokens at ≡ whole s (tokens_part s (net sets variables places transitions [])) [] start
-      → Left s (fine (net sets variables places transitions tokens) at)
-  tokens_go e = goes s (λ tokens at. fine (net sets variables places transitions tokens) at) l e
-
-  pub tokens_stop : {k p : ℕ} → fault k p ≡ whole s (tokens_part s (net sets variables places transitions [])) [] start → read_net s ≡ refused k p
-  tokens_stop e = stops s (λ tokens at. fine (net sets variables places transitions tokens) at) l e
 
 -- ---- what the tables hold
 space_same : (sets variables : List ℕ) (places : List Place) (ts : List Transition) (tokens : List Tokens)
@@ -107,29 +69,29 @@ module _ (s : List ℕ) (x : Tables) {sets variables places total : ℕ} (few_se
       let a = length-take-le places x.kinds (omega (arith, started.few)) in
       ap place_in (sym (get_or-take places x.kinds p d lt)) ∙ sym (get_or-map place_in (take places x.kinds) p d (single 0) (omega arith))
 
-  module _ (arcs : List ℕ) {at count space more : ℕ} (t : TransitionsRead s (over (take sets x.sizes) (take variables x.vars) (take places x.kinds)) at x.heads arcs count space more) where
-    -- the net that tokens are read over
-    abbrev pub before_tokens : Net
-    before_tokens = net (take sets x.sizes) (take variables x.vars) (places_of (take places x.kinds)) t.transitions []
+  -- the net that transitions are read over
+  abbrev drawn_so : Net
+  drawn_so = scope (take sets x.sizes) (take variables x.vars) (places_of (take places x.kinds))
 
-    pub tables : (initial : List ℕ) {end : ℕ} (k : TokensRead s before_tokens more x.starts initial end)
-        → NetHolds s (net (take sets x.sizes) (take variables x.vars) (places_of (take places x.kinds)) t.transitions k.tokens)
-        x arcs initial (record { sets = sets; variables = variables; places = places; total = total; transitions = count; space = space })
-    tables initial k = record {
-      few_sets = few_sets;
-      few_variables = few_variables;
-      few_transitions = t.few;
-      sets_are = refl;
-      variables_are = refl;
-      places_are = refl;
-      place_is = place_by_lem;
-      started = started_over started;
-      transitions_are = t.are;
-      wide = space_same (take sets x.sizes) (take variables x.vars) (places_of (take places x.kinds)) t.transitions k.tokens ∙ t.wide;
-      bounded = t.bounded;
-      holds = t.holds;
-      counts = k.holds;
-    }
+  tables : (arcs initial : List ℕ) {at count space more end_at : ℕ} (t : TransitionsRead s drawn_so at x.heads arcs count space more)
+      (k : TokensRead s (net drawn_so.sets drawn_so.variables drawn_so.places t.transitions []) more x.starts initial end_at)
+      → NetHolds s (net drawn_so.sets drawn_so.variables drawn_so.places t.transitions k.tokens)
+      x arcs initial (record { sets = sets; variables = variables; places = places; total = total; transitions = count; space = space })
+  tables arcs initial t k = record {
+    few_sets = few_sets;
+    few_variables = few_variables;
+    few_transitions = t.few;
+    sets_are = refl;
+    variables_are = refl;
+    places_are = refl;
+    place_is = place_by_lem;
+    started = started_over started;
+    transitions_are = t.are;
+    wide = space_same drawn_so.sets drawn_so.variables drawn_so.places t.transitions k.tokens ∙ t.wide;
+    bounded = t.bounded;
+    holds = t.holds;
+    counts = k.holds;
+  }
 
 -- ---- the first and the last command
 pub open_width : (s : List ℕ) → byte_at s 0 ≡ 0x01 → width_of (byte_at s 0) ≡ some 1
@@ -180,36 +142,109 @@ module _ (s : List ℕ) (n : Net) (at : ℕ) where
   pub close_more : byte_at s at ≡ 0x1F → at + 1 < length s → closed s n at ≡ fault 15 (at + 1)
   close_more e lt = close_by (there e (omega arith)) ∙ checked_stops (at + 1) n (at + 1) (fails (ne_eqb (at + 1) (length s) (λ z. omega arith)))
 
-  pub closes : byte_at s at ≡ 0x1F → at + 1 ≡ length s → closed s n at ≡ fine n (at + 1)
-  closes e f = close_by (there e (omega arith)) ∙ checked_goes (at + 1) n (at + 1) (passes (eq-eqb (at + 1) (length s) f) done)
+  pub closes : byte_at s at ≡ 0x1F → at + 1 ≡ length s → closed s n at ≡ fine n (length s)
+  closes e f = close_by (there e (omega arith)) ∙ checked_goes (at + 1) n (at + 1) (passes (eq-eqb (at + 1) (length s) f) done) ∙ ap (fine n) f
 
--- ---- the file
-module _ (s : List ℕ) where
-  pub net-long : 16384 < length s → read_net s ≡ refused 1 16384
-  unfolding read_net
-  net-long lt = rw (lt-ltb 16384 (length s) lt)
+-- ---- the file, part after part: each part's Result, and what it tells
+-- a fault of a part is the file's
+stops : {A : Type 0} (s : List ℕ) (f : A → ℕ → Answer Net) {x : Answer A} {k p : ℕ} → Left s (x and_then f) → fault k p ≡ x → read_net s ≡ refused k p
+stops s f l e = rw (← e) at l
 
-  module _ (fits : length s ≤ 16384) where
-    net_by : read_net s ≡ outcome (opened s (content s) and_then closed s)
-    unfolding read_net file
-    net_by = rw (le-ltb 16384 (length s) fits)
+some_is : {A : Type 0} {a b : A} → some a ≡ some b → a ≡ b
+some_is e = cc
 
-    pub opening_stops : {k p : ℕ} → opened s (content s) ≡ fault k p → read_net s ≡ refused k p
-    opening_stops e = net_by ∙ rw e
+-- a part that is whole hands its value and the next place on
+goes : {A : Type 0} (s : List ℕ) (f : A → ℕ → Answer Net) {x : Answer A} {a : A} {at : ℕ} → Left s (x and_then f) → fine a at ≡ x → Left s (f a at)
+goes s f l e = rw (← e) at l
 
-    pub opening_goes : (start : ℕ) → opened s (content s) ≡ content s start → Left s (content s start)
-    opening_goes start e = net_by ∙ rw e
+pub net-long : (s : List ℕ) → 16384 < length s → read_net s ≡ refused 1 16384
+unfolding read_net
+net-long s lt = rw (lt-ltb 16384 (length s) lt)
 
-  module _ (n : Net) (at : ℕ) (l : Left s (fine n at)) where
-    pub closing_stops : {k p : ℕ} → closed s n at ≡ fault k p → read_net s ≡ refused k p
-    closing_stops e = l ∙ rw e
+net_by : (s : List ℕ) → length s ≤ 16384 → read_net s ≡ outcome (opened s (content s) and_then closed s)
+unfolding read_net file
+net_by s fits = rw (le-ltb 16384 (length s) fits)
 
-    pub net_read : {next : ℕ} → closed s n at ≡ fine n next → read_net s ≡ accepted n
-    net_read e = l ∙ rw e
+module _ (s : List ℕ) (fits : length s ≤ 16384) (opening : Result ℕ Refusal) (told : (read : ℕ → Answer Net) → opened s read ≡ open_told read opening) where
+  pub opening_refused : {f : Refusal} → opening ≡ Err f → read_net s ≡ refused (number_of f.reason) f.place
+  opening_refused e = net_by s fits ∙ rw (told (content s), e)
 
--- the front of a table has as many as were taken
-pub front_sized : (k : ℕ) (l : List ℕ) (n : ℕ) → k ≤ n → length l ≡ n → length (take k l) ≡ k
-front_sized k l n le e = length-take-le k l (omega arith)
+  module _ (start : ℕ) (ok : opening ≡ Ok start) (sizes : List ℕ) (of_sets : Result Part Refusal) (sets_told : sets_read sizes of_sets ≡ whole s (set_part s) [] start) where
+    left_sets : Left s (content s start)
+    left_sets = net_by s fits ∙ rw (told (content s), ok)
 
-pub front_fits : (k : ℕ) (l : List ℕ) (n : ℕ) → k ≤ n → length l ≡ n → k ≤ length l
-front_fits k l n le e = omega arith
+    pub sets_refused : {f : Refusal} → of_sets ≡ Err f → read_net s ≡ refused (number_of f.reason) f.place
+    sets_refused e = stops s (after_sets s) left_sets (rw e at sets_told)
+
+    module _ (p : Part) (sets_ok : of_sets ≡ Ok p) (vars : List ℕ) (of_variables : Result Part Refusal)
+        (variables_told : sets_read vars of_variables ≡ whole s (variable_part s (scope (take p.count sizes) [] [])) [] p.next) where
+      abbrev sets : List ℕ
+      sets = take p.count sizes
+
+      left_variables : Left s (after_sets s sets p.next)
+      left_variables = goes s (after_sets s) left_sets (rw sets_ok at sets_told)
+
+      pub variables_refused : {f : Refusal} → of_variables ≡ Err f → read_net s ≡ refused (number_of f.reason) f.place
+      variables_refused e = stops s (after_variables s sets) left_variables (rw e at variables_told)
+
+      module _ (q : Part) (variables_ok : of_variables ≡ Ok q) (kinds : List PlaceSets) (starts : List ℕ) (of_places : Result Part Refusal)
+          (places_told : (variables : List ℕ) → places_read kinds of_places ≡ whole s (place_part s (scope (take p.count sizes) variables [])) [] q.next) where
+        abbrev variables : List ℕ
+        variables = take q.count vars
+
+        left_places : Left s (after_variables s sets variables q.next)
+        left_places = goes s (after_variables s sets) left_variables (rw variables_ok at variables_told)
+
+        pub places_refused : {f : Refusal} → of_places ≡ Err f → read_net s ≡ refused (number_of f.reason) f.place
+        places_refused e = stops s (after_places s sets variables) left_places (rw e at places_told variables)
+
+        module _ (r : Part) (places_ok : of_places ≡ Ok r) (heads : List Head) (arcs : List ℕ) (of_transitions : Result Part Refusal)
+            (transitions_told : TransitionsTold s (scope (take p.count sizes) (take q.count vars) (places_of (take r.count kinds))) r.next heads arcs of_transitions) where
+          abbrev places : List Place
+          places = places_of (take r.count kinds)
+
+          left_transitions : Left s (after_places s sets variables places r.next)
+          left_transitions = goes s (after_places s sets variables) left_places (ap (places_read kinds) (sym places_ok) ∙ places_told variables)
+
+          pub transitions_refused : {f : Refusal} → of_transitions ≡ Err f → read_net s ≡ refused (number_of f.reason) f.place
+          transitions_refused {f} e =
+              let h = rw e at transitions_told in
+              by_reason s f (stops s (after_transitions s sets variables places) left_transitions (sym (some_is h.is))) h.reason
+
+          module _ (t : Part) (transitions_ok : of_transitions ≡ Ok t) (held : Started (scope (take p.count sizes) [] []) (places_of (take r.count kinds)) starts r.count r.total)
+              (initial : List ℕ) (of_tokens : Result ℕ Refusal)
+              (tokens_told : (n : Net) → Started n n.places starts r.count r.total → TokensTold s n t.next starts initial of_tokens) where
+            transitions_are : TransitionsRead s (scope sets variables places) r.next heads arcs t.count t.total t.next
+            transitions_are = rw transitions_ok at transitions_told
+
+            abbrev before_tokens : Net
+            before_tokens = net sets variables places transitions_are.transitions []
+
+            left_tokens : Left s (after_transitions s sets variables places transitions_are.transitions t.next)
+            left_tokens = goes s (after_transitions s sets variables places) left_transitions transitions_are.read
+
+            pub tokens_refused : {f : Refusal} → of_tokens ≡ Err f → read_net s ≡ refused (number_of f.reason) f.place
+            tokens_refused e = stops s (λ tokens at. fine (net sets variables places transitions_are.transitions tokens) at) left_tokens
+                (rw e at tokens_told before_tokens (started_over held))
+
+            module _ (next : ℕ) (tokens_ok : of_tokens ≡ Ok next) (closing : Result (Unit {0}) Refusal) (closing_told : (n : Net) → closed s n next ≡ close_told s n closing) where
+              tokens_are : TokensRead s before_tokens t.next starts initial next
+              tokens_are = rw tokens_ok at tokens_told before_tokens (started_over held)
+
+              abbrev the_net : Net
+              the_net = net sets variables places transitions_are.transitions tokens_are.tokens
+
+              left_closing : Left s (fine the_net next)
+              left_closing = goes s (λ tokens at. fine (net sets variables places transitions_are.transitions tokens) at) left_tokens tokens_are.read
+
+              pub closing_refused : {f : Refusal} → closing ≡ Err f → read_net s ≡ refused (number_of f.reason) f.place
+              closing_refused e = left_closing ∙ ap outcome (closing_told the_net ∙ ap (close_told s the_net) e)
+
+              pub net_held : closing ≡ Ok tt → p.count ≤ 16 → q.count ≤ 32 → length kinds ≡ 32
+                  → NetHeld s (record { sizes = sizes; vars = vars; kinds = kinds; starts = starts; heads = heads }) arcs initial
+                  (record { sets = p.count; variables = q.count; places = r.count; total = r.total; transitions = t.count; space = t.total })
+              net_held e few_sets few_variables sized = record {
+                value = the_net;
+                read = left_closing ∙ ap outcome (closing_told the_net ∙ ap (close_told s the_net) e);
+                holds = tables s (record { sizes = sizes; vars = vars; kinds = kinds; starts = starts; heads = heads }) few_sets few_variables sized held arcs initial transitions_are tokens_are;
+              }

@@ -2,7 +2,7 @@
 ghost use Rattle.std.specs.Prelude.{◌≡◌, ℕ, length};
 ghost use Rattle.reading.specs.Reading.{Answer};
 ghost use Rattle.net.specs.Net.{Net};
-ghost use Rattle.net_file.specs.internal.NetTables.{opened, open_told, closed, close_told, NetTold};
+ghost use Rattle.net_file.specs.internal.NetTables.{opened, open_told, closed, close_told, no_tables, NetTold};
 
 use net::{PlaceSets, Scope, after};
 use net_parts::{Starts, read_places, read_sets, read_tokens, read_variables};
@@ -58,7 +58,9 @@ pub struct Tables {
 
 impl Tables {
     // Tables that hold nothing yet.
-    pub fn new() -> Tables {
+    pub fn new() -> Tables
+        ensures { result ≡ no_tables }
+    {
         Tables {
             sizes: [0; 16],
             vars: [0; 32],

@@ -3,12 +3,11 @@ use Rattle.std.specs.Prelude.{◌+◌, ◌&&◌, ◌∷◌, if◌then◌else◌}
 use Rattle.std.specs.Prelude as std
 use mathlib.Core.Path.{◌≡◌, refl, sym, ap, subst, ◌∙◌}
 use native.Mathlib.Omega.{arith}
-use Prim.Native.Nat.{◌≤◌, ◌<◌, ◌*◌}
-use native.Mathlib.Nat.{mul-one, mul-le-mul}
-use borrow.Author.Tests.{le-leb, lt-leb, lt-ltb, le-ltb, ltb-true, ltb-false, eqb-true, eqb-false, ne_eqb}
-use Rattle.reading.specs.Basics.{ℕ, Bool, List, [], some, none, true, false, eqb, leb, ltb, length, get_or, every, map, sum, with, byte_at}
-use Rattle.reading.specs.Reading.{fine, fault, Check, ◌unless◌, checked}
-use Rattle.reading.proofs.Commands.{end, other, passes, done, fails, later, both_hold, first_fails, second_fails, past, tests, Passes, Fails, standing_none, stands_cut, stands_fails, stands_goes}
+use Prim.Native.Nat.{◌≤◌, ◌<◌}
+use borrow.Author.Tests.{le-leb, lt-leb, ltb-true, ltb-false, eqb-true, eqb-false, ne_eqb}
+use Rattle.reading.specs.Basics.{ℕ, Bool, List, [], some, none, true, false, eqb, leb, ltb, length, every, map, sum, with, byte_at}
+use Rattle.reading.specs.Reading.{fine, fault, Check, ◌unless◌}
+use Rattle.reading.proofs.Commands.{end, other, past, Passes, Fails, standing_none, stands_cut, stands_fails, stands_goes}
 use Rattle.reading.proofs.Within.{by_test}
 use Rattle.net.specs.Net.{Net, Place, sets_of, colours_of, scope}
 use Rattle.net.specs.Reader.{width_of}
@@ -22,10 +21,6 @@ use Rattle.net_parts.specs.internal.Steps.{sets_named, colours_counted}
 pub sum-with : {A : Type 0} (f : A → ℕ) (l : List A) (a : A) → sum (map f (with l a)) ≡ sum (map f l) + f a
 sum-with f [] a = omega arith
 sum-with f (x ∷ l) a = let e = sum-with f l a in omega arith
-
--- two bytes multiplied
-pub small_product : (x y : ℕ) → x < 256 → y < 256 → x * y ≤ 65025
-small_product x y p q = mul-le-mul (let h : x ≤ 255 = omega arith in h) (let h : y ≤ 255 = omega arith in h)
 
 -- what is checked of a place, in order
 abbrev pub checks : Net → List Place → Place → List Check

@@ -1,6 +1,6 @@
 -- What the reading of a whole net file tells, and what its tables hold.
 use Rattle.std.specs.Prelude.{◌≡◌, ◌≤◌, ◌<◌, ◌∷◌, Result, Ok, Err}
-use Rattle.reading.specs.Basics.{ℕ, List, [], length, get_or, take, eqb, any, byte_at}
+use Rattle.reading.specs.Basics.{ℕ, List, [], length, get_or, take, replicate, eqb, any, byte_at}
 use Rattle.reading.specs.Reading.{Answer, fine, fault, ◌and_then◌, accepted, refused, ◌unless◌, checked, command, needed}
 use Rattle.reading.specs.Refusals.{number_of, answered}
 use Rattle.reading.specs.declared.refusal.Refusal.{Refusal}
@@ -8,8 +8,9 @@ use Rattle.net.specs.Net.{Net, place_at, binding_space, scope}
 use Rattle.net_file.specs.NetFile.{read_net}
 use Rattle.net.specs.internal.ReaderEnums.{place_in}
 use Rattle.net.specs.declared.PlaceSets.{PlaceSets}
+use Rattle.net.specs.declared.PlaceSets.TheVariants.{One}
 use Rattle.net_parts.specs.internal.Tables.{places_of, Started, Holds, count_of}
-use Rattle.net_transitions.specs.internal.TransitionTables.{TransitionsHold}
+use Rattle.net_transitions.specs.internal.TransitionTables.{no_head, TransitionsHold}
 use Rattle.net_file.specs.declared.file.Tables.{Tables}
 use Rattle.net_file.specs.declared.file.Counts.{Counts}
 
@@ -33,6 +34,10 @@ close_told s n r = answered (λ u. n) (λ u. length s) r
 -- the net that guards and arcs are read over: its sets, its variables and its places
 abbrev pub drawn : Net → Net
 drawn n = scope n.sets n.variables n.places
+
+-- tables that hold nothing yet
+abbrev pub no_tables : Tables
+no_tables = record { sizes = replicate 16 0; vars = replicate 32 0; kinds = replicate 32 (One 0); starts = replicate 33 0; heads = replicate 32 no_head }
 
 -- what the tables hold of a net, each fact by itself
 pub record NetHolds (s : List ℕ) (n : Net) (t : Tables) (arcs initial : List ℕ) (c : Counts) : Type 0 where

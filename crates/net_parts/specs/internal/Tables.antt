@@ -1,7 +1,7 @@
 -- What the tables of a net hold of its places and tokens, that a reading leaves for later calls.
 use Rattle.std.specs.Prelude.{◌≡◌, ◌<◌, ◌≤◌, ◌+◌, ◌&&◌, if◌then◌else◌, Result, Ok, Err}
 use Rattle.std.specs.Prelude as std
-use Rattle.reading.specs.Basics.{ℕ, List, [], Option, none, some, given, with, map, sum, length, get_or, take, ltb}
+use Rattle.reading.specs.Basics.{ℕ, List, [], Option, given, with, map, sum, length, get_or, take, ltb}
 use Rattle.reading.specs.Reading.{Answer, fine, fault, whole}
 use Rattle.reading.specs.Refusals.{number_of, answered}
 use Rattle.reading.specs.declared.refusal.Refusal.{Refusal}

@@ -1,14 +1,14 @@
 use borrow.Author.Rules.{rules}
 use native.Mathlib.Omega.{arith}
-use mathlib.Core.Path.{ap, ◌∙◌}
+use mathlib.Core.Path.{ap}
 use mathlib.Core.Logic.{⊎_elim}
-use Prim.Native.Nat.{◌≤◌, ◌<◌, ◌+◌}
+use Prim.Native.Nat.{◌+◌}
 use borrow.Author.Tests.{lt-ltb, le-ltb}
-use Rattle.reading.specs.Basics.{[], length, leb, ltb, every}
+use Rattle.reading.specs.Basics.{[], length, ltb}
 use Rattle.reading.proofs.Commands.{passes, done, fails, later, first_fails, second_fails, both_hold}
-use Rattle.net.specs.Net.{scope, sets_of}
+use Rattle.net.specs.Net.{scope}
 use Rattle.net.specs.internal.ReaderEnums.{place_in}
-use Rattle.net_parts.proofs.Totals.{placed, not_named, not_counted, counted, operands, one_fits, one_spills}
+use Rattle.net_parts.proofs.Totals.{placed, not_named, not_counted, counted, one_fits, one_spills}
 use Rattle.net_parts.proofs.place.place_at.Goals as goal
 
 pub returns-in_default-clause-is : goal.returns-in_default-clause-is

@@ -1,5 +1,4 @@
 use borrow.Author.Rules.{rules}
-use native.Mathlib.Omega.{arith}
 use borrow.Author.Tests.{ne_eqb}
 use Rattle.net_parts.specs.internal.Steps.{sets_named}
 use Rattle.net_parts.proofs.place.sets_named.Goals as goal

@@ -1,5 +1,3 @@
-use borrow.Author.Rules.{rules}
-use native.Mathlib.Omega.{arith}
 use mathlib.Core.Path.{◌∙◌}
 use Rattle.net_parts.proofs.Tokening.{no_tokens, all_same}
 use Rattle.net_parts.proofs.token.read_tokens.Goals as goal

@@ -1,7 +1,5 @@
-use borrow.Author.Rules.{rules}
 use native.Mathlib.Omega.{arith}
 use mathlib.Core.Path.{sym, ◌∙◌}
-use Prim.Native.Nat.{◌+◌, ◌<◌}
 use Rattle.net_parts.proofs.Tokening.{after_tokens, tokens_other, tokens_cut, tokens_missing, tokens_again, tokens_go, found}
 use Rattle.net_parts.proofs.token.token_at.Goals as goal
 
