@@ -13,7 +13,7 @@ use Rattle.net.specs.Net as net
 use Rattle.net.specs.Net.{Expression, Transition, Net, place_at, colours_of, arc_on, variables_of, sizes_of, no_transition, transition_at}
 use Rattle.net.specs.Reader.{read_expression}
 use Rattle.evaluation.specs.internal.Evaluated.{scope_in}
-use Rattle.firing.specs.Arcs.{Arc}
+use Rattle.firing.specs.declared.Arc.{Arc}
 use Rattle.net_file.specs.Formed.{Fitting, expression_formed}
 use Rattle.net_transitions.specs.internal.TransitionTables.{Slot}
 use Rattle.net_file.proofs.Formed.{found_in, its_expression}
@@ -30,7 +30,7 @@ use Rattle.prepared.proofs.Known.{its_limits, its_form}
 use Rattle.rows.specs.internal.Effects.{place_arcs, kind_arcs}
 use Rattle.row_lengths.specs.internal.MostRows.{MostKind, arcs_of_row, MostRow}
 use Rattle.rows.proofs.Split.{split}
-use Rattle.rows.proofs.Drawn.{place_by_lem, slot, row_gives, Entered, entered, arcs_given, Entries, entries_begin, entries_go, entries_stop, entries_end}
+use Rattle.rows.proofs.Drawn.{place_by_lem, slot, row_gives, Entered, entered, arcs_given, Entries, entries_begin, entries_go, entries_end}
 use Rattle.bindings.proofs.Digits.{bindings_at}
 use Rattle.row_lengths.proofs.Values.{binding_stands}
 use Rattle.bindings.proofs.Legal.{effect_weighs}
@@ -122,11 +122,8 @@ module _ {s plan : List ℕ} {base : ℕ} where
     all_most all n t k p ht hk hb value fits =
         subst (λ arcs. length arcs ≤ total) (row_gives value p.drawing ht hk hb (length n.places) (omega arith)) (all n t k p ht hk hb value fits)
 
-    pub most_stops : (entry : ℕ) → i < 32 → entry ≡ get_or (packed_in plan) (base + i) 0 → entry < 1 → MostKind s plan base total
-    most_stops entry h e free = all_most (entries_stop l entry h e free)
-
-    pub most_ends : 32 ≤ i → MostKind s plan base total
-    most_ends g = all_most (entries_end l g)
+    pub most_ends : (i < 32 → get_or (packed_in plan) (base + i) 0 < 1) → MostKind s plan base total
+    most_ends none_next = all_most (entries_end l none_next)
 
 -- ---- the rows of a transition
 pub row-most : {s plan : List ℕ} {t takes puts hinders : ℕ} → MostKind s plan (t * 96) takes → MostKind s plan (t * 96 + 32) puts

@@ -3,20 +3,16 @@ ghost use Rattle.std.specs.Prelude.{◌≤◌, ◌<◌};
 ghost use Rattle.row_lengths.specs.internal.MostRows.{MostKind, MostRow};
 
 use crate::arcs::most_arcs;
-use plan::arc_of;
+use rows::entries_of;
 
-// How many a transition's arcs of a kind give at most, entry after entry of its row in the packed table, up to the first 0.
+// How many a transition's arcs of a kind give at most, whose row of entries begins at base.
 fn most_kind(file: &[u8], plan: &[u32; 3584], base: usize) -> usize
     requires { base ≤ 3040 }
     ensures is { MostKind file.now plan.now base result }
     ensures small { result ≤ 2097120 }
 {
     let mut total: usize = 0;
-    for i in 0..32 {
-        let entry = arc_of(plan, base + i);
-        if entry < 1 {
-            return total;
-        }
+    for entry in entries_of(plan, base) {
         total += most_arcs(file, plan, entry);
     }
     total
