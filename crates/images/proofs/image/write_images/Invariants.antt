@@ -1,7 +1,7 @@
 use Rattle.prepared.specs.internal.Prepared.{Prepared}
 use mathlib.Core.Path.{◌≡◌}
 use mathlib.Core.List.{List}
-use Prim.Native.Nat.{ℕ, ◌≤◌, ◌*◌, ◌-◌}
+use Prim.Native.Nat.{ℕ, ◌*◌}
 use lib.ListN.{length}
 use Rattle.net.specs.Net.{Net}
 use Rattle.row_numbers.specs.internal.Walked.{Starts}
