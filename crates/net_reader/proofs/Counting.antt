@@ -1,20 +1,22 @@
 -- From the reader's promise to the call that counts. Assumes nothing.
+use Rattle.std.specs.Prelude.{Result, Ok, Err}
 use mathlib.Core.Path.{◌≡◌, subst}
 use Rattle.reading.specs.Basics.{ℕ, List}
 use Rattle.reading.specs.Reading.{accepted, refused}
+use Rattle.reading.specs.Refusals.{number_of}
+use Rattle.reading.specs.declared.refusal.Refusal.{Refusal}
 use Rattle.net_reader.specs.Sizes.{net_sizes}
 use Rattle.net_file.specs.internal.NetTables.{NetTold}
-use Rattle.net_file.specs.declared.file.NetRead.{NetRead}
-use Rattle.net_file.specs.declared.file.NetRead.TheVariants.{Whole, Refused}
+use Rattle.net_file.specs.declared.file.Tables.{Tables}
+use Rattle.net_file.specs.declared.file.Counts.{Counts}
 
-module _ (s sizes vars kinds starts heads arcs initial : List ℕ) {r : NetRead} (told : NetTold s sizes vars kinds starts heads arcs initial r) where
-  pub no_sizes : {number place : ℕ} → r ≡ Refused number place → refused number place ≡ net_sizes s
+module _ (s : List ℕ) (t : Tables) (arcs initial : List ℕ) {r : Result Counts Refusal} (told : NetTold s t arcs initial r) where
+  pub no_sizes : {f : Refusal} → r ≡ Err f → refused (number_of f.reason) f.place ≡ net_sizes s
   unfolding net_sizes
-  no_sizes e = let is = subst (NetTold s sizes vars kinds starts heads arcs initial) e told in rw is
+  no_sizes e = let is = subst (NetTold s t arcs initial) e told in rw is
 
-  pub the_sizes : {sets variables places total transitions space : ℕ} → r ≡ Whole sets variables places total transitions space
-      → accepted (record { places = total; transitions = transitions; bindings = space }) ≡ net_sizes s
+  pub the_sizes : {c : Counts} → r ≡ Ok c → accepted (record { places = c.total; transitions = c.transitions; bindings = c.space }) ≡ net_sizes s
   unfolding net_sizes
   the_sizes e =
-      let held = subst (NetTold s sizes vars kinds starts heads arcs initial) e told in
+      let held = subst (NetTold s t arcs initial) e told in
       rw (held.read, held.holds.started.all, held.holds.transitions_are, held.holds.wide)

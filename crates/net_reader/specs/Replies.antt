@@ -1,18 +1,17 @@
 -- What the replies say, in the terms of the meanings: each case's number and values.
+use Rattle.std.specs.Prelude.{Result}
 use Rattle.reading.specs.Basics.{ℕ}
-use Rattle.reading.specs.Reading.{Answer, fine, fault, Outcome, accepted, refused}
+use Rattle.reading.specs.Reading.{Answer, Outcome}
+use Rattle.reading.specs.Refusals.{replied, answered}
+use Rattle.reading.specs.declared.refusal.Refusal.{Refusal}
 use Rattle.net_reader.specs.Sizes.{NetSizes}
 use Rattle.net_reader.specs.declared.head.Head.{Head}
-use Rattle.net_reader.specs.declared.head.Head.TheVariants as head
-use Rattle.net_reader.specs.declared.sizes.NetReply.{NetReply}
-use Rattle.net_reader.specs.declared.sizes.NetReply.TheVariants as net_reply_cases
+use Rattle.net_reader.specs.declared.sizes.NetSizes as declared
 
 -- the sizes of a net
-abbrev pub net_reply : NetReply → Outcome NetSizes
-net_reply (net_reply_cases.Counted places transitions bindings) = accepted (record { places = places; transitions = transitions; bindings = bindings })
-net_reply (net_reply_cases.Refused number place) = refused number place
+abbrev pub net_reply : Result declared.NetSizes Refusal → Outcome NetSizes
+net_reply r = replied (λ n. record { places = n.places; transitions = n.transitions; bindings = n.bindings }) r
 
 -- the command that stands at a place
-abbrev pub head_told : Head → Answer ℕ
-head_told (head.Command byte next) = fine byte next
-head_told (head.Fault number place) = fault number place
+abbrev pub head_told : Result Head Refusal → Answer ℕ
+head_told r = answered (λ h. h.byte) (λ h. h.next) r

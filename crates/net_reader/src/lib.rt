@@ -7,4 +7,4 @@ mod sizes;
 
 pub use head::Head;
 pub use reader::Reader;
-pub use sizes::{NetReply, net_sizes};
+pub use sizes::{NetSizes, net_sizes};

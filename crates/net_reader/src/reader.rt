@@ -1,11 +1,12 @@
-// The net file as its bytes and a position: each function takes the struct apart and leaves the work to one on a slice and a number.
+// The net file as its bytes and a position.
 ghost use Rattle.std.specs.Prelude.{◌≡◌};
 ghost use Rattle.net_reader.specs.Replies.{net_reply, head_told};
 ghost use Rattle.net_reader.specs.Sizes.{net_sizes};
 ghost use Rattle.net_reader.specs.Heads.{head_at, next_place};
 
-use crate::head::{Head, head_at, next_at};
-use crate::sizes::{NetReply, sizes_of};
+use crate::head::{Head, head_at};
+use crate::sizes::{NetSizes, net_sizes};
+use reading::Refusal;
 
 #[derive(Clone, Copy)]
 pub struct Reader<'a> {
@@ -28,7 +29,7 @@ impl<'a> Reader<'a> {
     }
 
     // The command that stands here.
-    pub fn head(self) -> Head
+    pub fn head(self) -> Result<Head, Refusal>
         ensures { head_told result ≡ head_at self.entry.bytes.now self.entry.at }
     {
         head_at(self.bytes, self.at)
@@ -40,14 +41,14 @@ impl<'a> Reader<'a> {
     {
         Reader {
             bytes: self.bytes,
-            at: next_at(self.bytes, self.at),
+            at: self.head().map_or(self.at, |head| head.next),
         }
     }
 
     // How large the net of the whole file is, wherever the reader stands.
-    pub fn sizes(self) -> NetReply
+    pub fn sizes(self) -> Result<NetSizes, Refusal>
         ensures { net_reply result ≡ net_sizes self.entry.bytes.now }
     {
-        sizes_of(self.bytes)
+        net_sizes(self.bytes)
     }
 }
