@@ -3,8 +3,7 @@ use Rattle.std.specs.Prelude.{◌+◌, ◌-◌, ◌*◌, ◌∷◌, if◌then◌
 use mathlib.Core.Path.{◌≡◌, refl, sym, ap, ◌∙◌, subst}
 use Prim.Native.Nat.{◌≤◌, ◌<◌}
 use native.Mathlib.Omega.{arith}
-use native.Mathlib.Nat.{mul-le-mul_left, le_trans, eq-or-lt_of_le}
-use mathlib.Core.Logic.{⊎_elim}
+use native.Mathlib.Nat.{mul-le-mul_left, le_trans}
 use borrow.Author.Tests.{le-leb, ne_eqb, ltb-true, ltb-false}
 use Rattle.reading.specs.Basics.{ℕ, Bool, true, false, List, [], length, ltb, eqb, byte_at, word_at}
 use Rattle.reading.specs.Reading.{Answer, fine, fault, under}

@@ -1,0 +1,37 @@
+use Rattle.std.proofs.Common.{arith, ◌-◌, ◌+◌}
+use Rattle.plan.specs.internal.Layout.{pair_in}
+use Rattle.net.specs.Reader.{read_expression}
+use Rattle.evaluation.specs.internal.Evaluated.{scope_in, place_by}
+use Rattle.sums.proofs.Listing.{times_listed, joined_listed, all_listed, times_told, joined_told, listed_past, listed_shut, listed_stray}
+use Rattle.sums.proofs.terms.BoundArc.+list.Goals as goal
+
+pub list_joined-returns-clause-is : goal.list_joined-returns-clause-is
+list_joined-returns-clause-is t c = λ known first second.
+    let a = c.args in
+    let s = a.self.now in
+    rw c.join.ensures
+    (joined_told _ _ _ _ _ _ _ _ _ _ c.requires.inner.0 _ a.op c.requires.byte
+    (joined_listed (scope_in s.plan.now known) _ _ _ _ (read_expression s.file.now (scope_in s.plan.now known) (place_by (pair_in s.entry) first second) (a.spot.left - 1)) a.spot.at (a.spot.at + 1) _ _
+    (c.list_terms-e.ensures.is known first second) _ _ (c.list_terms-f.ensures.is known first second) a.op (omega (arith, c.list_terms-e.type_inv)) _ _ c.merge.ensures.is))
+
+pub list_terms-returns-then-self-at-clause-is : goal.list_terms-returns-then-self-at-clause-is
+list_terms-returns-then-self-at-clause-is t c = λ known first second. listed_past _ _ _ _ _ _ _ _ _ _ _ c.if-self-at.true
+
+pub list_terms-returns-then-b-eq65-clause-is : goal.list_terms-returns-then-b-eq65-clause-is
+list_terms-returns-then-b-eq65-clause-is t c = λ known first second. rw c.word_at.ensures.0 (all_listed _ _ _ _ _ _ _ _ _ c.if-b-eq65.true)
+
+pub list_terms-returns-then-left-lt1-clause-is : goal.list_terms-returns-then-left-lt1-clause-is
+list_terms-returns-then-left-lt1-clause-is t c = λ known first second. listed_shut _ _ _ _ _ _ _ _ _ _ _ c.if-left-lt1.true c.if-b-eq65.false
+
+pub list_terms-returns-in_default-clause-is : goal.list_terms-returns-in_default-clause-is
+list_terms-returns-in_default-clause-is t c = λ known first second. listed_stray _ _ _ _ _ _ _ _ _ _ _ (λ e. omega arith) c.if-b-eq65.false (λ e. omega arith) (λ e. omega arith) (λ e. omega arith)
+
+pub list_times-returns-clause-is : goal.list_times-returns-clause-is
+list_times-returns-clause-is t c = λ known first second.
+    let a = c.args in
+    let s = a.self.now in
+    rw c.scaled.ensures
+    (times_told _ _ _ _ _ _ _ _ _ _ c.requires.inner.0 _ c.requires.byte
+    (rw (← c.word_at-factor.ensures.0)
+    (times_listed _ _ _ _ _ (read_expression s.file.now (scope_in s.plan.now known) (place_by (pair_in s.entry) first second) (a.spot.left - 1)) a.spot.at (a.spot.at + 3) _ _
+    (c.list_terms-e.ensures.is known first second) _ _ c.scale.ensures)))
