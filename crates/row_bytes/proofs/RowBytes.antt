@@ -8,7 +8,8 @@ use lib.ListN.{length-append}
 use Rattle.reading.specs.Basics.{ℕ, zero, suc, Bool, true, false, List, [], map, flat_map, filter_map, Option, none, some, length, get_elem?, given, numbers_from, below, product}
 use Rattle.firing.specs.Firing.{Weights}
 use Rattle.firing.specs.Arcs.{Row}
-use Rattle.firing.specs.internal.RowLists.{row_in}
+use Rattle.firing.specs.internal.RowLists.{EndsWithin, row_in}
+use Rattle.firing.specs.declared.Arc.{Arc}
 use Rattle.firing.specs.declared.Ends.{Ends}
 use Rattle.flat_file.specs.Flat.{row_bytes}
 use Rattle.net.specs.Net.{Net, sizes_of, transition_at}
@@ -29,7 +30,11 @@ use Rattle.row_numbers.specs.internal.Marks.{mark_at, has_row}
 use Rattle.row_bytes.specs.internal.RowBytes.{binding_bytes, transition_bytes, Ruled, Known, Bound, Here, Roomy}
 use Rattle.flat_file.proofs.Appending.{length_row_in, Going, go_begin}
 use Rattle.row_numbers.proofs.Rows.{rowed_if}
-use Rattle.row_numbers.proofs.Tabled.{entries_next}
+use Rattle.row_numbers.proofs.Tabled.{entries_next, entries_begin, in_net}
+use Rattle.row_bytes.specs.internal.Stretches.{Next, Told}
+use Rattle.row_bytes.specs.declared.stretch.Stretch.{Stretch}
+use Rattle.row_bytes.specs.declared.stretch.Stretches.{Stretches as Left}
+use Rattle.std.specs.Prelude.{Some, None}
 use Rattle.row_numbers.proofs.Marking.{marks_few, marks_told}
 
 -- ---- lists
@@ -109,22 +114,23 @@ no_effect n t i e = go (effect n (numbered n t i)) e
     go (some w) q = let z : ◌≡◌ {A = ℕ} 0 1 = cc in absurd (omega arith)
 
 -- its row was loaded
-module _ {s plan env : List ℕ} {t : ℕ} (it : Bound s plan env t) (places amounts places' amounts' : List ℕ) {r : Ends}
-    (told : LoadsRow s plan env t places amounts places' amounts' r) (p : Roomy s places) (a : Roomy s amounts) where
-  pub row_here : RowLoaded it.net (numbered it.net t it.index) places' amounts' r.takes r.puts r.hinders
-  row_here =
-      told it.net (digits (sizes_of it.net (transition_at it.net t)) it.index) it.ready it.stands it.binds
-      (p it.net it.ready.read) (a it.net it.ready.read)
+module _ {s plan env : List ℕ} {t : ℕ} (it : Bound s plan env t) (list list' : List Arc) {r : Ends} (told : LoadsRow s plan env t list list' r) (p : Roomy s list) where
+  pub row_here : RowLoaded it.net (numbered it.net t it.index) list' r.takes r.puts r.hinders
+  row_here = told it.net (digits (sizes_of it.net (transition_at it.net t)) it.index) it.ready it.stands it.binds (p it.net it.ready.read)
 
   pub row_fits : r.hinders ≤ 12288
   row_fits = omega (arith, row_here.fits, (its_limits it.ready).flat_places_lem)
 
-  pub gives_row : binding_bytes it.net t it.index ≡ row_bytes (row_in places' amounts' r.takes r.puts r.hinders)
+  pub gives_row : binding_bytes it.net t it.index ≡ row_bytes (row_in list' r.takes r.puts r.hinders)
   unfolding binding_bytes
   gives_row = by_effect it.net t it.index it.takes_effect_lem (λ w q. rw q (ap row_bytes (sym (row_here.row w q))))
 
-  pub gives_length : length (binding_bytes it.net t it.index) ≡ 1 + 5 * r.hinders
-  gives_length = ap length gives_row ∙ length_row_in places' amounts' r.takes r.puts r.hinders row_here.puts_after row_here.hinders_after
+  -- as it is held
+  pub gives_held : {held : Row} → held ≡ row_in list' r.takes r.puts r.hinders → binding_bytes it.net t it.index ≡ row_bytes held
+  gives_held e = gives_row ∙ ap row_bytes (sym e)
+
+  pub gives_length : EndsWithin list' r.takes r.puts r.hinders → length (binding_bytes it.net t it.index) ≡ 1 + 5 * r.hinders
+  gives_length within = ap length gives_row ∙ length_row_in list' r.takes r.puts r.hinders within
 
 -- whether it has one is told
 module _ {s plan env marks : List ℕ} {t k : ℕ} (here : Here s plan env marks t k) {b : Bool} (e : k < 65536 → b ≡ has_row (every_row plan t) marks k) where
@@ -252,3 +258,60 @@ module _ {s plan marks : List ℕ} (ruled : Ruled s plan marks) {t many : ℕ} (
   entries_then {base} {more} from e =
       let q : more ≡ entries_at (every_row plan t) (product (sizes_of ruled.net (transition_at ruled.net t))) = e ∙ ap (entries_at (every_row plan t)) all_many in
       omega (arith, entries_next ruled.net plan t)
+
+-- ---- going over the transitions
+-- it has come to one, the marks of whose bindings begin there
+pub record Upto (s plan marks : List ℕ) (left : Left) : Type 0 where
+  pub plan_is : left.plan.now ≡ plan
+  pub few : left.t ≤ 32
+  pub begins : (k : Ruled s plan marks) → left.base ≡ entries k.net plan left.t
+
+-- to the first
+pub first_is : {plan : List ℕ} {all left : Left} → left ≡ all → (all.plan.now ≡ plan) × (all.t ≡ 0) × (all.base ≡ 0) → left.t ≡ 0
+first_is e is = rw e is.1
+
+pub upto_begins : {s plan marks : List ℕ} {all left : Left} → left ≡ all → (all.plan.now ≡ plan) × (all.t ≡ 0) × (all.base ≡ 0) → Upto s plan marks left
+upto_begins {plan = plan} e is = rw e (record { plan_is = is.0; few = omega (arith, is.1); begins = λ k. rw (is.1, is.2) (entries_begin k.net plan) })
+
+-- to the next one
+module _ {s plan marks : List ℕ} {left : Left} (u : Upto s plan marks left) {those : Stretch} {plan' : List ℕ} {t' base' : ℕ} (told : Told left.plan.now left.t left.base (Some those) plan' t' base') where
+  next : Next plan left.t left.base those t' base'
+  next = rw u.plan_is at told.stretch
+
+  pub next_is : t' ≡ left.t + 1
+  next_is = next.next_t
+
+  pub those_here : (k : Ruled s plan marks) → left.t < length k.net.transitions
+  those_here k = in_net k.ready refl next.stands
+
+  pub those_given : (k : Ruled s plan marks) → flat_map (binding_bytes k.net those.t) (below those.many) ≡ transition_bytes k.net left.t
+  those_given k = rw next.t_is (all_given k (those_here k) next.many_is)
+
+  pub known_next : (k : Ruled s plan marks) → (i : ℕ) → i < those.many → has_row (every_row plan those.t) marks (those.base + i) ≡ takes_effect k.net those.t i
+  known_next k = rw (next.t_is, next.base_is) (known_of k (those_here k) next.many_is (u.begins k)).told
+
+  pub size_next : (k : Ruled s plan marks) → those.many ≡ product (sizes_of k.net (transition_at k.net those.t))
+  size_next k = rw next.t_is (all_many k (those_here k) next.many_is)
+
+  pub few_next : (k : Ruled s plan marks) → those.base + those.many ≤ 65536
+  few_next k = rw next.base_is (known_of k (those_here k) next.many_is (u.begins k)).few
+
+  pub stands_next : (k : Ruled s plan marks) → those.t < length k.net.transitions
+  stands_next k = rw next.t_is (those_here k)
+
+  next_few : t' ≤ 32
+  next_few = omega (arith, those.few, next.t_is, next.next_t)
+
+  next_begins : (k : Ruled s plan marks) → base' ≡ entries k.net plan t'
+  next_begins k = rw (next.next_t, next.next_base) (entries_then k (those_here k) next.many_is (u.begins k) refl)
+
+pub upto_goes : {s plan marks : List ℕ} {left : Left} (u : Upto s plan marks left) {those : Stretch} {left' : Left} → Told left.plan.now left.t left.base (Some those) left'.plan.now left'.t left'.base → Upto s plan marks left'
+upto_goes u told = record { plan_is = told.same ∙ u.plan_is; few = next_few u told; begins = next_begins u told }
+
+abbrev pub those_known : {s plan marks : List ℕ} {left : Left} (u : Upto s plan marks left) {those : Stretch} {plan' : List ℕ} {t' base' : ℕ} → Told left.plan.now left.t left.base (Some those) plan' t' base'
+    → (k : Ruled s plan marks) → Known s plan marks those.t those.many those.base
+those_known u told k = record { net = k.net; ready = k.ready; stands = stands_next u told k; size = size_next u told k; few = few_next u told k; told = known_next u told k }
+
+-- none is left
+pub upto_ends : {s plan marks : List ℕ} {left : Left} → Upto s plan marks left → {plan' : List ℕ} {t' base' : ℕ} → Told left.plan.now left.t left.base None plan' t' base' → (k : Ruled s plan marks) → length k.net.transitions ≤ left.t
+upto_ends u told k = omega (arith, k.ready.transitions_are, rw u.plan_is at told.stretch)

@@ -6,6 +6,7 @@ ghost use Rattle.row_bytes.specs.internal.RowBytes.{all_bytes, Ruled, Roomy};
 ghost use Rattle.row_numbers.specs.internal.Marks.{RowsCounted};
 
 use crate::flat_rows::measure_all;
+use firing::Arc;
 use plan::{flat_places_of, transitions_of};
 use row_lengths::most_row;
 
@@ -16,13 +17,10 @@ fn bound_all(file: &[u8], plan: &[u32; 3584], rows: &[usize; 32]) -> usize
         → RowsCounted k.net rows.now (length k.net.transitions) → length (all_bytes k.net) ≤ result }
     ensures small { result ≤ 67200000000000 }
 {
-    let transitions = transitions_of(plan);
     let mut total: usize = 0;
-    let mut t: usize = 0;
-    while t < transitions {
+    for t in 0..transitions_of(plan) {
         let most = most_row(file, plan, t);
         total += rows[t] * (1 + 5 * most);
-        t += 1;
     }
     total
 }
@@ -33,11 +31,10 @@ pub fn fits(
     plan: &[u32; 3584],
     marks: &[u32; 2048],
     rows: &[usize; 32],
-    places: &mut [u16],
-    amounts: &mut [u16],
+    arcs: &mut [Arc],
     size: usize,
 ) -> bool
-    requires roomy { Roomy file.now places.old × Roomy file.now amounts.old }
+    requires roomy { Roomy file.now arcs.old }
     requires rows_counted { (k : Ruled file.now plan.now marks.now) × RowsCounted k.net rows.now (length k.net.transitions) }
     ensures { (k : Ruled file.now plan.now marks.now)
         → RowsCounted k.net rows.now (length k.net.transitions)
@@ -47,5 +44,5 @@ pub fn fits(
     if front + bound_all(file, plan, rows) <= size {
         return true;
     }
-    front + measure_all(file, plan, marks, places, amounts) <= size
+    front + measure_all(file, plan, marks, arcs) <= size
 }

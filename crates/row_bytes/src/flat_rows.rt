@@ -4,19 +4,12 @@ ghost use Rattle.reading.specs.Basics.{flat_map, below};
 ghost use Rattle.flat_file.specs.internal.Output.{Appended};
 ghost use Rattle.row_bytes.specs.internal.RowBytes.{binding_bytes, all_bytes, Ruled, Known, Bound, Here, Roomy};
 
-use bindings::{next_binding, skip_bindings, space_of};
+use crate::stretch::{Stretch, all_stretches};
+use bindings::{next_binding, skip_bindings};
+use firing::{Arc, row_arcs};
 use flat_file::write_row;
-use plan::transitions_of;
-use row_numbers::{entries_of, has_none, has_row};
+use row_numbers::{has_none, has_row};
 use rows::load_row;
-
-// The bindings of a transition: how many there are, and where their marks begin.
-#[derive(Clone, Copy)]
-pub struct Stretch {
-    pub t: usize,
-    pub many: usize,
-    pub base: usize,
-}
 
 // How many bytes a binding gives: those of its row, if it has one. Its mark is number k.
 fn measure_one(
@@ -26,16 +19,16 @@ fn measure_one(
     t: usize,
     marks: &[u32; 2048],
     k: usize,
-    places: &mut [u16],
-    amounts: &mut [u16],
+    arcs: &mut [Arc],
 ) -> usize
-    requires t_bound { (t < 32) × Roomy file.now places.old × Roomy file.now amounts.old }
+    requires t_bound { t < 32 }
+    requires roomy { Roomy file.now arcs.old }
     requires here { Here file.now plan.now env.now marks.now t k }
     ensures is { (h : Here file.now plan.now env.now marks.now t k) → result ≡ length (binding_bytes h.net t h.index) }
     ensures small { result ≤ 61441 }
 {
     if has_row(plan, t, marks, k) {
-        let ends = load_row(file, plan, env, t, places, amounts);
+        let ends = load_row(file, plan, env, t, arcs);
         return 1 + 5 * ends.hinders;
     }
     0
@@ -47,25 +40,20 @@ fn measure_bindings(
     plan: &[u32; 3584],
     those: Stretch,
     marks: &[u32; 2048],
-    places: &mut [u16],
-    amounts: &mut [u16],
+    arcs: &mut [Arc],
 ) -> usize
-    requires t_bound { (those.t < 32) × Roomy file.now places.old × Roomy file.now amounts.old }
+    requires roomy { Roomy file.now arcs.old }
     requires known { Known file.now plan.now marks.now those.t those.many those.base }
     ensures is { (k : Known file.now plan.now marks.now those.t those.many those.base)
         → result ≡ length (flat_map (binding_bytes k.net those.t) (below those.many)) }
     ensures small { result ≤ 4026597376 }
 {
-    let t = those.t;
-    let many = those.many;
-    let base = those.base;
+    let Stretch { t, many, base } = those;
     let mut env = [0u8; 32];
     let mut total: usize = 0;
-    let mut i: usize = 0;
-    while i < many {
-        total += measure_one(file, plan, &env, t, marks, base + i, places, amounts);
+    for i in 0..many {
+        total += measure_one(file, plan, &env, t, marks, base + i, arcs);
         next_binding(plan, t, &mut env);
-        i += 1;
     }
     total
 }
@@ -75,24 +63,16 @@ pub fn measure_all(
     file: &[u8],
     plan: &[u32; 3584],
     marks: &[u32; 2048],
-    places: &mut [u16],
-    amounts: &mut [u16],
+    arcs: &mut [Arc],
 ) -> usize
-    requires roomy { Roomy file.now places.old × Roomy file.now amounts.old }
+    requires roomy { Roomy file.now arcs.old }
     requires ruled { Ruled file.now plan.now marks.now }
     ensures is { (k : Ruled file.now plan.now marks.now) → result ≡ length (all_bytes k.net) }
     ensures small { result ≤ 128851116032 }
 {
-    let transitions = transitions_of(plan);
     let mut total: usize = 0;
-    let mut base: usize = 0;
-    let mut t: usize = 0;
-    while t < transitions {
-        let many = space_of(plan, t);
-        let those = Stretch { t, many, base };
-        total += measure_bindings(file, plan, those, marks, places, amounts);
-        base += entries_of(plan, t, many);
-        t += 1;
+    for those in all_stretches(plan) {
+        total += measure_bindings(file, plan, those, marks, arcs);
     }
     total
 }
@@ -103,26 +83,18 @@ fn write_bound(
     plan: &[u32; 3584],
     env: &[u8; 32],
     t: usize,
-    places: &mut [u16],
-    amounts: &mut [u16],
+    arcs: &mut [Arc],
     out: &mut [u8],
     at: usize,
 ) -> usize
-    requires t_bound { (t < 32) × Roomy file.now places.old × Roomy file.now amounts.old }
+    requires t_bound { t < 32 }
+    requires roomy { Roomy file.now arcs.old }
     requires index_in_bounds { (h : Bound file.now plan.now env.now t) × (at + length (binding_bytes h.net t h.index) ≤ length out.old) }
     ensures { (h : Bound file.now plan.now env.now t)
         → Appended out.old out.new at result (binding_bytes h.net t h.index) }
 {
-    let ends = load_row(file, plan, env, t, places, amounts);
-    write_row(
-        places,
-        amounts,
-        ends.takes,
-        ends.puts,
-        ends.hinders,
-        out,
-        at,
-    )
+    let ends = load_row(file, plan, env, t, arcs);
+    write_row(row_arcs(arcs, ends), out, at)
 }
 
 // Writes the rows of all bindings of a transition. Where a word of their marks is 0, it passes over 32 at once.
@@ -131,20 +103,17 @@ fn write_bindings(
     plan: &[u32; 3584],
     those: Stretch,
     marks: &[u32; 2048],
-    places: &mut [u16],
-    amounts: &mut [u16],
+    arcs: &mut [Arc],
     out: &mut [u8],
     at: usize,
 ) -> usize
-    requires t_bound { (those.t < 32) × Roomy file.now places.old × Roomy file.now amounts.old }
+    requires roomy { Roomy file.now arcs.old }
     requires many_in_bounds { (k : Known file.now plan.now marks.now those.t those.many those.base)
         × (at + length (flat_map (binding_bytes k.net those.t) (below those.many)) ≤ length out.old) }
     ensures { (k : Known file.now plan.now marks.now those.t those.many those.base)
         → Appended out.old out.new at result (flat_map (binding_bytes k.net those.t) (below those.many)) }
 {
-    let t = those.t;
-    let many = those.many;
-    let base = those.base;
+    let Stretch { t, many, base } = those;
     let mut env = [0u8; 32];
     let mut next = at;
     let mut i: usize = 0;
@@ -153,7 +122,7 @@ fn write_bindings(
             skip_bindings(plan, t, 32, &mut env);
             i += 32;
         } else if has_row(plan, t, marks, base + i) {
-            next = write_bound(file, plan, &env, t, places, amounts, out, next);
+            next = write_bound(file, plan, &env, t, arcs, out, next);
             next_binding(plan, t, &mut env);
             i += 1;
         } else {
@@ -169,26 +138,18 @@ pub fn write_all(
     file: &[u8],
     plan: &[u32; 3584],
     marks: &[u32; 2048],
-    places: &mut [u16],
-    amounts: &mut [u16],
+    arcs: &mut [Arc],
     out: &mut [u8],
     at: usize,
 ) -> usize
-    requires roomy { Roomy file.now places.old × Roomy file.now amounts.old }
+    requires roomy { Roomy file.now arcs.old }
     requires net_in_bounds { (k : Ruled file.now plan.now marks.now) × (at + length (all_bytes k.net) ≤ length out.old) }
     ensures { (k : Ruled file.now plan.now marks.now)
         → Appended out.old out.new at result (all_bytes k.net) }
 {
-    let transitions = transitions_of(plan);
     let mut next = at;
-    let mut base: usize = 0;
-    let mut t: usize = 0;
-    while t < transitions {
-        let many = space_of(plan, t);
-        let those = Stretch { t, many, base };
-        next = write_bindings(file, plan, those, marks, places, amounts, out, next);
-        base += entries_of(plan, t, many);
-        t += 1;
+    for those in all_stretches(plan) {
+        next = write_bindings(file, plan, those, marks, arcs, out, next);
     }
     next
 }

@@ -3,6 +3,7 @@
 
 mod fit;
 mod flat_rows;
+mod stretch;
 
 pub use fit::fits;
 pub use flat_rows::write_all;

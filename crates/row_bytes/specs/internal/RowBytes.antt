@@ -2,6 +2,7 @@
 use Rattle.std.specs.Prelude.{◌≡◌, ◌≤◌, ◌<◌, ◌+◌}
 use Rattle.reading.specs.Basics.{ℕ, true, List, [], flat_map, length, take, given, below, product}
 use Rattle.reading.specs.Reading.{accepted}
+use Rattle.firing.specs.declared.Arc.{Arc}
 use Rattle.flat_file.specs.Flat.{row_bytes}
 use Rattle.net.specs.Net.{Net, sizes_of, flat_place_count, transition_at}
 use Rattle.bindings.specs.Effect.{effect, flat_row}
@@ -61,10 +62,10 @@ pub record Here (s plan env marks : List ℕ) (t k : ℕ) : Type 0 where
   pub told : has_row (every_row plan t) marks k ≡ takes_effect net t index
 
 -- a lent list has the room that loading the net's rows needs
-abbrev pub Roomy : List ℕ → List ℕ → Type 0
+abbrev pub Roomy : List ℕ → List Arc → Type 0
 Roomy s l = (n : Net) → read_net s ≡ accepted n → room s n ≤ length l
 
--- lists of 1,024 slots have it
+-- a list of 1,024 slots has it
 abbrev pub FewSlots : List ℕ → Type 0
 FewSlots s = (n : Net) → read_net s ≡ accepted n → room s n ≤ 1024
 

@@ -1,13 +1,12 @@
-use mathlib.Core.Path.{◌≡◌}
-use Prim.Native.Nat.{◌≤◌, ◌<◌, ◌*◌, ◌-◌}
-use lib.ListN.{length}
+use Prim.Native.Nat.{◌≤◌, ◌<◌, ◌*◌}
 use Rattle.bindings.specs.internal.Bindings.{Binds, numbered}
 use Rattle.row_bytes.specs.internal.RowBytes.{binding_bytes, Known}
 use Rattle.row_bytes.proofs.RowBytes.{Measuring}
 use Rattle.row_bytes.proofs.flat_rows.measure_bindings.Given as goal
 
 abbrev pub invariant-loop-i : goal.invariant-loop-i
-invariant-loop-i l = (l.i ≤ l.many) × (l.total ≤ 61441 * l.i) × (length l.places ≡ length l.initial.places) × (length l.amounts ≡ length l.initial.amounts) × ((k : Known l.file l.plan l.marks l.t l.many l.base) → l.i < l.many → Binds k.net (numbered k.net l.t l.i) l.env) × ((k : Known l.file l.plan l.marks l.t l.many l.base) → Measuring (binding_bytes k.net l.t) l.many 0 l.total l.i)
-
-abbrev pub decreases-loop-i : goal.decreases-loop-i
-decreases-loop-i l = l.many - l.i
+invariant-loop-i l = record {
+  low : l.total ≤ 61441 * l.i;
+  binds : (k : Known l.file l.plan l.marks l.t l.many l.base) → l.i < l.many → Binds k.net (numbered k.net l.t l.i) l.env;
+  measured : (k : Known l.file l.plan l.marks l.t l.many l.base) → Measuring (binding_bytes k.net l.t) l.many 0 l.total l.i;
+}

@@ -1,6 +1,4 @@
-use mathlib.Core.Path.{◌≡◌}
 use Prim.Native.Nat.{◌≤◌, ◌<◌, ◌-◌}
-use lib.ListN.{length}
 use Rattle.reading.specs.Basics.{numbers_from, below}
 use Rattle.bindings.specs.internal.Bindings.{Binds, numbered}
 use Rattle.row_bytes.specs.internal.RowBytes.{binding_bytes, Known}
@@ -9,7 +7,12 @@ use Rattle.row_bytes.proofs.RowBytes.{Measuring}
 use Rattle.row_bytes.proofs.flat_rows.write_bindings.Given as goal
 
 abbrev pub invariant-loop-i : goal.invariant-loop-i
-invariant-loop-i l = (l.i ≤ l.many) × (length l.places ≡ length l.initial.places) × (length l.amounts ≡ length l.initial.amounts) × (length l.out ≡ length l.initial.out) × ((k : Known l.file l.plan l.marks l.t l.many l.base) → l.i < l.many → Binds k.net (numbered k.net l.t l.i) l.env) × ((k : Known l.file l.plan l.marks l.t l.many l.base) → Measuring (binding_bytes k.net l.t) l.many l.at l.next l.i) × ((k : Known l.file l.plan l.marks l.t l.many l.base) → Going (binding_bytes k.net l.t) (below l.many) (numbers_from l.i (l.many - l.i)) l.initial.out l.out l.at l.next)
+invariant-loop-i l = record {
+  inside : l.i ≤ l.many;
+  binds : (k : Known l.file l.plan l.marks l.t l.many l.base) → l.i < l.many → Binds k.net (numbered k.net l.t l.i) l.env;
+  measured : (k : Known l.file l.plan l.marks l.t l.many l.base) → Measuring (binding_bytes k.net l.t) l.many l.at l.next l.i;
+  going : (k : Known l.file l.plan l.marks l.t l.many l.base) → Going (binding_bytes k.net l.t) (below l.many) (numbers_from l.i (l.many - l.i)) l.initial.out l.out l.at l.next;
+}
 
 abbrev pub decreases-loop-i : goal.decreases-loop-i
 decreases-loop-i l = l.many - l.i
