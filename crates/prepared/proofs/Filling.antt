@@ -48,28 +48,6 @@ pub record Heading (heads : List Head) (before now : List ℕ) (i : ℕ) : Type 
   pub front : (j : ℕ) → j < 88 → get_or now j 0 ≡ get_or before j 0
   pub back : (j : ℕ) → 152 ≤ j → get_or now j 0 ≡ get_or before j 0
 
-pub heading_begins : (heads : List Head) (before : List ℕ) → Heading heads before before 0
-heading_begins heads before = record { long = refl; uses = λ t lt. absurd (omega arith); guards = λ t lt. absurd (omega arith); front = λ j lt. refl; back = λ j le. refl }
-
-pub heading_goes : {heads : List Head} {before now : List ℕ} {i : ℕ} → Heading heads before now i → i < 32 → length before ≡ 3584 → {h : Head} → get_or heads i no_head ≡ h
-    → Heading heads before (set (set now (88 + i) h.uses) (120 + i) h.guard) (i + 1)
-heading_goes {heads} {before} {now} {i} here lt room {h} is =
-    record {
-      long = length-set once (120 + i) h.guard ∙ length-set now (88 + i) h.uses ∙ here.long;
-      uses = λ t less. get_or-set_other once (120 + i) (88 + t) h.guard 0 (λ e. omega arith) ∙ ⊎_elim (λ e. rw (e, is) (get_or-set_same now (88 + i) h.uses 0 (omega (arith, here.long))))
-          (λ d. get_or-set_other now (88 + i) (88 + t) h.uses 0 (λ e. omega arith) ∙ here.uses t d) (eq-or-lt_of_le (let le : t ≤ i = omega arith in le));
-      guards = λ t less. ⊎_elim (λ e. rw (e, is) (get_or-set_same once (120 + i) h.guard 0 (omega (arith, length-set now (88 + i) h.uses, here.long))))
-          (λ d. get_or-set_other once (120 + i) (120 + t) h.guard 0 (λ e. omega arith) ∙ get_or-set_other now (88 + i) (120 + t) h.uses 0 (λ e. omega arith) ∙ here.guards t d) (eq-or-lt_of_le (let le : t ≤ i = omega arith in le));
-      front = λ j less. get_or-set_other once (120 + i) j h.guard 0 (λ e. omega arith) ∙ get_or-set_other now (88 + i) j h.uses 0 (λ e. omega arith) ∙ here.front j less;
-      back = λ j far. get_or-set_other once (120 + i) j h.guard 0 (λ e. omega arith) ∙ get_or-set_other now (88 + i) j h.uses 0 (λ e. omega arith) ∙ here.back j far;
-    }
-  where
-    once : List ℕ
-    once = set now (88 + i) h.uses
-
-pub heading_ends : {heads : List Head} {before now : List ℕ} → Heading heads before now 32 → HeadsPlaced heads before now
-heading_ends here = record { uses_are = here.uses; guards_are = here.guards; others = record { front = here.front; back = λ j le. here.back j (omega arith) } }
-
 -- ---- the arcs
 -- rows over slots that are the same, in entries that are the same
 pub packed_same : {shape : ℕ → ℕ} {slots others packed after : List ℕ} {places transitions : ℕ} → places ≤ 32 → transitions ≤ 32

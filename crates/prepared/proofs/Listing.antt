@@ -7,7 +7,7 @@ use native.Mathlib.Omega.{arith}
 use native.Mathlib.Numerals.{add-one}
 use native.Mathlib.Nat.{eq-or-lt_of_le, div-lt_iff_lt-mul, div-div-eq-div-mul, div-eq_of_lt, pow-suc, one-mul}
 use borrow.Author.Tests.{ltb-true, ltb-false, eqb-true, eq-eqb, ne_eqb}
-use lib.ListN.{set, replicate, length-append, length-map, get_or-append, get_or-eq_default}
+use lib.ListN.{set, replicate, length-set, length-append, length-map, get_or-append, get_or-eq_default}
 use lib.Seq.{get_or-set_same, get_or-set_other, get_or_at}
 use lib.Pow.{pow_pos}
 use Rattle.reading.specs.Basics.{ℕ, zero, suc, Bool, true, false, List, [], map, length, get_or, ltb, eqb, with, below, numbers_from, keep}
@@ -76,7 +76,7 @@ set_at l base k a j lt = go (eqb j k) refl
     go true q = let s = eqb-true j k q in rw s (get_or-set_same l (base + k) a 0 lt)
     go false q = get_or-set_other l (base + k) (base + j) a 0 (λ e. let s : j ≡ k = omega arith in clash refl (eq-eqb j k s) q)
 
-module _ {uses base k v n : ℕ} {f : ℕ → ℕ} {own : List ℕ} (here : Listing uses f base own k v) where
+module _ {uses base k v : ℕ} {f : ℕ → ℕ} {own : List ℕ} (here : Listing uses f base own k v) where
   -- a variable of the set goes into the next slot
   pub list_goes : member uses v ≡ true → k < 4 → base ≤ 124 → length own ≡ 128 → Listing uses f base (set own (base + k) (f v)) (k + 1) (v + 1)
   list_goes e less room sized =
@@ -93,8 +93,8 @@ module _ {uses base k v n : ℕ} {f : ℕ → ℕ} {own : List ℕ} (here : List
       let same = entries_out f (member uses) v e in record { counts = here.counts ∙ ap length (sym same); slots = λ j lt. here.slots j lt ∙ ap (λ l. get_or l j 0) (sym same) }
 
   -- and so is any behind the fourth, where there are no more than four
-  pub list_full : 4 ≤ k → v < n → length (entries f (member uses) n) ≤ 4 → Listing uses f base own k (v + 1)
-  list_full full lt few = go (member uses v) refl
+  pub list_full : {n : ℕ} → 4 ≤ k → v < n → length (entries f (member uses) n) ≤ 4 → Listing uses f base own k (v + 1)
+  list_full {n} full lt few = go (member uses v) refl
     where
       go : (t : Bool) → member uses v ≡ t → Listing uses f base own k (v + 1)
       go true e =
@@ -104,12 +104,40 @@ module _ {uses base k v n : ℕ} {f : ℕ → ℕ} {own : List ℕ} (here : List
       go false e = list_passes e
 
   -- at the end they hold all entries
-  pub list_ends : v ≡ n → n ≤ 32 → (stands : ℕ → Bool) → uses ≡ bits stands 32 → (j : ℕ) → j < 4 → get_or own (base + j) 0 ≡ get_or (map f (keep stands (below n))) j 0
+  pub list_ends : {n : ℕ} → v ≡ n → n ≤ 32 → (stands : ℕ → Bool) → uses ≡ bits stands 32 → (j : ℕ) → j < 4 → get_or own (base + j) 0 ≡ get_or (map f (keep stands (below n))) j 0
   list_ends all le stands e j lt = here.slots j lt ∙ ap (λ l. get_or (map f l) j 0) (rw all (keep-bits stands e le))
 
 -- as few entries by the set of bits as by the test
 pub few_entries : {uses n : ℕ} (f : ℕ → ℕ) (stands : ℕ → Bool) → uses ≡ bits stands 32 → n ≤ 32 → length (keep stands (below n)) ≤ 4 → length (entries f (member uses) n) ≤ 4
 few_entries {uses} {n} f stands e le few = omega (arith, length-map (keep (member uses) (below n)) f, ap length (keep-bits stands e le))
+
+-- the loop over the variables: the other slots are kept, and if those from base on were 0 and there are no more than four entries, they are listed
+pub record Slotting (uses : ℕ) (f : ℕ → ℕ) (base n : ℕ) (before own : List ℕ) (k v : ℕ) : Type 0 where
+  pub most : k ≤ 4
+  pub sized : length own ≡ 128
+  pub front : (i : ℕ) → i < base → get_or own i 0 ≡ get_or before i 0
+  pub back : (i : ℕ) → base + 4 ≤ i → get_or own i 0 ≡ get_or before i 0
+  pub listed : length (entries f (member uses) n) ≤ 4 → ((j : ℕ) → j < 4 → get_or before (base + j) 0 ≡ 0) → Listing uses f base own k v
+
+pub slotting_begins : (uses : ℕ) (f : ℕ → ℕ) (base n : ℕ) (before : List ℕ) → length before ≡ 128 → Slotting uses f base n before before 0 0
+slotting_begins uses f base n before sized =
+    record { most = omega arith; sized = sized; front = λ i lt. refl; back = λ i le. refl; listed = λ few zeros. list_begins uses f base before zeros }
+
+module _ {uses base n k v : ℕ} {f : ℕ → ℕ} {before own : List ℕ} (here : Slotting uses f base n before own k v) where
+  pub slotting_goes : {x : ℕ} → member uses v ≡ true → k < 4 → base ≤ 124 → x ≡ f v → Slotting uses f base n before (set own (base + k) x) (k + 1) (v + 1)
+  slotting_goes {x} e less room is = rw is (record {
+    most = omega arith;
+    sized = length-set own (base + k) (f v) ∙ here.sized;
+    front = λ i lt. get_or-set_other own (base + k) i (f v) 0 (λ q. omega arith) ∙ here.front i lt;
+    back = λ i le. get_or-set_other own (base + k) i (f v) 0 (λ q. omega arith) ∙ here.back i le;
+    listed = λ few zeros. list_goes (here.listed few zeros) e less room here.sized;
+  })
+
+  pub slotting_passes : member uses v ≡ false → Slotting uses f base n before own k (v + 1)
+  slotting_passes e = record { most = here.most; sized = here.sized; front = here.front; back = here.back; listed = λ few zeros. list_passes (here.listed few zeros) e }
+
+  pub slotting_full : 4 ≤ k → v < n → Slotting uses f base n before own k (v + 1)
+  slotting_full full lt = record { most = here.most; sized = here.sized; front = here.front; back = here.back; listed = λ few zeros. list_full (here.listed few zeros) full lt few }
 
 -- ---- all transitions
 -- what the net reader knows of the sets of bits
@@ -124,13 +152,13 @@ Rows n own t = (s k : ℕ) → s < t → k < 4 → get_or own (s * 4 + k) 0 ≡ 
 abbrev pub Free : List ℕ → ℕ → Type 0
 Free own t = (i : ℕ) → t * 4 ≤ i → get_or own i 0 ≡ 0
 
-pub free_begins : (slots i : ℕ) → get_or (replicate slots 0) i 0 ≡ 0
+pub free_begins : (slots i : ℕ) → get_or {A = ℕ} (replicate slots 0) i 0 ≡ 0
 free_begins zero i = refl
 free_begins (suc slots) zero = refl
 free_begins (suc slots) (suc i) = free_begins slots i
 
-pub free_goes : {uses t : ℕ} {sizes vars own after : List ℕ} → SlotsListed uses sizes vars (t * 4) own after → Free own t → Free after (t + 1)
-free_goes listed free i le = listed.back i (omega arith) ∙ free i (omega arith)
+pub free_goes : (t : ℕ) {uses : ℕ} {sizes vars own after : List ℕ} → SlotsListed uses sizes vars (t * 4) own after → Free own t → Free after (t + 1)
+free_goes t listed free i le = listed.back i (omega arith) ∙ free i (omega arith)
 
 module _ (n : Net) {sizes vars : List ℕ} (heads : List Head) (es : n.sets ≡ sizes) (ev : n.variables ≡ vars) (l : Limits n) (used : Used n heads) where
   row_listed : {u : ℕ} {own after : List ℕ} (t : ℕ) → t < length n.transitions → u ≡ (get_or heads t no_head).uses → SlotsListed u sizes vars (t * 4) own after → Free own t

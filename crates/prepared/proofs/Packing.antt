@@ -29,7 +29,7 @@ by_slot {P} slot f g = go (ltb 0 slot) refl
     go false e = let h = ltb-false 0 slot e in f (omega arith)
 
 -- inside a list the default does not count
-get_d_inside : (l : List ℕ) (i a b : ℕ) → i < length l → get_or l i a ≡ get_or l i b
+pub get_d_inside : (l : List ℕ) (i a b : ℕ) → i < length l → get_or l i a ≡ get_or l i b
 get_d_inside [] i a b h = absurd (omega arith)
 get_d_inside (x ∷ l) zero a b h = refl
 get_d_inside (x ∷ l) (suc i) a b h = get_d_inside l i a b (omega arith)

@@ -1,5 +1,5 @@
 // Reads a net file and fills the one table of its net.
-ghost use Rattle.std.specs.Prelude.{◌≡◌, [], ◌∷◌, map, ◌≤◌, ◌<◌, length, drop};
+ghost use Rattle.std.specs.Prelude.{◌≡◌, [], ◌∷◌, map, ◌≤◌, ◌<◌, length, take, drop};
 ghost use Rattle.reading.specs.Basics.{below};
 ghost use Rattle.plan.specs.internal.Layout.{OthersKept, Placed};
 ghost use Rattle.prepared.specs.internal.Packed.{shape_in, Packed, SlotsFit};
@@ -42,14 +42,20 @@ fn place_heads(heads: &[Head; 32], plan: &mut [u32])
 }
 
 // Sets and variables, and of each transition its variables, as bits and one by one, and where its guard stands.
-fn place_lists(scope: &Scope, heads: &[Head; 32], transitions: usize, plan: &mut [u32])
-    requires { (length scope.now.sizes.now ≤ 16) × (transitions ≤ 32) × (length plan.old ≡ 3584) }
-    ensures { ListsPlaced scope.now.sizes.now scope.now.vars.now heads.now transitions plan.old plan.new }
+fn place_lists(net: &[u8], tables: &Tables, counts: &Counts, plan: &mut [u32])
+    requires { (counts.now.sets ≤ 16) × (counts.now.variables ≤ 32) × (counts.now.transitions ≤ 32) × (length plan.old ≡ 3584) }
+    ensures placed { ListsPlaced (take counts.now.sets tables.now.sizes) (take counts.now.variables tables.now.vars) tables.now.heads counts.now.transitions plan.old plan.new }
+    ensures long { (length tables.now.sizes ≡ 16) × (length tables.now.vars ≡ 32) }
 {
-    let own = list_variables(scope, heads, transitions);
+    let scope = Scope {
+        file: net,
+        sizes: &tables.sizes[..counts.sets],
+        vars: &tables.vars[..counts.variables],
+    };
+    let own = list_variables(&scope, &tables.heads, counts.transitions);
     place_list(scope.sizes, 8, plan);
     place_list(scope.vars, 24, plan);
-    place_heads(heads, plan);
+    place_heads(&tables.heads, plan);
     place_list(&own, 152, plan);
 }
 
@@ -79,12 +85,7 @@ fn fill(net: &[u8], plan: &mut [u32], initial: &mut [u16]) -> Result<(), Refusal
 {
     let mut tables = Tables::new();
     let counts = read_net(net, &mut tables, &mut plan[512..3584], initial)?;
-    let scope = Scope {
-        file: net,
-        sizes: &tables.sizes[..counts.sets],
-        vars: &tables.vars[..counts.variables],
-    };
-    place_lists(&scope, &tables.heads, counts.transitions, plan);
+    place_lists(net, &tables, &counts, plan);
     place_shapes(&tables, counts.places, plan);
     pack_part(counts.places, counts.transitions, plan);
     place_counts(&counts, plan);

@@ -1,4 +1,4 @@
-use Prim.Native.Nat.{◌-◌}
+use Rattle.std.proofs.Common.{◌≡◌}
 use Rattle.reading.specs.Basics.{map, below}
 use Rattle.plan.proofs.Sections.{Placing}
 use Rattle.prepared.specs.internal.Packed.{shape_in}

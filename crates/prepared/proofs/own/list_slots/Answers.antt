@@ -1,18 +1,26 @@
-use native.Mathlib.Omega.{arith}
-use native.Mathlib.Nat.{div-one}
-use mathlib.Core.Path.{refl, sym, ◌∙◌}
-use Prim.Native.Nat.{◌<◌}
-use Rattle.prepared.proofs.Listing.{list_begins, list_goes, list_ends, rest_goes, rest_below}
+use Rattle.std.proofs.Common.{◌*◌, ◌+◌, ap, sym, ◌∙◌, arith}
+use Rattle.prepared.proofs.Listing.{slotting_begins, slotting_goes, slotting_passes, slotting_full, list_ends, few_entries}
 use Rattle.prepared.proofs.own.list_slots.Goals as goal
+use Rattle.prepared.proofs.own.list_slots.Goals.{then-k-lt4+then-has, else-k-lt4, else-k-lt4-via-then-k-lt4+else-has, else-k-lt4-via-else-k-lt4}
 
-pub loop-rest-init : goal.loop-rest-init
-loop-rest-init c = (omega arith, omega arith, sym (div-one _), λ i lt. refl, λ few. list_begins _ _ _ _ c.clear_slots.ensures.zeros)
+pub loop-v-init : goal.loop-v-init
+loop-v-init c = slotting_begins _ _ _ _ _ c.told-own
 
-pub put_slot-k-requires : goal.put_slot-k-requires
-put_slot-k-requires c = let small : c.args.uses < 4294967296 = omega arith in (rest_below small c.loop-rest.invariant.0 c.loop-rest.invariant.2 c.loop-rest-test.true, c.requires, c.loop-rest.invariant.1)
-
-pub loop-rest-preserved : goal.loop-rest-preserved
-loop-rest-preserved c = let small : c.args.uses < 4294967296 = omega arith in let less = rest_below small c.loop-rest.invariant.0 c.loop-rest.invariant.2 c.loop-rest-test.true in (omega arith, c.put_slot-k.ensures.few, rest_goes _ _ c.loop-rest.invariant.2, λ i lt. c.put_slot-k.ensures.front i lt ∙ c.loop-rest.invariant.3 i lt, λ few. list_goes c.put_slot-k.ensures c.loop-rest.invariant.2 c.requires (c.loop-rest.invariant.4 few) less few)
+pub loop-v-preserved : goal.loop-v-preserved
+loop-v-preserved c =
+    elim c.if-k-lt4.branch [
+    then-k-lt4+then-has w ↦ rw (w.own-is, w.k-is) (slotting_goes c.loop-v.invariant (sym w.has.ensures ∙ w.if-has.true) (omega arith) c.requires (ap (λ size. c.loop-v.v * 256 + size) w.size_of.ensures.is))
+    | else-k-lt4 w ↦ rw (w.own-is, w.k-is) (elim w.else-k-lt4.branch [
+    else-k-lt4-via-then-k-lt4+else-has x ↦ slotting_passes c.loop-v.invariant (sym x.has.ensures ∙ x.if-has.false)
+    | else-k-lt4-via-else-k-lt4 x ↦ slotting_full c.loop-v.invariant (omega arith) (omega arith)
+    ])
+    ]
 
 pub returns : goal.returns
-returns c = record { slots = list_ends c.loop-rest.invariant.2 (omega arith) c.loop-rest.invariant.0 c.loop-rest.invariant.4; front = λ i lt. c.loop-rest.invariant.3 i lt ∙ c.clear_slots.ensures.front i lt }
+returns c =
+    let here = c.loop-v.invariant in
+    record {
+      slots = λ stands e few zeros. list_ends (here.listed (few_entries _ stands e c.args.scope.now.few_variables few) zeros) (omega arith) c.args.scope.now.few_variables stands e;
+      front = here.front;
+      back = here.back;
+    }

@@ -3,9 +3,6 @@ use mathlib.Core.Path.{refl, ◌∙◌}
 use Rattle.prepared.proofs.Packing.{pack_begins, pack_fits, pack_goes, pack_ends}
 use Rattle.prepared.proofs.pack.pack_arcs.Goals as goal
 
-pub overflow_mul-rows : goal.overflow_mul-rows
-overflow_mul-rows c = omega (arith, c.requires.1)
-
 pub loop-row-init : goal.loop-row-init
 loop-row-init c = (refl, pack_begins)
 
@@ -15,17 +12,8 @@ overflow_mul-row c = omega (arith, c.requires.1, c.loop-row-test.true)
 pub pack_row-requires : goal.pack_row-requires
 pack_row-requires c = (c.requires.0, omega (arith, c.requires.1, c.loop-row-test.true), c.loop-row.invariant.0 ∙ c.requires.2, pack_fits c.loop-row.invariant.1 c.loop-row-test.true c.requires.3)
 
-pub overflow_add-row : goal.overflow_add-row
-overflow_add-row c = omega (arith, c.requires.1, c.loop-row-test.true)
-
-pub loop-row-smaller : goal.loop-row-smaller
-loop-row-smaller c = omega (arith, c.loop-row-test.true)
-
 pub loop-row-preserved : goal.loop-row-preserved
 loop-row-preserved c = (c.pack_row.auto.arcs ∙ c.loop-row.invariant.0, pack_goes c.loop-row.invariant.1 c.pack_row.ensures.front c.pack_row.ensures.is c.pack_row.ensures.back)
-
-pub shape_of-arcs : goal.shape_of-arcs
-shape_of-arcs c = c.loop-row.invariant.0
 
 pub returns : goal.returns
 returns c = pack_ends c.loop-row.invariant.1 c.loop-row-test.false

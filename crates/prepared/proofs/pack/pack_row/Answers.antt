@@ -18,12 +18,6 @@ bounds-arcs-base c = omega (arith, c.requires.0, c.requires.1, c.requires.2, c.l
 pub pack_place-end-requires : goal.pack_place-end-requires
 pack_place-end-requires c = (row_fits c.loop-p.invariant.2 c.requires.3 c.loop-p-test.true, omega (arith, c.requires.0, c.loop-p-test.true), row_room c.loop-p.invariant.2 (omega (arith, c.requires.0, c.loop-p-test.true)) (omega (arith, c.requires.1, c.requires.2, c.loop-p.invariant.0)))
 
-pub overflow_add-p : goal.overflow_add-p
-overflow_add-p c = omega (arith, c.requires.0, c.loop-p-test.true)
-
-pub loop-p-smaller : goal.loop-p-smaller
-loop-p-smaller c = omega (arith, c.loop-p-test.true)
-
 pub loop-p-preserved : goal.loop-p-preserved
 loop-p-preserved c = (c.pack_place-end.auto.arcs ∙ c.loop-p.invariant.0, omega (arith, c.loop-p-test.true), row_goes c.loop-p.invariant.2 refl c.pack_place-end.ensures.is)
 
