@@ -4,13 +4,11 @@ use mathlib.Core.Path.{◌≡◌, refl, sym, ap, subst, ◌∙◌}
 use Prim.Native.Nat.{◌≤◌, ◌<◌}
 use native.Mathlib.Omega.{arith}
 use borrow.Author.Tests.{le-leb, le-ltb, ltb-true, ltb-false}
-use mathlib.Core.Logic.{⊎_elim}
-use native.Mathlib.Nat.{eq-or-lt_of_le}
-use lib.ListN.{set, length-set, length-append, length-map, length-drop, get_or-map, get_or-eq_default}
-use lib.Seq.{length-take-le, ext_get_or, get_or-set_same, get_or-set_other, get_or-take, get_or-drop}
+use lib.ListN.{set, length-append, length-map, length-drop, get_or-map, get_or-eq_default}
+use lib.Seq.{length-take-le, ext_get_or, get_or-take, get_or-drop}
 use Rattle.reading.specs.Basics.{ℕ, Bool, true, false, ltb, List, [], map, length, get_or, take, drop, below}
 use Rattle.reading.proofs.Lists.{length-below, get_d_below}
-use Rattle.net.specs.Net.{Net, in_transition, scope, tokens_on, transition_at}
+use Rattle.net.specs.Net.{Net, in_transition, tokens_on, transition_at}
 use Rattle.net.specs.internal.ReaderEnums.{bits}
 use Rattle.net_file.specs.Limits.{Limits}
 use Rattle.net_transitions.proofs.Transitioning.{part_in, part_before}

@@ -1,18 +1,15 @@
 -- The loops that list each transition's own variables, four slots each. Assumes nothing.
-use Rattle.std.specs.Prelude.{◌+◌, ◌*◌, ◌/◌, ◌%◌, ◌∷◌, if◌then◌else◌}
-use mathlib.Core.Path.{◌≡◌, refl, sym, ap, subst, ◌∙◌}
+use Rattle.std.specs.Prelude.{◌+◌, ◌*◌, ◌∷◌, if◌then◌else◌}
+use mathlib.Core.Path.{◌≡◌, refl, sym, ap, ◌∙◌}
 use mathlib.Core.Logic.{⊎_elim}
-use Prim.Native.Nat.{◌≤◌, ◌<◌, ◌-◌, ◌^◌}
+use Prim.Native.Nat.{◌≤◌, ◌<◌}
 use native.Mathlib.Omega.{arith}
-use native.Mathlib.Numerals.{add-one}
-use native.Mathlib.Nat.{eq-or-lt_of_le, div-lt_iff_lt-mul, div-div-eq-div-mul, div-eq_of_lt, pow-suc, one-mul}
+use native.Mathlib.Nat.{eq-or-lt_of_le}
 use borrow.Author.Tests.{ltb-true, ltb-false, eqb-true, eq-eqb, ne_eqb}
 use lib.ListN.{set, replicate, length-set, length-append, length-map, get_or-append, get_or-eq_default}
 use lib.Seq.{get_or-set_same, get_or-set_other, get_or_at}
-use lib.Pow.{pow_pos}
 use Rattle.reading.specs.Basics.{ℕ, zero, suc, Bool, true, false, List, [], map, length, get_or, ltb, eqb, with, below, numbers_from, keep}
-use Rattle.reading.proofs.Lists.{In, at_in, at_below, get_d_at}
-use Rattle.net.specs.Net.{Net, variables_of, in_transition, no_transition, transition_at}
+use Rattle.net.specs.Net.{Net, variables_of, in_transition, transition_at}
 use Rattle.net.specs.internal.ReaderEnums.{bits, member}
 use Rattle.net_file.specs.Limits.{Limits}
 use Rattle.net_transitions.proofs.Spaces.{keep-bits, below_next, count_grows}

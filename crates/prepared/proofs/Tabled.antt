@@ -1,13 +1,12 @@
 -- The tables that a reading leaves are the tables of its net. Assumes nothing.
-use Rattle.std.specs.Prelude.{◌+◌, ◌-◌, ◌/◌, ◌%◌, ◌∷◌, if◌then◌else◌}
+use Rattle.std.specs.Prelude.{◌+◌, ◌-◌, ◌%◌}
 use mathlib.Core.Path.{◌≡◌, refl, sym, ap, subst, ◌∙◌}
 use Prim.Native.Nat.{◌≤◌, ◌<◌}
 use native.Mathlib.Omega.{arith}
 use borrow.Author.Tests.{ltb-true, ltb-false}
-use lib.Seq.{get_or-take, get_or-drop}
-use Rattle.reading.specs.Basics.{ℕ, zero, suc, Bool, true, false, not, List, [], Option, none, some, map, length, get_or, take, drop, ltb, eqb, sum}
+use Rattle.reading.specs.Basics.{ℕ, Bool, true, false, List, Option, none, some, length, get_or, ltb}
 use Rattle.reading.specs.Reading.{fine}
-use Rattle.net.specs.Net.{Expression, Place, single, pair, Net, colours_of, place_at, transition_at, scope}
+use Rattle.net.specs.Net.{Expression, Place, Net, colours_of, place_at, transition_at}
 use Rattle.net.specs.Reader.{read_expression}
 use Rattle.evaluation.specs.internal.Evaluated.{is_pair}
 use Rattle.evaluation.proofs.Weights.{expression_past}

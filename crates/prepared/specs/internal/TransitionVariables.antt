@@ -1,6 +1,6 @@
 -- The table of each transition's own variables, four slots each.
-use Rattle.std.specs.Prelude.{◌≡◌, ◌≤◌, ◌<◌, set, ◌+◌, ◌*◌, ◌/◌, ◌%◌}
-use Rattle.reading.specs.Basics.{ℕ, Bool, true, List, map, length, get_or, below, keep}
+use Rattle.std.specs.Prelude.{◌≡◌, ◌≤◌, ◌<◌, ◌+◌, ◌*◌, ◌/◌, ◌%◌}
+use Rattle.reading.specs.Basics.{ℕ, Bool, List, map, length, get_or, below, keep}
 use Rattle.net.specs.Net.{Transition, Net, size_of, variables_of, transition_at}
 use Rattle.net.specs.internal.ReaderEnums.{bits, size_in}
 

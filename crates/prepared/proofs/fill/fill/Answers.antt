@@ -10,13 +10,12 @@ pack_part-requires c =
     let arcs = c.read_net.new.arcs in
     let held = c.in_ok-counts.ensures in
     let h = held.holds in
-    let lent : length arcs ≡ 3072 = c.read_net.auto.arcs ∙ part_sized plan 512 3072 (omega (arith, c.requires)) in
-    (
+    let lent : length arcs ≡ 3072 = c.read_net.auto.arcs ∙ part_sized plan 512 3072 (omega (arith, c.requires)) in (
       h.started.few,
       h.few_transitions,
       c.place_shapes.auto.plan ∙ c.place_lists.auto.plan ∙ whole_sized plan arcs c.requires lent,
       fits-same arcs (drop 512 c.place_shapes.new.plan) h.started.few h.few_transitions
-      (slots_kept arcs _ _ h.started.few (part_at plan arcs (drop 3072 (drop 512 plan)) c.requires lent) c.place_lists.ensures.placed c.place_shapes.ensures) (fitting held),
+          (slots_kept arcs _ _ h.started.few (part_at plan arcs (drop 3072 (drop 512 plan)) c.requires lent) c.place_lists.ensures.placed c.place_shapes.ensures) (fitting held),
     )
 
 pub returns : goal.returns

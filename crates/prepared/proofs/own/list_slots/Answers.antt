@@ -9,11 +9,11 @@ loop-v-init c = slotting_begins _ _ _ _ _ c.told-own
 pub loop-v-preserved : goal.loop-v-preserved
 loop-v-preserved c =
     elim c.if-k-lt4.branch [
-    then-k-lt4+then-has w ↦ rw (w.own-is, w.k-is) (slotting_goes c.loop-v.invariant (sym w.has.ensures ∙ w.if-has.true) (omega arith) c.requires (ap (λ size. c.loop-v.v * 256 + size) w.size_of.ensures.is))
-    | else-k-lt4 w ↦ rw (w.own-is, w.k-is) (elim w.else-k-lt4.branch [
-    else-k-lt4-via-then-k-lt4+else-has x ↦ slotting_passes c.loop-v.invariant (sym x.has.ensures ∙ x.if-has.false)
-    | else-k-lt4-via-else-k-lt4 x ↦ slotting_full c.loop-v.invariant (omega arith) (omega arith)
-    ])
+      | then-k-lt4+then-has w ↦ rw (w.own-is, w.k-is) (slotting_goes c.loop-v.invariant (sym w.has.ensures ∙ w.if-has.true) (omega arith) c.requires (ap (λ size. c.loop-v.v * 256 + size) w.size_of.ensures.is))
+      | else-k-lt4 w ↦ rw (w.own-is, w.k-is) (elim w.else-k-lt4.branch [
+        | else-k-lt4-via-then-k-lt4+else-has x ↦ slotting_passes c.loop-v.invariant (sym x.has.ensures ∙ x.if-has.false)
+        | else-k-lt4-via-else-k-lt4 x ↦ slotting_full c.loop-v.invariant (omega arith) (omega arith)
+      ])
     ]
 
 pub returns : goal.returns

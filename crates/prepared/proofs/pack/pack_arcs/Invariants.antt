@@ -1,5 +1,4 @@
 use mathlib.Core.Path.{◌≡◌}
-use Prim.Native.Nat.{◌-◌}
 use lib.ListN.{length}
 use Rattle.prepared.proofs.Packing.{Packing}
 use Rattle.prepared.proofs.pack.pack_arcs.Given as goal

@@ -1,5 +1,5 @@
 use mathlib.Core.Path.{◌≡◌}
-use Prim.Native.Nat.{◌-◌, ◌≤◌}
+use Prim.Native.Nat.{◌≤◌}
 use lib.ListN.{length}
 use Rattle.prepared.proofs.Packing.{RowPacking}
 use Rattle.prepared.proofs.pack.pack_row.Given as goal
