@@ -1,14 +1,16 @@
 -- Passes over a row's arcs, one arc a turn. Assumes nothing.
-use Rattle.std.specs.Prelude.{◌+◌, ◌-◌, ◌<◌, ◌||◌, ◌∷◌}
-use Rattle.std.specs.List.{list_any}
+use Rattle.std.specs.Prelude.{◌+◌, ◌-◌, ◌<◌, ◌||◌, ◌∷◌, if◌then◌else◌, Option, Some, None}
+use Rattle.std.specs.List.{list_any, position_or_len}
+use Rattle.std.specs.Option.{unwrap_or}
+use Rattle.std.proofs.lemmas.List.Sums.{prefix_len-le-length}
 use Rattle.std.proofs.lemmas.List.{take_all}
 use Rattle.std.proofs.Math.Seq.{drop-cons}
-use Rattle.std.proofs.Common.{add-one, length-drop}
+use Rattle.std.proofs.Common.{add-one, one-add, length-drop}
 use mathlib.Core.Path.{◌≡◌, refl, sym, ap, ◌∙◌, subst}
 use native.Mathlib.Omega.{arith}
 use Prim.Native.Nat.{◌≤◌}
-use borrow.Author.Tests.{le-ltb, ltb-false}
-use Rattle.reading.specs.Basics.{ℕ, suc, Bool, true, false, List, [], length, get_or, take, drop, find, any}
+use borrow.Author.Tests.{le-ltb, ltb-false, leb-true, leb-false}
+use Rattle.reading.specs.Basics.{ℕ, Bool, true, false, not, ltb, leb, List, [], length, get_or, take, drop, find, any}
 use Rattle.firing.specs.Arcs.{Arc, Rising, none, more, weight_in}
 use Rattle.firing.specs.internal.Steps.{spilling, Sought, changed_by, changed}
 use Rattle.firing.proofs.Rows.{weight_hit, weight_skip, weight-below}
@@ -25,20 +27,45 @@ pub from_0 : {n from : ℕ} {l : List Arc} → Rising n from l → Rising n 0 l
 from_0 none = none
 from_0 (more f k w r) = more (omega arith) k w r
 
--- without the first, and from the first's place on
-pub rising_on : {n from : ℕ} (l : List Arc) (k : ℕ) → Rising n from l → length l ≤ suc k → Rising n 0 (take k (drop 1 l))
-rising_on [] k none h = rw (take_all {A = Arc} k [] (omega arith)) none
-rising_on (a ∷ l) k (more f i w r) h = rw (take_all k l (omega arith)) (from_0 r)
+-- from the first's place on, and without the first
+rising_here : {n from p : ℕ} {a : Arc} {l : List Arc} → Rising n from (a ∷ l) → p ≤ a.place → Rising n p (a ∷ l)
+rising_here (more f i w r) h = more h i w r
 
-pub rising_here : {n from : ℕ} (l : List Arc) (p : ℕ) (other : Arc) → Rising n from l → (1 ≤ length l → p ≤ (get_or l 0 other).place) → Rising n p l
-rising_here [] p other none h = none
-rising_here (a ∷ l) p other (more f i w r) h = more (h (omega arith)) i w r
+rising_on : {n from : ℕ} {a : Arc} {l : List Arc} → Rising n from (a ∷ l) → Rising n 0 l
+rising_on (more f i w r) = from_0 r
 
 -- ---- looking for an arc
--- an arc below p has no weight at p or a later place
-pub weight_on : (l : List Arc) (k p q : ℕ) (other : Arc) → 1 ≤ length l → length l ≤ suc k → (get_or l 0 other).place < p → p ≤ q → weight_in l q ≡ weight_in (take k (drop 1 l)) q
-weight_on [] k p q other h s f g = absurd (omega arith)
-weight_on (a ∷ l) k p q other h s f g = rw (take_all k l (omega arith)) (weight_skip a l q (λ e. omega arith))
+-- those in front that stand below p have no weight at p or a later place
+pub sought_at : (l : List Arc) (p : ℕ) → Sought l p (drop (position_or_len (λ a. leb p a.place) l) l)
+sought_at [] p = record { passed = λ q h. refl; rises = λ n r. none }
+sought_at (a ∷ l) p = go (leb p a.place) refl (sought_at l p)
+  where
+    go : (t : Bool) → leb p a.place ≡ t → Sought l p (drop (position_or_len (λ a. leb p a.place) l) l)
+        → Sought (a ∷ l) p (drop (if not t then 1 + position_or_len (λ a. leb p a.place) l else 0) (a ∷ l))
+    go true e later = record { passed = λ q h. refl; rises = λ n r. rising_here r (leb-true p a.place e) }
+    go false e later =
+        let below : a.place < p = leb-false p a.place e in
+        rw one-add
+        (record {
+          passed = λ q h. weight_skip a l q (λ z. omega arith) ∙ later.passed q h;
+          rises = λ n r. later.rises n (rising_on r);
+        })
+
+-- the same from what a search for the first of the others tells, or the end
+pub sought : (l : List Arc) (p : ℕ) {o : Option ℕ} {n : ℕ}
+    → o ≡ (if ltb (position_or_len (λ a. leb p a.place) l) (length l) then Some (position_or_len (λ a. leb p a.place) l) else None)
+    → n ≡ unwrap_or o (length l) → Sought l p (take (length l - n) (drop n l))
+sought l p {n = n} e u = rw (take_all {A = Arc} (length l - n) (drop n l) (omega (arith, length-drop n l)), is) (sought_at l p)
+  where
+    first : ℕ
+    first = position_or_len (λ a. leb p a.place) l
+
+    go : (t : Bool) → ltb first (length l) ≡ t → unwrap_or (if t then Some first else None) (length l) ≡ first
+    go true k = refl
+    go false k = omega (arith, ltb-false first (length l) k, prefix_len-le-length (λ a. not (leb p a.place)) l)
+
+    is : n ≡ first
+    is = u ∙ ap (λ x. unwrap_or x (length l)) e ∙ go (ltb first (length l)) refl
 
 -- ---- the weight at a place
 pub weight_none : (l : List Arc) (p : ℕ) → length l < 1 → 0 ≡ weight_in l p

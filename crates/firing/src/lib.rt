@@ -98,13 +98,8 @@ fn some_hinders(hinders: &[Arc], m: &[u16]) -> bool
 fn seek(arcs: &[Arc], p: u16) -> &[Arc]
     ensures { Sought arcs.now p result.now }
 {
-    let mut rest = arcs;
-    loop {
-        match rest {
-            [arc, more @ ..] if arc.place < p => rest = more,
-            _ => return rest,
-        }
-    }
+    let start = arcs.iter().position(|arc| p <= arc.place);
+    &arcs[start.unwrap_or(arcs.len())..]
 }
 
 // The weight at place p of arcs that rise from there.
