@@ -4,29 +4,27 @@ use mathlib.Core.Path.{◌≡◌, refl, sym, ap, subst, ◌∙◌}
 use Prim.Native.Nat.{◌≤◌, ◌<◌}
 use native.Mathlib.Omega.{arith}
 use borrow.Author.Tests.{le-leb, lt-leb, leb-true, leb-false}
-use lib.ListN.{length-append}
-use lib.Seq.{length-take-le}
-use Rattle.reading.specs.Basics.{ℕ, Bool, true, false, not, List, [], flat_map, length, take, drop, leb, over}
+use lib.ListN.{length-append, length-map}
+use Rattle.reading.specs.Basics.{ℕ, Bool, true, false, List, [], flat_map, length, take, drop, replicate, leb, over}
 use Rattle.reading.specs.Reading.{Outcome, accepted, refused, refusing}
 use Rattle.flat_file.specs.Flat.{write_flat}
 use Rattle.flat_file.proofs.Written.{place_bytes, length_places}
 use Rattle.net.specs.Net.{Net, flat_place_count}
 use Rattle.net_file.specs.NetFile.{read_net}
-use Rattle.plan.specs.internal.Layout.{flat_places_in}
-use Rattle.prepared.specs.internal.Prepared.{Prepared}
-use Rattle.prepared.specs.internal.Filled.{Readied, PreparedTold}
-use Rattle.prepared.specs.declared.fill.Preparing.{Preparing}
-use Rattle.prepared.specs.declared.fill.Preparing.TheVariants.{Ready, Refused}
-use Rattle.prepared.proofs.Known.{its_limits}
+use Rattle.prepared.specs.internal.Prepared.{Prepared, InitialCounts}
+use Rattle.prepared.specs.internal.Drawn.{Drawn, IsDrawn, net_of}
 use Rattle.rows.specs.internal.Slots.{NetSlotted}
-use Rattle.reading.proofs.Clash.{not_true, not_false}
 use Rattle.rows.proofs.Fires.{small_room}
-use Rattle.row_numbers.specs.Unfolding.{flat_file, WriteCall, unfold_call, line, program}
-use Rattle.row_bytes.specs.internal.RowBytes.{all_bytes, Ruled, FewSlots, Tabled}
-use Rattle.row_numbers.specs.internal.Marks.{Marked, RowsCounted}
+use Rattle.rows.proofs.FlatPlaces.{flat_places_lem}
+use Rattle.bindings.specs.Effect.{flat_places}
+use Rattle.row_numbers.specs.Unfolding.{initial_at, unfolded, flat_file, WriteCall, unfold_call, line, program}
+use Rattle.row_bytes.specs.internal.RowBytes.{all_bytes, Ruled}
+use Rattle.row_numbers.specs.internal.Marks.{Blank, Marked, RowsCounted}
 use Rattle.flat_file.specs.internal.Output.{Appended}
 use Rattle.flat_file.proofs.Appending.{append_then, append_all, append_count}
+use Rattle.row_numbers.proofs.Marking.{blank_words}
 use Rattle.row_bytes.proofs.RowBytes.{rows_bytes}
+use Rattle.unfolding.specs.internal.Room.{Slots}
 use Rattle.unfolding.proofs.Initial.{initial_counted}
 
 -- ---- the call
@@ -48,81 +46,69 @@ module _ (s out : List ℕ) where
     unfold_whole h = rw (read, le-leb (length (flat_file n)) (length out) h)
 
 -- ---- the file by its pieces
-module _ {s plan initial : List ℕ} (t : Tabled s plan initial) where
-  abbrev places : ℕ
-  places = flat_place_count t.net
+-- the table of a net that was read, by its file and table
+pub its_table : {d : Drawn} {s plan : List ℕ} → s ≡ d.file → plan ≡ d.plan → IsDrawn d.file d.plan → Prepared s (net_of d) plan
+its_table e f known = rw (e, f) known
 
-  file_is : (0x02 ∷ 1 ∷ []) ++ flat_map place_bytes (take places initial) ++ all_bytes t.net ++ (0x5F ∷ []) ≡ flat_file t.net
-  unfolding write_flat
-  file_is = rw (t.counts, sym (rows_bytes t.net))
+-- the counts of its flat places stand at the front of a list of 4,096
+pub front_counts : {n : Net} {initial : List ℕ} {places : ℕ} → InitialCounts n initial → length initial ≡ 4096 → places ≡ flat_place_count n → places ≤ 4096
+    → take places initial ≡ (unfolded n).initial
+front_counts {n} {initial} held h e few = rw e (initial_counted n initial held (omega arith))
 
+module _ {s plan : List ℕ} {n : Net} (ready : Prepared s n plan) where
   -- lists of 1,024 slots have the room for its rows, where these need few
-  pub is_small : {slots : ℕ} → NetSlotted s plan slots → leb (slots + length s / 2) 1024 ≡ true → FewSlots s
-  is_small enough few n read =
-      let both : accepted n ≡ accepted t.net = sym read ∙ t.ready.read in
-      let same : n ≡ t.net = cc in
-      rw same (small_room s t.net (enough t.net t.ready) few)
+  pub is_small : {slots : ℕ} → NetSlotted s plan slots → leb (slots + length s / 2) 1024 ≡ true → Slots s 1024
+  is_small enough few m read =
+      let both : accepted m ≡ accepted n = sym read ∙ ready.read in
+      let same : m ≡ n = cc in
+      rw same (small_room s n (enough n ready) few)
 
-  -- as many flat places as the table says
-  pub places_are : {total : ℕ} → total ≡ flat_places_in plan → total ≡ places
-  places_are e = e ∙ sym t.ready.flat_places_are
+  module _ {initial : List ℕ} (counts : initial ≡ (unfolded n).initial) where
+    file_is : (0x02 ∷ 1 ∷ []) ++ flat_map place_bytes initial ++ all_bytes n ++ (0x5F ∷ []) ≡ flat_file n
+    unfolding write_flat
+    file_is = rw (counts, sym (rows_bytes n))
 
-  -- its length, from that of the rows
-  file-length : length initial ≡ 4096 → 3 + 3 * places + length (all_bytes t.net) ≡ length (flat_file t.net)
-  file-length h =
-      let counts : List ℕ = flat_map place_bytes (take places initial) in
-      omega (
-        arith,
-        ap length file_is,
-        length-append (counts ++ all_bytes t.net) (0x5F ∷ []),
-        length-append counts (all_bytes t.net),
-        length_places (take places initial),
-        length-take-le places initial (omega (arith, (its_limits t.ready).flat_places_lem)),
-      )
+    pub sized : length initial ≡ flat_place_count n
+    unfolding unfolded
+    sized = ap length counts ∙ length-map (flat_places n) (initial_at n) ∙ flat_places_lem n
 
-  -- the pieces written one behind the other are the file
-  pub file_written : {total : ℕ} → total ≡ flat_places_in plan → {o o1 o2 o3 o4 : List ℕ} {n1 n2 n3 n4 : ℕ}
-      → Appended o o1 0 n1 (0x02 ∷ 1 ∷ []) → Appended o1 o2 n1 n2 (flat_map place_bytes (take total initial))
-      → Appended o2 o3 n2 n3 (all_bytes t.net) → Appended o3 o4 n3 n4 (0x5F ∷ []) → Appended o o4 0 n4 (flat_file t.net)
-  file_written e {o} {o4 = o4} {n4 = n4} head counts rows end =
-      subst (Appended o o4 0 n4) file_is (append_then (append_then (append_then head (rw (places_are e) at counts)) rows) end)
+    -- its length, from that of the rows
+    file-length : 3 + 3 * flat_place_count n + length (all_bytes n) ≡ length (flat_file n)
+    file-length =
+        let counted : List ℕ = flat_map place_bytes initial in
+        omega (arith, ap length file_is, length-append (counted ++ all_bytes n) (0x5F ∷ []), length-append counted (all_bytes n), length_places initial, sized)
 
-  -- whether there is space, as the code tells it
-  module _ (out : List ℕ) {told : Bool} (h : length initial ≡ 4096) (e : told ≡ leb (3 + 3 * places + length (all_bytes t.net)) (length out)) where
-    pub has_space : not told ≡ false → 3 + 3 * places + length (all_bytes t.net) ≤ length out
-    has_space f = leb-true (3 + 3 * places + length (all_bytes t.net)) (length out) (sym e ∙ not_false told f)
+    -- the pieces written one behind the other are the file
+    pub file_written : {o o1 o2 o3 o4 : List ℕ} {n1 n2 n3 n4 : ℕ}
+        → Appended o o1 0 n1 (0x02 ∷ 1 ∷ []) → Appended o1 o2 n1 n2 (flat_map place_bytes initial)
+        → Appended o2 o3 n2 n3 (all_bytes n) → Appended o3 o4 n3 n4 (0x5F ∷ []) → Appended o o4 0 n4 (flat_file n)
+    file_written {o} {o4 = o4} {n4 = n4} head places rows end = subst (Appended o o4 0 n4) file_is (append_then (append_then (append_then head places) rows) end)
+
+-- ---- what the code tells: the marks, the number of each transition's rows, and whether there is space
+module _ {s plan : List ℕ} {n : Net} (ready : Prepared s n plan) {marks rows : List ℕ}
+    (marked : (n : Net) → Prepared s n plan → Blank (replicate 2048 0) 0 → Marked n plan marks (length n.transitions) × RowsCounted n rows (length n.transitions)) where
+  abbrev pub ruled : Ruled s plan marks
+  ruled = record { net = n; ready = ready; marked = (marked n ready (blank_words 2048)).0 }
+
+  pub counted : RowsCounted n rows (length n.transitions)
+  counted = (marked n ready (blank_words 2048)).1
+
+  module _ {initial : List ℕ} (counts : initial ≡ (unfolded n).initial) (out : List ℕ) {fits : Bool}
+      (told : (k : Ruled s plan marks) → RowsCounted k.net rows (length k.net.transitions) → fits ≡ leb (3 + 3 * flat_place_count k.net + length (all_bytes k.net)) (length out)) where
+    is_told : fits ≡ leb (3 + 3 * flat_place_count n + length (all_bytes n)) (length out)
+    is_told = told ruled counted
+
+    pub has_space : fits ≡ true → 3 + 3 * length initial + length (all_bytes n) ≤ length out
+    has_space e = let le = leb-true (3 + 3 * flat_place_count n + length (all_bytes n)) (length out) (sym is_told ∙ e) in omega (arith, sized ready counts)
 
     -- the call's result
-    pub call_short : not told ≡ true → record { result = refused 14 0; out = out } ≡ unfold_call s out
-    call_short f =
-        unfold_short s out t.ready.read (let lt = leb-false (3 + 3 * places + length (all_bytes t.net)) (length out) (sym e ∙ not_true told f) in omega (arith, file-length h))
+    pub call_short : fits ≡ false → record { result = refused 14 0; out = out } ≡ unfold_call s out
+    call_short e =
+        let lt = leb-false (3 + 3 * flat_place_count n + length (all_bytes n)) (length out) (sym is_told ∙ e) in
+        unfold_short s out ready.read (omega (arith, file-length ready counts))
 
-    pub call_whole : not told ≡ false → {exit : List ℕ} {size : ℕ} → Appended out exit 0 size (flat_file t.net) → record { result = accepted size; out = exit } ≡ unfold_call s out
-    call_whole f w = rw (append_count w, append_all w) (unfold_whole s out t.ready.read (omega (arith, file-length h, has_space f)))
-
-  -- with the marks, and the number of each transition's rows
-  abbrev pub ruled_marked : {marks rows : List ℕ} {A : Type 0}
-      → ((n : Net) → Prepared s n plan → A → Marked n plan marks (length n.transitions) × RowsCounted n rows (length n.transitions))
-      → A → ((k : Ruled s plan marks) × RowsCounted k.net rows (length k.net.transitions))
-  ruled_marked told a = let both = told t.net t.ready a in (record { net = t.net; ready = t.ready; marked = both.0 }, both.1)
-
--- ---- the file as it was prepared
--- a list of 4,096 counts has the flat net's at its front
-pub tabled : {s plan initial : List ℕ} → Readied s plan initial → length initial ≡ 4096 → Tabled s plan initial
-tabled {initial = initial} held h = record {
-  net = held.value;
-  ready = held.prepared;
-  counts = initial_counted held.value initial held.marked (omega (arith, (its_limits held.prepared).flat_places_lem));
-}
-
-module _ (s plan initial : List ℕ) {r : Preparing} where
-  -- it was accepted
-  pub readied : r ≡ Ready → PreparedTold s plan initial r → Readied s plan initial
-  readied e told = subst (PreparedTold s plan initial) e told
-
-  -- or refused
-  pub call_refused : (out : List ℕ) {number place : ℕ} → r ≡ Refused number place → PreparedTold s plan initial r → record { result = refused number place; out = out } ≡ unfold_call s out
-  call_refused out e told = unfold_refused s out (subst (PreparedTold s plan initial) e told)
+    pub call_whole : fits ≡ true → {exit : List ℕ} {size : ℕ} → Appended out exit 0 size (flat_file n) → record { result = accepted size; out = exit } ≡ unfold_call s out
+    call_whole e w = rw (append_count w, append_all w) (unfold_whole s out ready.read (omega (arith, file-length ready counts, sized ready counts, has_space e)))
 
 -- ---- the program
 -- what the call gives over 65,536 bytes, and the program with it

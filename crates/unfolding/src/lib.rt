@@ -5,5 +5,5 @@ mod call;
 mod program;
 mod text;
 
-pub use call::{UnfoldReply, unfold};
+pub use call::unfold;
 pub use program::write_reply;

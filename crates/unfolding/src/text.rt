@@ -1,10 +1,12 @@
 // Writes the program's line for a refusal into a lent buffer.
 ghost use Rattle.std.specs.Prelude.{◌≡◌, [], ◌∷◌, ◌+◌, ◌%◌, ◌≤◌, length};
 ghost use Rattle.reading.specs.Basics.{over};
+ghost use Rattle.reading.specs.Refusals.{number_of};
 ghost use Rattle.row_numbers.specs.Unfolding.{decimal, line};
 ghost use Rattle.flat_file.specs.internal.Output.{Appended};
 
 use flat_file::{put_byte, put_bytes};
+use reading::Refusal;
 
 // The last digit of a number.
 fn put_digit(n: usize, out: &mut [u8], at: usize) -> usize
@@ -30,13 +32,13 @@ fn put_decimal(digits: usize, n: usize, out: &mut [u8], at: usize) -> usize
 }
 
 // The line of a refusal; it gives the line's length.
-pub fn write_line(number: u8, place: usize, out: &mut [u8]) -> usize
+pub fn write_line(refusal: Refusal, out: &mut [u8]) -> usize
     requires { 23 ≤ length out.old }
-    ensures { (result ≡ length (line number place)) × (out.new ≡ over (line number place) out.old) }
+    ensures { let text = line (number_of refusal.reason) refusal.place in (result ≡ length text) × (out.new ≡ over text out.old) }
 {
     let mut next = put_bytes(b"refused ", out, 0);
-    next = put_decimal(5, number as usize, out, next);
+    next = put_decimal(5, usize::from(refusal.reason.number()), out, next);
     next = put_bytes(b" at ", out, next);
-    next = put_decimal(5, place, out, next);
+    next = put_decimal(5, refusal.place, out, next);
     put_byte(out, next, 0x0A)
 }

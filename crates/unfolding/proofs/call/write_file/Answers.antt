@@ -1,10 +1,6 @@
-use native.Mathlib.Omega.{arith}
 use mathlib.Core.Path.{sym, ◌∙◌}
-use Rattle.unfolding.proofs.Unfolds.{is_small, tabled}
+use Rattle.unfolding.proofs.Unfolds.{its_table, is_small}
 use Rattle.unfolding.proofs.call.write_file.Goals as goal
 
-pub write_small-requires : goal.write_small-requires
-write_small-requires c = let t = tabled c.requires (omega arith) in record { initial_len = (omega arith, is_small t c.most_slots.ensures.is (sym c.is_small.ensures ∙ c.if-is_small.true)); tabled = t }
-
-pub write_large-requires : goal.write_large-requires
-write_large-requires c = record { initial_len = omega arith; tabled = tabled c.requires (omega arith) }
+pub write_in-requires-clause-roomy : goal.write_in-requires-clause-roomy
+write_in-requires-clause-roomy c = rw (← c.file-file.ensures.is) (is_small (its_table c.file-file.ensures.is c.plan.ensures.is c.plan.ensures.known) c.most_slots.ensures.is (sym c.is_small.ensures ∙ c.if-is_small.true))

@@ -1,0 +1,2 @@
+-- What contracts inside the crate cite.
+pub mod Room
