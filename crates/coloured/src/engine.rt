@@ -2,15 +2,16 @@
 ghost use Rattle.std.specs.Prelude.{◌≡◌, ◌+◌, ◌*◌, ◌/◌, ◌≤◌, length, take, drop};
 ghost use Rattle.reading.specs.Basics.{items};
 ghost use Rattle.firing.specs.Firing.{fired};
+ghost use Rattle.firing.specs.Replies.{answer_number};
 ghost use Rattle.firing.specs.internal.Loops.{Ran};
 ghost use Rattle.net.specs.Net.{Net, flat_place_count};
 ghost use Rattle.bindings.specs.Orders.{fire_order};
 ghost use Rattle.rows.specs.internal.Effects.{room};
 ghost use Rattle.prepared.specs.internal.Prepared.{Prepared};
 
-use bindings::{Named, name_order};
-use firing::fire_rest;
-use rows::{Loaded, load_bound};
+use bindings::name_order;
+use firing::{Answer, Arc, fire_rest, row_arcs};
+use rows::load_bound;
 
 // Fires the order number i; env is lent for the colours of its binding.
 fn fire_nth(
@@ -20,21 +21,19 @@ fn fire_nth(
     orders: &[u8],
     i: usize,
     env: &mut [u8; 32],
-    places: &mut [u16],
-    amounts: &mut [u16],
-) -> u8
+    arcs: &mut [Arc],
+) -> Answer
     requires { i * 6 + 6 ≤ length orders.now }
     ensures { (n : Net) → Prepared file.now n plan.now
-        → room file.now n ≤ length places.old → room file.now n ≤ length amounts.old → length m.old ≡ flat_place_count n
-        → fired result m.new ≡ fire_order n (take 6 (drop (i * 6) orders.now)) m.old }
+        → room file.now n ≤ length arcs.old → length m.old ≡ flat_place_count n
+        → fired (answer_number result) m.new ≡ fire_order n (take 6 (drop (i * 6) orders.now)) m.old }
 {
-    let Named::Of { t, .. } = name_order(plan, orders, i, env) else {
-        return 1;
+    let Some(named) = name_order(plan, orders, i, env) else {
+        return Answer::NoBinding;
     };
-    match load_bound(file, plan, env, t, m, places, amounts) {
-        Loaded::NoRow => 2,
-        Loaded::Lacking => 3,
-        Loaded::Row { ends } => fire_rest(places, amounts, ends, m),
+    match load_bound(file, plan, env, named.t, m, arcs) {
+        Ok(ends) => fire_rest(row_arcs(arcs, ends), m),
+        Err(answer) => answer,
     }
 }
 
@@ -45,20 +44,15 @@ pub fn fire_list(
     m: &mut [u16],
     orders: &[u8],
     answers: &mut [u8],
-    places: &mut [u16],
-    amounts: &mut [u16],
+    arcs: &mut [Arc],
 )
     requires { length orders.now / 6 ≤ length answers.old }
     ensures { (n : Net) → Prepared file.now n plan.now
-        → room file.now n ≤ length places.old → room file.now n ≤ length amounts.old → length m.old ≡ flat_place_count n
+        → room file.now n ≤ length arcs.old → length m.old ≡ flat_place_count n
         → Ran (fire_order n) (items 6 orders.now) m.old answers.old m.new answers.new }
 {
-    let many = orders.len() / 6;
     let mut env = [0u8; 32];
-    let mut i: usize = 0;
-    while i < many {
-        let a = fire_nth(file, plan, m, orders, i, &mut env, places, amounts);
-        answers[i] = a;
-        i += 1;
+    for i in 0..orders.len() / 6 {
+        answers[i] = fire_nth(file, plan, m, orders, i, &mut env, arcs).number();
     }
 }

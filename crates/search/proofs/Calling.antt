@@ -1,11 +1,12 @@
 -- The call for the first order that fires, on a net file that is read whole, or refused. Assumes nothing.
-use mathlib.Core.Path.{◌≡◌, ap, subst, ◌∙◌}
+use Rattle.std.specs.Prelude.{Option, Some, None, MatchOption, IsSomeAnd}
+use mathlib.Core.Path.{◌≡◌, ap, ◌∙◌}
 use Prim.Native.Nat.{◌<◌}
 use borrow.Author.Tests.{eq-eqb, ne_eqb}
 use Rattle.reading.specs.Basics.{ℕ, List, map, length, eqb}
 use Rattle.reading.specs.Reading.{accepted, refused}
 use Rattle.reading.proofs.Permits.{done, holds, fails}
-use Rattle.firing.specs.Firing.{First, found, nothing, first}
+use Rattle.firing.specs.Firing.{First, found, first}
 use Rattle.firing.proofs.Running as running
 use Rattle.net.specs.Net.{Net}
 use Rattle.net_file.specs.NetFile.{read_net}
@@ -18,8 +19,8 @@ use Rattle.plan.specs.internal.Layout.{flat_places_in}
 use Rattle.prepared.specs.internal.Prepared.{Prepared}
 use Rattle.rows.proofs.Fires.{wrong, fitting}
 use Rattle.search.specs.internal.Searched.{search_told, SearchWithin}
-use Rattle.search.specs.declared.engine.Searched.{Searched}
-use Rattle.search.specs.declared.engine.Searched.TheVariants as searched
+use Rattle.firing.specs.Replies.{first_told}
+use Rattle.bindings.specs.declared.binding.Numbered.{Numbered}
 
 -- ---- refused files
 pub no_first : (s : List ℕ) {number place : ℕ} → read_net s ≡ refused number place → (m : List ℕ) → refused number place ≡ first_order s m
@@ -35,19 +36,13 @@ module _ {s plan : List ℕ} {n : Net} (ready : Prepared s n plan) (m : List ℕ
 
   module _ (fits : length m ≡ flat_places_in plan) where
     -- as the search tells it
-    first_is_lem : {x : First (List ℕ)} → first (λ order. eqb (fire_order n order m).answer 0) (map order_of (bindings n)) ≡ x → accepted x ≡ first_order s m
+    pub first_is_lem : {x : First (List ℕ)} → first (λ order. eqb (fire_order n order m).answer 0) (map order_of (bindings n)) ≡ x → accepted x ≡ first_order s m
     unfolding first_order
     first_is_lem e = running.first_is_lem _ _ _ _ m ready.read (holds (eq-eqb _ _ (fitting ready m fits)) done) e
 
-    pub first_none : {r : Searched} {tried : ℕ} → r ≡ searched.Nothing tried → first (λ order. eqb (fire_order n order m).answer 0) (map order_of (bindings n)) ≡ search_told n r
-        → accepted (nothing tried) ≡ first_order s m
-    first_none e f = first_is_lem (f ∙ ap (search_told n) e)
-
     -- with its bytes, as the code gives them
-    pub first_found : {r : Searched} {t i tried : ℕ} (o : Order) → r ≡ searched.At t i tried
-        → (first (λ order. eqb (fire_order n order m).answer 0) (map order_of (bindings n)) ≡ search_told n r) × SearchWithin n r
-        → ((f : List ℕ) (k : Net) → Prepared f k plan → t < length k.transitions → bytes_of o ≡ order_of (numbered k t i))
+    pub first_found : (b : Numbered) {tried : ℕ} (o : Order)
+        → first (λ order. eqb (fire_order n order m).answer 0) (map order_of (bindings n)) ≡ found (order_of (numbered n b.t b.index)) tried → b.t < length n.transitions
+        → ((f : List ℕ) (k : Net) → Prepared f k plan → b.t < length k.transitions → bytes_of o ≡ order_of (numbered k b.t b.index))
         → accepted (found (bytes_of o) tried) ≡ first_order s m
-    first_found {r} {t} {i} {tried} o e f told =
-        let within = subst (SearchWithin n) e f.1 in
-        ap (λ b. accepted (found b tried)) (told s n ready within.0) ∙ first_is_lem (f.0 ∙ ap (search_told n) e)
+    first_found b {tried = tried} o f inside told = ap (λ l. accepted (found l tried)) (told s n ready inside) ∙ first_is_lem f

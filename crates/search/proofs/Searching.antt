@@ -8,8 +8,7 @@ use Rattle.reading.specs.Basics.{ℕ, Bool, List, map, some, length, get_elem?, 
 use Rattle.reading.proofs.Lists.{at_in, at_map}
 use lib.ListN.{length-map}
 use Rattle.firing.specs.Firing.{found, nothing, first}
-use Rattle.firing.specs.internal.Loops.{stopped_at}
-use Rattle.firing.proofs.Running.{Searching, search_begin, search_none, Tried, Stretch, stretch, stopped_in, stopped_out}
+use Rattle.firing.proofs.Running.{Searching, search_begin, search_none, Tried, Stretch, stretch}
 use Rattle.net.specs.Net.{Net, sizes_of, transition_at}
 use Rattle.bindings.specs.Effect.{bindings}
 use Rattle.bindings.specs.Orders.{order_of, fire_order}
@@ -56,16 +55,16 @@ module _ {s plan : List ℕ} {n : Net} (ready : Prepared s n plan) (m : List ℕ
     whole = stretch test (map order_of (bindings n)) tried (λ j. order_of (numbered n t j)) probe many 0 (rw add-zero here.none) tries
 
     -- one of them fires
-    pub seek_found : (i : ℕ) → first probe (below many) ≡ stopped_at many i → i < many
+    pub seek_found : (i : ℕ) → first probe (below many) ≡ found i (i + 1) → i < many
         → (first test (map order_of (bindings n)) ≡ found (order_of (numbered n t i)) (tried + i + 1)) × (t < length n.transitions) × (i < product (sizes_of n (transition_at n t)))
-    seek_found i is few = (subst (Stretch test (map order_of (bindings n)) tried (λ j. order_of (numbered n t j)) probe (0 + many)) (is ∙ stopped_in many i few) whole, inside, omega (arith, counted))
+    seek_found i is few = (subst (Stretch test (map order_of (bindings n)) tried (λ j. order_of (numbered n t j)) probe (0 + many)) is whole, inside, omega (arith, counted))
 
     -- none does: the next transition
-    pub seek_next : (i : ℕ) → first probe (below many) ≡ stopped_at many i → many ≤ i → Seeking n m (tried + many) (t + 1)
-    seek_next i is none =
+    pub seek_next : first probe (below many) ≡ nothing many → Seeking n m (tried + many) (t + 1)
+    seek_next is =
         let e : tried + (0 + many) ≡ tried + many = omega arith in
         record {
-          none = rw e at (subst (Stretch test (map order_of (bindings n)) tried (λ j. order_of (numbered n t j)) probe (0 + many)) (is ∙ stopped_out many i none) whole);
+          none = rw e at (subst (Stretch test (map order_of (bindings n)) tried (λ j. order_of (numbered n t j)) probe (0 + many)) is whole);
           at = omega (arith, before_next n t inside, counted, here.at);
         }
 

@@ -1,9 +1,11 @@
-use Rattle.prepared.proofs.Known.{the_net, the_refusal}
+use mathlib.Core.Path.{ap, ◌∙◌}
+use Rattle.std.proofs.lemmas.Result.{err_from_is_err_and}
+use Rattle.prepared.proofs.Known.{the_refusal}
+use Rattle.search.specs.Replies.{first_reply}
 use Rattle.search.proofs.Calling.{no_first}
 use Rattle.search.proofs.first_order.Goals as goal
 
-pub returns-in-Refused : goal.returns-in-Refused
-returns-in-Refused c = no_first _ (the_refusal _ _ _ c.in-Refused.is c.prepare.ensures) _
-
-pub returns-in-Ready : goal.returns-in-Ready
-returns-in-Ready c = let held = the_net _ _ _ c.in-Ready.is c.prepare.ensures in c.first_on.ensures held.value held.prepared
+pub returns-in_err-prepare : goal.returns-in_err-prepare
+returns-in_err-prepare c =
+    let p = err_from_is_err_and c.from_residual.result c.from_residual.ensures.1 in
+    rw (p.1, p.2) (no_first _ (the_refusal _ _ _ c.in_err-prepare.was c.prepare.ensures) _)

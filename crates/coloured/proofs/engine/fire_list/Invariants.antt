@@ -1,6 +1,5 @@
-use Rattle.std.specs.Prelude.{◌-◌}
 use mathlib.Core.Path.{◌≡◌}
-use Prim.Native.Nat.{◌≤◌, ◌<◌}
+use Prim.Native.Nat.{◌≤◌}
 use Rattle.reading.specs.Basics.{length, items}
 use Rattle.firing.proofs.Running.{Running}
 use Rattle.net.specs.Net.{Net, flat_place_count}
@@ -10,7 +9,4 @@ use Rattle.prepared.specs.internal.Prepared.{Prepared}
 use Rattle.coloured.proofs.engine.fire_list.Given as goal
 
 abbrev pub invariant-loop-i : goal.invariant-loop-i
-invariant-loop-i l = ((n : Net) → Prepared l.file n l.plan → room l.file n ≤ length l.initial.places → room l.file n ≤ length l.initial.amounts → length l.initial.m ≡ flat_place_count n → Running (fire_order n) (items 6 l.orders) l.initial.m l.initial.answers l.m l.answers l.i) × (length l.m ≡ length l.initial.m) × (length l.answers ≡ length l.initial.answers) × (length l.places ≡ length l.initial.places) × (length l.amounts ≡ length l.initial.amounts) × (l.many < 18446744073709551615)
-
-abbrev pub decreases-loop-i : goal.decreases-loop-i
-decreases-loop-i l = l.many - l.i
+invariant-loop-i l = (n : Net) → Prepared l.file n l.plan → room l.file n ≤ length l.initial.arcs → length l.initial.m ≡ flat_place_count n → Running (fire_order n) (items 6 l.orders) l.initial.m l.initial.answers l.m l.answers l.i

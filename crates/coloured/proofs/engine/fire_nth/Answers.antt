@@ -1,20 +1,22 @@
-use mathlib.Core.Path.{subst, ◌∙◌}
-use Rattle.bindings.proofs.Naming.{told_nothing, told_of, told-room}
-use Rattle.rows.specs.internal.Loading.{BoundTold}
+use mathlib.Core.Path.{ap, ◌∙◌}
+use Rattle.reading.specs.Basics.{[]}
+use Rattle.firing.specs.Firing.{fire}
+use Rattle.firing.specs.Arcs.{weights}
+use Rattle.bindings.proofs.Naming.{told_nothing, told_of}
 use Rattle.rows.proofs.Fires.{no_name, names}
 use Rattle.coloured.proofs.engine.fire_nth.Goals as goal
 
 pub returns-in_default : goal.returns-in_default
-returns-in_default c = λ n ready x y sized. no_name n _ _ (told_nothing n _ _ c.in_default.is (c.name_order.ensures.told _ n ready))
+returns-in_default c n ready room sized = no_name n _ _ (told_nothing n _ _ c.in_default.is (c.name_order.ensures.told _ n ready))
 
-pub load_bound-requires : goal.load_bound-requires
-load_bound-requires c = told-room c.in-Of.is c.name_order.ensures.room
+pub returns-in-Ok : goal.returns-in-Ok
+returns-in-Ok c n ready room sized =
+    let it = told_of n _ _ c.in-Some.is (c.name_order.ensures.told _ n ready) in
+    let row = c.in-Ok.ensures.told n _ ready it.stands it.binds room sized in
+    let fires = c.fire_rest.ensures (rw c.row_arcs.ensures row.proper) (rw (ap (λ r. r.takes) c.row_arcs.ensures) row.there) in
+    fires ∙ ap (λ r. fire [] (weights r) c.args.m.now) c.row_arcs.ensures ∙ row.fires ∙ names n _ _ it.is
 
-pub returns-in-NoRow : goal.returns-in-NoRow
-returns-in-NoRow c = λ n ready x y sized. let it = told_of n _ _ c.in-Of.is (c.name_order.ensures.told _ n ready) in subst (BoundTold n _ _ _ _) c.in-NoRow.is (c.load_bound.ensures n _ ready it.stands it.binds x y sized) ∙ names n _ _ it.is
-
-pub returns-in-Lacking : goal.returns-in-Lacking
-returns-in-Lacking c = λ n ready x y sized. let it = told_of n _ _ c.in-Of.is (c.name_order.ensures.told _ n ready) in subst (BoundTold n _ _ _ _) c.in-Lacking.is (c.load_bound.ensures n _ ready it.stands it.binds x y sized) ∙ names n _ _ it.is
-
-pub returns-in-Row : goal.returns-in-Row
-returns-in-Row c = λ n ready x y sized. let it = told_of n _ _ c.in-Of.is (c.name_order.ensures.told _ n ready) in let row = subst (BoundTold n _ _ _ _) c.in-Row.is (c.load_bound.ensures n _ ready it.stands it.binds x y sized) in c.fire_rest.ensures row.within row.proper row.there ∙ row.fires ∙ names n _ _ it.is
+pub returns-in-Err : goal.returns-in-Err
+returns-in-Err c n ready room sized =
+    let it = told_of n _ _ c.in-Some.is (c.name_order.ensures.told _ n ready) in
+    c.in-Err.ensures.told n _ ready it.stands it.binds room sized ∙ names n _ _ it.is

@@ -1,4 +1,4 @@
-use Rattle.std.specs.Prelude.{◌-◌, ◌*◌}
+use Rattle.std.specs.Prelude.{◌*◌}
 use mathlib.Core.Path.{◌≡◌}
 use Prim.Native.Nat.{◌≤◌}
 use Rattle.reading.specs.Basics.{length}
@@ -9,7 +9,7 @@ use Rattle.search.proofs.Searching.{Seeking}
 use Rattle.search.proofs.engine.search_all.Given as goal
 
 abbrev pub invariant-loop-t : goal.invariant-loop-t
-invariant-loop-t l = ((n : Net) → Prepared l.file n l.plan → room l.file n ≤ length l.initial.places → room l.file n ≤ length l.initial.amounts → length l.m ≡ flat_place_count n → Seeking n l.m l.tried l.t) × (length l.places ≡ length l.initial.places) × (length l.amounts ≡ length l.initial.amounts) × (l.t ≤ l.transitions) × (l.tried ≤ l.t * 4228250625)
-
-abbrev pub decreases-loop-t : goal.decreases-loop-t
-decreases-loop-t l = l.transitions - l.t
+invariant-loop-t l = record {
+  seeking : (n : Net) → Prepared l.file n l.plan → room l.file n ≤ length l.initial.arcs → length l.m ≡ flat_place_count n → Seeking n l.m l.tried l.t;
+  few : l.tried ≤ l.t * 4228250625;
+}
