@@ -2,8 +2,7 @@ use native.Mathlib.Omega.{arith}
 use mathlib.Core.Path.{◌≡◌, refl}
 use Prim.Native.Nat.{ℕ, ◌+◌, ◌-◌}
 use lib.ListN.{length-set}
-use Rattle.prepared.proofs.Known.{its_limits}
-use Rattle.bindings.proofs.Gathering.{gather_begins, gather_goes, gather_ends}
+use Rattle.bindings.proofs.Gathering.{gather_begins, gather_goes}
 use Rattle.bindings.proofs.order.order_at.Goals as goal
 
 pub loop-k-init : goal.loop-k-init
@@ -11,6 +10,3 @@ loop-k-init c = (refl, λ n owned l lt. gather_begins n c.args.t c.args.index ow
 
 pub loop-k-preserved : goal.loop-k-preserved
 loop-k-preserved c = (omega (arith, length-set {A = ℕ}), λ n owned l lt. let next : c.loop-k.k - 1 + 1 ≡ c.loop-k.k = omega arith in gather_goes n c.args.t c.args.index owned l lt c.loop-k.colours (omega arith) (omega arith) c.own_of.ensures c.colours_of-size.ensures.is (rw next (c.loop-k.invariant.1 n owned l lt)))
-
-pub returns : goal.returns
-returns c = λ s n p lt. let owned = p.owned in let l = its_limits p in gather_ends n c.args.t c.args.index owned l lt c.loop-k.colours (omega arith) (c.loop-k.invariant.1 n owned l lt)

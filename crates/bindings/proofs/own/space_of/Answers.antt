@@ -1,12 +1,8 @@
 use native.Mathlib.Omega.{arith}
-use mathlib.Core.Path.{refl}
 use Prim.Native.Nat.{◌≤◌, ◌+◌}
 use Rattle.prepared.proofs.Known.{its_limits}
 use Rattle.bindings.proofs.Owning.{small_space, fits_space, space_goes, space_ends}
 use Rattle.bindings.proofs.own.space_of.Goals as goal
-
-pub loop-k-init : goal.loop-k-init
-loop-k-init c = (omega arith, λ n owned l lt. refl)
 
 pub overflow_mul-space : goal.overflow_mul-space
 overflow_mul-space c = omega (arith, fits_space (c.loop-k.k + 1) (small_space _ c.loop-k.invariant.0 c.colours_of-space.ensures.small.1) (let h : c.loop-k.k + 1 ≤ 4 = omega arith in h))
