@@ -6,6 +6,7 @@ mod give;
 mod net_codes;
 mod unfold_codes;
 
-pub use flat_codes::{give_fired, give_row, give_sizes};
-pub use net_codes::{give_first_order, give_net_sizes, give_orders_fired};
-pub use unfold_codes::{give_images, give_row_order, give_unfolded};
+pub use flat_codes::{give_row, give_sizes};
+pub use give::give_count;
+pub use net_codes::{give_first_order, give_net_sizes};
+pub use unfold_codes::give_row_order;
