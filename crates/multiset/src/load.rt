@@ -9,6 +9,7 @@ use evaluation::eval_rank;
 use firing::Arc;
 use plan::{expression_of, is_pair, ranks_of, start_of};
 use reading::{byte_at, once_more, word_at};
+use runs::store;
 use sums::{Multiset, Spot, list_terms, sum_terms};
 
 // Stores an arc after so many, if its weight is above 0: how many there are then. Past the end it stores nothing.
@@ -20,11 +21,7 @@ pub fn append(arcs: &mut [Arc], used: usize, arc: Arc) -> usize
     if arc.weight < 1 {
         return used;
     }
-    if arcs.len() <= used {
-        return used;
-    }
-    arcs[used] = arc;
-    used + 1
+    store(arcs, used, arc)
 }
 
 // Whether a list of a size has no room for so many after those that are used.
@@ -140,7 +137,14 @@ fn load_listed(
     let base = used + count;
     let m = list_all(file, plan, env, entry, arcs, base);
     let (room, terms) = arcs.split_at_mut(base);
-    load_terms(start_of(entry), count, &terms[..m.end - base], m.rest, room, used)
+    load_terms(
+        start_of(entry),
+        count,
+        &terms[..m.end - base],
+        m.rest,
+        room,
+        used,
+    )
 }
 
 // Appends the arcs of an arc's expression, which its entry tells, with the ranks of its place and where the place's flat places begin.
