@@ -4,8 +4,7 @@ use mathlib.Core.Path.{◌≡◌, refl, sym, ap, subst, fun_ext, ◌∙◌}
 use mathlib.Core.List.Memᴰ
 use Prim.Native.Nat.{◌≤◌, ◌<◌}
 use native.Mathlib.Omega.{arith}
-use lib.Seq.{take-take}
-use Rattle.reading.specs.Basics.{ℕ, Bool, true, false, List, [], Option, none, some, length, take, get_elem?, given, any, find}
+use Rattle.reading.specs.Basics.{ℕ, Bool, true, false, List, [], Option, none, some, length, get_elem?, given, any, find}
 use Rattle.reading.proofs.Lists.{In, here, there, in_cases}
 use Rattle.firing.specs.Firing.{Weights, fired, fire}
 use Rattle.firing.specs.internal.Steps.{lacking}

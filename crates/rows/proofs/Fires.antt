@@ -24,7 +24,7 @@ use Rattle.plan.specs.internal.Layout.{flat_places_in}
 use Rattle.prepared.specs.internal.Prepared.{Prepared}
 use Rattle.rows.specs.internal.Effects.{row_slots, greatest, room, TakesLoaded}
 use Rattle.rows.specs.internal.Loading.{KindLoaded, LoadsRest, RowReady}
-use Rattle.rows.proofs.Needing.{row_room, room-low}
+use Rattle.rows.proofs.Needing.{room-low}
 use Rattle.rows.proofs.Effects.{takes_loaded, loaded_proper, loaded_fires, takes_lack, none_lacks}
 
 -- lists of 20,480 slots have the room for every net

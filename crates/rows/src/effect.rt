@@ -53,13 +53,7 @@ fn load_rest(
 }
 
 // Its whole row, without asking whether it has an effect: where each kind ends.
-pub fn load_row(
-    file: &[u8],
-    plan: &[u32; 3584],
-    env: &[u8; 32],
-    t: usize,
-    arcs: &mut [Arc],
-) -> Ends
+pub fn load_row(file: &[u8], plan: &[u32; 3584], env: &[u8; 32], t: usize, arcs: &mut [Arc]) -> Ends
     requires { t < 32 }
     ensures is { LoadsRow file.now plan.now env.now t arcs.old arcs.new result }
     ensures within { EndsWithin arcs.new result.takes result.puts result.hinders }
