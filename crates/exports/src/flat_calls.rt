@@ -4,7 +4,7 @@ ghost use Rattle.reading.specs.Basics.{[]};
 ghost use Rattle.flat_file.specs.Flat.{fire_images, first_row, flat_sizes};
 ghost use Rattle.codes.specs.Codes.{returned, fire_code, first_row_code, sizes_code};
 
-use codes::{give_fired, give_row, give_sizes};
+use codes::{give_count, give_row, give_sizes};
 
 // Reads a flat file. Code 1: how many flat places and rows it has.
 #[unsafe(no_mangle)]
@@ -40,7 +40,7 @@ pub extern "C" fn kwz_fire_images(
     ensures { returned result (first.new ∷ second.new ∷ []) (marking.new ∷ answers.new ∷ [])
         ≡ fire_code (fire_images flat.now marking.old images.now answers.old) }
 {
-    give_fired(
+    give_count(
         flat::fire_images(flat, marking, images, answers),
         first,
         second,

@@ -5,7 +5,7 @@ ghost use Rattle.net_reader.specs.Sizes.{net_sizes};
 ghost use Rattle.bindings.specs.Orders.{fire_orders, first_order};
 ghost use Rattle.codes.specs.Codes.{returned, fire_code, first_order_code, net_code};
 
-use codes::{give_first_order, give_net_sizes, give_orders_fired};
+use codes::{give_count, give_first_order, give_net_sizes};
 
 // Reads a net file. Code 1: how many flat places, transitions and bindings it has.
 #[unsafe(no_mangle)]
@@ -33,7 +33,7 @@ pub extern "C" fn kwz_fire_orders(
     ensures { returned result (first.new ∷ second.new ∷ []) (marking.new ∷ answers.new ∷ [])
         ≡ fire_code (fire_orders net.now marking.old orders.now answers.old) }
 {
-    give_orders_fired(
+    give_count(
         coloured::fire_orders(net, marking, orders, answers),
         first,
         second,

@@ -4,7 +4,7 @@ ghost use Rattle.reading.specs.Basics.{[]};
 ghost use Rattle.row_numbers.specs.Unfolding.{images_call, order_call, unfold_call};
 ghost use Rattle.codes.specs.Codes.{returned, row_order_code, write_code};
 
-use codes::{give_images, give_row_order, give_unfolded};
+use codes::{give_count, give_row_order};
 
 // Unfolds a net file into a flat file. Code 1: its length.
 #[unsafe(no_mangle)]
@@ -17,7 +17,7 @@ pub extern "C" fn kwz_unfold(
     ensures { returned result (first.new ∷ second.new ∷ []) (flat.new ∷ [])
         ≡ write_code (unfold_call net.now flat.old) }
 {
-    give_unfolded(unfolding::unfold(net, flat), first, second)
+    give_count(unfolding::unfold(net, flat), first, second)
 }
 
 // Writes the images of a list of orders. Code 1: how many were answered.
@@ -32,7 +32,7 @@ pub extern "C" fn kwz_images(
     ensures { returned result (first.new ∷ second.new ∷ []) (images.new ∷ [])
         ≡ write_code (images_call net.now orders.now images.old) }
 {
-    give_images(images::images(net, orders, images), first, second)
+    give_count(images::images(net, orders, images), first, second)
 }
 
 // The order of a row. Code 1: it is written. Code 2: there is no such row.

@@ -1,6 +1,8 @@
+use Rattle.std.specs.Prelude.{◌∷◌}
 use mathlib.Core.Path.{ap, ◌∙◌}
+use Rattle.reading.specs.Basics.{[]}
 use Rattle.codes.specs.Codes.{write_code}
 use Rattle.exports.proofs.unfold_calls.kwz_images.Goals as goal
 
 pub returns : goal.returns
-returns c = c.give_images.ensures c.images.new.out ∙ ap write_code c.images.ensures
+returns c = c.give_count.ensures (c.images.new.out ∷ []) ∙ ap write_code c.images.ensures
