@@ -12,7 +12,7 @@ ghost use Rattle.runs.specs.internal.Terms.{limit, term, Terms, joined, join_by,
 use firing::Arc;
 
 // How two counts are joined: their sum, 0 where it does not fit, or the first less the second, down to 0.
-#[derive(Clone, Copy, PartialEq, Eq)]
+#[derive(Clone, Copy, Debug, PartialEq, Eq)]
 pub enum Operator {
     Plus,
     Minus,

@@ -6,11 +6,11 @@ use native.Mathlib.Omega.{arith}
 use native.Mathlib.Nat.{mul-le-mul_left, le_trans}
 use borrow.Author.Tests.{le-leb, ne_eqb, ltb-true, ltb-false}
 use Rattle.reading.specs.Basics.{ℕ, Bool, true, false, List, [], length, ltb, eqb, byte_at, word_at}
-use Rattle.reading.specs.Reading.{Answer, fine, fault, under}
+use Rattle.reading.specs.Reading.{Answer, fine, fault, under, needed}
 use Rattle.firing.specs.declared.Arc.{Arc}
 use Rattle.firing.specs.internal.RowLists.{arcs_in}
 use Rattle.net.specs.Net.{Colour, Expression, all, plus, minus, times, Place, single, pair, Net, ceiling}
-use Rattle.net.specs.Reader.{read_colour, read_expression, two_of, amount, capped}
+use Rattle.net.specs.Reader.{read_colour, read_expression, expression_commands, two_of, amount, capped}
 use Rattle.net.specs.Values.{weight}
 use Rattle.evaluation.specs.internal.Evaluated.{bound, Ranks}
 use Rattle.runs.specs.internal.Terms.{limit, term, count_in, Terms, none, more, joined, join_by, times_all, ArcsAppended}
@@ -183,34 +183,37 @@ module _ (s : List ℕ) (n : Net) (env : List ℕ) (place : Place) (left at coun
       (λ i. record { list = []; lie = append_none arcs used; counted = all_counted n env count (word_at s (at + 1)); after = refl }))
 
   module _ (arcs' : List Arc) where
-    -- the others, with a level left
-    module _ (le : 1 ≤ left) where
-      -- 0x40
-      pub amount_listed : (end : ℕ) (k : Ranked) → word_at s (at + 1) ≤ 65535
-          → (k.rank < count → used < length arcs → ArcsAppended (term k.rank (word_at s (at + 1)) ∷ []) arcs used arcs' end)
-          → (count ≤ k.rank → ArcsAppended [] arcs used arcs' end)
-          → Ranks n env (word_at s (at + 1)) k (amount n (read_colour s n (left - 1)) place (word_at s (at + 1)) at (at + 3)) → byte_at s at ≡ 0x40
-          → ListedTold n env count arcs used arcs' (record { end = end; rest = 0; next = k.next }) (read_expression s n place left at)
+    -- the others, with so many levels left for what is inside
+    inside : read_expression s n place (left + 1) at ≡ needed s (expression_commands s n place (left + 1) (read_expression s n place left) (read_colour s n left) at) at
+    inside =
+        let e : left + 1 - 1 ≡ left = omega arith in
+        expression_in_lem s n place (left + 1) at (omega arith) ∙ ap (λ k. needed s (expression_commands s n place (left + 1) (read_expression s n place k) (read_colour s n k) at) at) e
+
+    -- 0x40
+    pub amount_listed : (end : ℕ) (k : Ranked) → word_at s (at + 1) ≤ 65535
+        → (k.rank < count → used < length arcs → ArcsAppended (term k.rank (word_at s (at + 1)) ∷ []) arcs used arcs' end)
+        → (count ≤ k.rank → ArcsAppended [] arcs used arcs' end)
+        → Ranks n env (word_at s (at + 1)) k (amount n (read_colour s n left) place (word_at s (at + 1)) at (at + 3)) → byte_at s at ≡ 0x40
+        → ListedTold n env count arcs used arcs' (record { end = end; rest = 0; next = k.next }) (read_expression s n place (left + 1) at)
+    unfolding commands
+    amount_listed end k fits under_count past h e =
+        rw inside (needed_by (ListedTold n env count arcs used arcs' (record { end = end; rest = 0; next = k.next })) (λ k p. tt) s at 0x40 _ e refl
+        (one_listed n env count arcs used arcs' end k (word_at s (at + 1)) fits under_count past
+        (amount n (read_colour s n left) place (word_at s (at + 1)) at (at + 3)) (amount-term n (read_colour s n left) place (word_at s (at + 1)) at (at + 3)) h))
+
+    module _ (r : Multiset) where
+      -- 0x44
+      pub times_told : byte_at s at ≡ 0x44 → ListedTold n env count arcs used arcs' r (capped at (under (times (word_at s (at + 1))) (read_expression s n place left (at + 3))))
+          → ListedTold n env count arcs used arcs' r (read_expression s n place (left + 1) at)
       unfolding commands
-      amount_listed end k fits inside outside h e =
-          rw (expression_in_lem s n place left at le) (needed_by (ListedTold n env count arcs used arcs' (record { end = end; rest = 0; next = k.next })) (λ k p. tt) s at 0x40 _ e refl
-          (one_listed n env count arcs used arcs' end k (word_at s (at + 1)) fits inside outside
-          (amount n (read_colour s n (left - 1)) place (word_at s (at + 1)) at (at + 3)) (amount-term n (read_colour s n (left - 1)) place (word_at s (at + 1)) at (at + 3)) h))
+      times_told e h = rw inside (needed_by (ListedTold n env count arcs used arcs' r) (λ k p. tt) s at 0x44 _ e refl h)
 
-      module _ (r : Multiset) where
-        -- 0x44
-        pub times_told : byte_at s at ≡ 0x44 → ListedTold n env count arcs used arcs' r (capped at (under (times (word_at s (at + 1))) (read_expression s n place (left - 1) (at + 3))))
-            → ListedTold n env count arcs used arcs' r (read_expression s n place left at)
-        unfolding commands
-        times_told e h = rw (expression_in_lem s n place left at le) (needed_by (ListedTold n env count arcs used arcs' r) (λ k p. tt) s at 0x44 _ e refl h)
-
-        -- 0x42 and 0x43
-        pub joined_told : (op : Operator) → byte_at s at ≡ byte_of op
-            → ListedTold n env count arcs used arcs' r (capped at (two_of (read_expression s n place (left - 1)) (joins op) (at + 1)))
-            → ListedTold n env count arcs used arcs' r (read_expression s n place left at)
-        unfolding commands
-        joined_told Minus e h = rw (expression_in_lem s n place left at le) (needed_by (ListedTold n env count arcs used arcs' r) (λ k p. tt) s at 0x43 _ e refl h)
-        joined_told Plus e h = rw (expression_in_lem s n place left at le) (needed_by (ListedTold n env count arcs used arcs' r) (λ k p. tt) s at 0x42 _ e refl h)
+      -- 0x42 and 0x43
+      pub joined_told : (op : Operator) → byte_at s at ≡ byte_of op → ListedTold n env count arcs used arcs' r (capped at (two_of (read_expression s n place left) (joins op) (at + 1)))
+          → ListedTold n env count arcs used arcs' r (read_expression s n place (left + 1) at)
+      unfolding commands
+      joined_told Minus e h = rw inside (needed_by (ListedTold n env count arcs used arcs' r) (λ k p. tt) s at 0x43 _ e refl h)
+      joined_told Plus e h = rw inside (needed_by (ListedTold n env count arcs used arcs' r) (λ k p. tt) s at 0x42 _ e refl h)
 
     -- nothing is promised past the end, where no level is left for what is inside, and at a stray byte
     module _ (r : Multiset) where

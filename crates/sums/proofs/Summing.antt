@@ -8,6 +8,7 @@ use borrow.Author.Tests.{le-leb, ne_eqb, lt-ltb, ltb-true, ltb-false}
 use Rattle.reading.specs.Basics.{ℕ, zero, suc, Bool, true, false, List, [], Option, some, none, length, ltb, eqb, given, with, byte_at, word_at}
 use Rattle.reading.specs.Reading.{Answer, fine, fault, under, Check, ◌unless◌, failing, Command, command, obey}
 use Rattle.reading.proofs.Lists.{end, also}
+use Rattle.std.proofs.lemmas.Bool.{false≢true}
 use Rattle.reading.proofs.Commands.{known, needed_at}
 use Rattle.reading.proofs.Keeps.{no_value, then_went, under_went, needed_went}
 use Rattle.firing.specs.declared.Arc.{Arc}
@@ -58,14 +59,11 @@ opening-same : {A : Type 0} (s : List ℕ) (at left more byte : ℕ) (checks : L
 opening-same s at left more byte checks go went h =
     rw (lt-ltb 0 (suc left) (omega arith), lt-ltb 0 (suc more) (omega arith)) (obey-same s at byte (given (width_of byte) 0 λ width. width) (with checks (7 unless true)) go went h)
 
-no_true : {C : Type 0} → false ≡ true → C
-no_true e = let z : ◌≡◌ {A = ℕ} 0 1 = cc in absurd (omega arith)
-
 module _ (s : List ℕ) (n : Net) where
   colour_more : (left more at : ℕ) → left ≤ more → Same (read_colour s n left at) (read_colour s n more at)
   unfolding commands
   colour_more zero more at le k next e =
-      needed_went s at (also (λ h p q. no_true h.1.0) (also (λ h p q. no_true h.1.0) (also (λ h p q. no_true h.0) (also (λ h p q. no_true h.0) end)))) (sym (colour_step s n zero at) ∙ e)
+      needed_went s at (also (λ h p q. absurd (false≢true h.1.0)) (also (λ h p q. absurd (false≢true h.1.0)) (also (λ h p q. absurd (false≢true h.0)) (also (λ h p q. absurd (false≢true h.0)) end)))) (sym (colour_step s n zero at) ∙ e)
   colour_more (suc left) zero at le k next e = absurd (omega arith)
   colour_more (suc left) (suc more) at le k next e =
       needed_each (λ x. Same x (read_colour s n (suc more) at)) (λ number place k next e. no_value e) s at (colour_commands s n (suc left) (read_colour s n left) at) (

@@ -1,6 +1,6 @@
 // The terms of an arc expression under a binding, by recursion over its bytes.
 // Nothing is asked of the bytes: where they hold a tree, what comes out is the tree's.
-ghost use Rattle.std.specs.Prelude.{◌≡◌, [], ◌∷◌, ℕ, ◌≤◌, ◌<◌, ◌^◌, length};
+ghost use Rattle.std.specs.Prelude.{◌≡◌, [], ◌∷◌, ℕ, ◌≤◌, ◌<◌, ◌+◌, ◌^◌, length};
 ghost use Rattle.reading.specs.Basics.{byte_at};
 ghost use Rattle.runs.specs.internal.Terms.{term, ArcsAppended};
 ghost use Rattle.sums.specs.internal.Loaded.{ListedAt, byte_of};
@@ -55,24 +55,15 @@ pub fn store_below(arcs: &mut [Arc], used: usize, below: usize, rank: usize, cou
 }
 
 impl BoundArc<'_> {
-    // A count of one colour or pair, behind 0x40.
-    fn list_count(&self, spot: Spot, arcs: &mut [Arc], used: usize) -> Multiset
-        requires inner { (1 ≤ spot.left) × (spot.at < length self.now.file.now) }
-        requires byte { byte_at self.now.file.now spot.at ≡ 0x40 }
-        ensures is { ListedAt self.now.file.now self.now.plan.now self.now.env.now self.now.entry spot.left spot.at arcs.old used arcs.new result }
+    // A count of one colour or pair, 0x40, with so many levels left for what is inside.
+    fn list_count(&self, left: u8, at: usize, arcs: &mut [Arc], used: usize) -> Multiset
+        requires { byte_at self.now.file.now at ≡ 0x40 }
+        ensures is { ListedAt self.now.file.now self.now.plan.now self.now.env.now self.now.entry (left + 1) at arcs.old used arcs.new result }
         ensures low { used ≤ result.end }
         ensures within { used ≤ length arcs.old → result.end ≤ length arcs.old }
     {
-        let at = spot.at;
         let paired = is_pair(self.entry);
-        let k = eval_rank(
-            self.file,
-            self.plan,
-            self.env,
-            paired,
-            spot.left - 1,
-            at + 3,
-        );
+        let k = eval_rank(self.file, self.plan, self.env, paired, left, at + 3);
         let number = word_at(self.file, at + 1) as u16;
         Multiset {
             end: store_below(arcs, used, ranks_of(self.entry), k.rank, number),
@@ -81,20 +72,22 @@ impl BoundArc<'_> {
         }
     }
 
-    // Two expressions one after the other, behind 0x42 or 0x43: their sum, or the first less the second.
+    // Two expressions one after the other: their sum, 0x42, or the first less the second, 0x43.
     #[cycle(list)]
-    fn list_joined(&self, op: Operator, spot: Spot, arcs: &mut [Arc], used: usize) -> Multiset
-        requires inner { (1 ≤ spot.left) × (spot.at < length self.now.file.now) }
-        requires byte { byte_at self.now.file.now spot.at ≡ byte_of op }
-        ensures is { ListedAt self.now.file.now self.now.plan.now self.now.env.now self.now.entry spot.left spot.at arcs.old used arcs.new result }
+    fn list_joined(
+        &self,
+        op: Operator,
+        left: u8,
+        at: usize,
+        arcs: &mut [Arc],
+        used: usize,
+    ) -> Multiset
+        requires { byte_at self.now.file.now at ≡ byte_of op }
+        ensures is { ListedAt self.now.file.now self.now.plan.now self.now.env.now self.now.entry (left + 1) at arcs.old used arcs.new result }
         ensures low { used ≤ result.end }
         ensures within { used ≤ length arcs.old → result.end ≤ length arcs.old }
     {
-        let left = spot.left - 1;
-        let first = Spot {
-            left,
-            at: spot.at + 1,
-        };
+        let first = Spot { left, at: at + 1 };
         let e = self.list_terms(first, arcs, used);
         let second = Spot { left, at: e.next };
         let f = self.list_terms(second, arcs, e.end);
@@ -105,20 +98,16 @@ impl BoundArc<'_> {
         }
     }
 
-    // A factor times an expression, behind 0x44.
+    // A factor times an expression, 0x44.
     #[cycle(list)]
-    fn list_times(&self, spot: Spot, arcs: &mut [Arc], used: usize) -> Multiset
-        requires inner { (1 ≤ spot.left) × (spot.at < length self.now.file.now) }
-        requires byte { byte_at self.now.file.now spot.at ≡ 0x44 }
-        ensures is { ListedAt self.now.file.now self.now.plan.now self.now.env.now self.now.entry spot.left spot.at arcs.old used arcs.new result }
+    fn list_times(&self, left: u8, at: usize, arcs: &mut [Arc], used: usize) -> Multiset
+        requires { byte_at self.now.file.now at ≡ 0x44 }
+        ensures is { ListedAt self.now.file.now self.now.plan.now self.now.env.now self.now.entry (left + 1) at arcs.old used arcs.new result }
         ensures low { used ≤ result.end }
         ensures within { used ≤ length arcs.old → result.end ≤ length arcs.old }
     {
-        let factor = word_at(self.file, spot.at + 1) as u16;
-        let inside = Spot {
-            left: spot.left - 1,
-            at: spot.at + 3,
-        };
+        let factor = word_at(self.file, at + 1) as u16;
+        let inside = Spot { left, at: at + 3 };
         let e = self.list_terms(inside, arcs, used);
         scale(arcs, used, e.end, factor);
         Multiset {
@@ -155,10 +144,10 @@ impl BoundArc<'_> {
             return nothing;
         }
         match b {
-            0x40 => self.list_count(spot, arcs, used),
-            0x42 => self.list_joined(Operator::Plus, spot, arcs, used),
-            0x43 => self.list_joined(Operator::Minus, spot, arcs, used),
-            0x44 => self.list_times(spot, arcs, used),
+            0x40 => self.list_count(left - 1, at, arcs, used),
+            0x42 => self.list_joined(Operator::Plus, left - 1, at, arcs, used),
+            0x43 => self.list_joined(Operator::Minus, left - 1, at, arcs, used),
+            0x44 => self.list_times(left - 1, at, arcs, used),
             _ => nothing,
         }
     }

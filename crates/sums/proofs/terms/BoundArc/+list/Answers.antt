@@ -1,4 +1,4 @@
-use Rattle.std.proofs.Common.{arith, ◌-◌, ◌+◌}
+use Rattle.std.proofs.Common.{arith, ◌-◌, ◌+◌, ◌≡◌}
 use Rattle.plan.specs.internal.Layout.{pair_in}
 use Rattle.net.specs.Reader.{read_expression}
 use Rattle.evaluation.specs.internal.Evaluated.{scope_in, place_by}
@@ -10,8 +10,8 @@ list_joined-returns-clause-is t c = λ known first second.
     let a = c.args in
     let s = a.self.now in
     rw c.join.ensures
-    (joined_told _ _ _ _ _ _ _ _ _ _ c.requires.inner.0 _ a.op c.requires.byte
-    (joined_listed (scope_in s.plan.now known) _ _ _ _ (read_expression s.file.now (scope_in s.plan.now known) (place_by (pair_in s.entry) first second) (a.spot.left - 1)) a.spot.at (a.spot.at + 1) _ _
+    (joined_told _ _ _ _ _ _ _ _ _ _ _ a.op c.requires
+    (joined_listed (scope_in s.plan.now known) _ _ _ _ (read_expression s.file.now (scope_in s.plan.now known) (place_by (pair_in s.entry) first second) a.left) a.at (a.at + 1) _ _
     (c.list_terms-e.ensures.is known first second) _ _ (c.list_terms-f.ensures.is known first second) a.op (omega (arith, c.list_terms-e.type_inv)) _ _ c.merge.ensures.is))
 
 pub list_terms-returns-then-self-at-clause-is : goal.list_terms-returns-then-self-at-clause-is
@@ -31,7 +31,19 @@ list_times-returns-clause-is t c = λ known first second.
     let a = c.args in
     let s = a.self.now in
     rw c.scaled.ensures
-    (times_told _ _ _ _ _ _ _ _ _ _ c.requires.inner.0 _ c.requires.byte
+    (times_told _ _ _ _ _ _ _ _ _ _ _ c.requires
     (rw (← c.word_at-factor.ensures.0)
-    (times_listed _ _ _ _ _ (read_expression s.file.now (scope_in s.plan.now known) (place_by (pair_in s.entry) first second) (a.spot.left - 1)) a.spot.at (a.spot.at + 3) _ _
+    (times_listed _ _ _ _ _ (read_expression s.file.now (scope_in s.plan.now known) (place_by (pair_in s.entry) first second) a.left) a.at (a.at + 3) _ _
     (c.list_terms-e.ensures.is known first second) _ _ c.scale.ensures)))
+
+pub list_terms-returns-in-64-clause-is : goal.list_terms-returns-in-64-clause-is
+list_terms-returns-in-64-clause-is t c = let e : c.args.spot.left - 1 + 1 ≡ c.args.spot.left = omega (arith, c.if-left-lt1.false) in rw e at c.list_count.ensures.is
+
+pub list_terms-returns-in-66-clause-is : goal.list_terms-returns-in-66-clause-is
+list_terms-returns-in-66-clause-is t c = let e : c.args.spot.left - 1 + 1 ≡ c.args.spot.left = omega (arith, c.if-left-lt1.false) in rw e at c.list_joined.ensures.is
+
+pub list_terms-returns-in-67-clause-is : goal.list_terms-returns-in-67-clause-is
+list_terms-returns-in-67-clause-is t c = let e : c.args.spot.left - 1 + 1 ≡ c.args.spot.left = omega (arith, c.if-left-lt1.false) in rw e at c.list_joined-in-67.ensures.is
+
+pub list_terms-returns-in-68-clause-is : goal.list_terms-returns-in-68-clause-is
+list_terms-returns-in-68-clause-is t c = let e : c.args.spot.left - 1 + 1 ≡ c.args.spot.left = omega (arith, c.if-left-lt1.false) in rw e at c.list_times.ensures.is
