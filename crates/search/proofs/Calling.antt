@@ -1,5 +1,4 @@
 -- The call for the first order that fires, on a net file that is read whole, or refused. Assumes nothing.
-use Rattle.std.specs.Prelude.{Option, Some, None, MatchOption, IsSomeAnd}
 use mathlib.Core.Path.{◌≡◌, ap, ◌∙◌}
 use Prim.Native.Nat.{◌<◌}
 use borrow.Author.Tests.{eq-eqb, ne_eqb}
@@ -18,8 +17,6 @@ use Rattle.bindings.specs.declared.order.Order.{Order}
 use Rattle.plan.specs.internal.Layout.{flat_places_in}
 use Rattle.prepared.specs.internal.Prepared.{Prepared}
 use Rattle.rows.proofs.Fires.{wrong, fitting}
-use Rattle.search.specs.internal.Searched.{search_told, SearchWithin}
-use Rattle.firing.specs.Replies.{first_told}
 use Rattle.bindings.specs.declared.binding.Numbered.{Numbered}
 
 -- ---- refused files

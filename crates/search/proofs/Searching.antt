@@ -1,7 +1,7 @@
 -- The search for the first order that fires, transition by transition. Assumes nothing.
 use Rattle.std.specs.Prelude.{◌+◌}
 use mathlib.Core.Path.{◌≡◌, refl, sym, ap, subst, ◌∙◌}
-use Prim.Native.Nat.{◌≤◌, ◌<◌}
+use Prim.Native.Nat.{◌<◌}
 use native.Mathlib.Omega.{arith}
 use native.Mathlib.Nat.{add-zero}
 use Rattle.reading.specs.Basics.{ℕ, Bool, List, map, some, length, get_elem?, eqb, below, product}

@@ -1,7 +1,5 @@
-use mathlib.Core.Path.{ap, ◌∙◌}
 use Rattle.std.proofs.lemmas.Result.{err_from_is_err_and}
 use Rattle.prepared.proofs.Known.{the_refusal}
-use Rattle.search.specs.Replies.{first_reply}
 use Rattle.search.proofs.Calling.{no_first}
 use Rattle.search.proofs.first_order.Goals as goal
 
