@@ -2,71 +2,47 @@
 // tests/README.md tells both forms.
 #![tactic(auto)]
 
+mod call;
 mod flat_calls;
+mod lines;
 mod net_calls;
 
+use call::Call;
 use flat_calls::{fire_case, first_case, sizes_case};
 use net_calls::{
     first_order_case, images_case, net_sizes_case, order_case, orders_case, unfold_case,
 };
 use std::io;
 use std::io::{Read, Write};
-use streams::{read_call, say_case};
+use streams::read_call;
 
 // Runs one call by its number, and answers whether there is such a call.
 fn run<R: Read, W: Write>(from: &mut R, to: &mut W, call: u8, number: u64) -> io::Result<bool> {
+    let Ok(call) = Call::try_from(call) else {
+        writeln!(to, "case {number} of no call")?;
+        return Ok(false);
+    };
+    writeln!(to, "case {number} {call}")?;
     match call {
-        1 => {
-            say_case(to, number, b"flat_sizes\n")?;
-            sizes_case(from, to)?;
-        }
-        2 => {
-            say_case(to, number, b"first_row\n")?;
-            first_case(from, to)?;
-        }
-        3 => {
-            say_case(to, number, b"fire_images\n")?;
-            fire_case(from, to)?;
-        }
-        4 => {
-            say_case(to, number, b"unfold\n")?;
-            unfold_case(from, to)?;
-        }
-        5 => {
-            say_case(to, number, b"images\n")?;
-            images_case(from, to)?;
-        }
-        6 => {
-            say_case(to, number, b"row_order\n")?;
-            order_case(from, to)?;
-        }
-        7 => {
-            say_case(to, number, b"fire_orders\n")?;
-            orders_case(from, to)?;
-        }
-        8 => {
-            say_case(to, number, b"first_order\n")?;
-            first_order_case(from, to)?;
-        }
-        9 => {
-            say_case(to, number, b"net_sizes\n")?;
-            net_sizes_case(from, to)?;
-        }
-        _ => {
-            say_case(to, number, b"of no call\n")?;
-            return Ok(false);
-        }
+        Call::FlatSizes => sizes_case(from, to)?,
+        Call::FirstRow => first_case(from, to)?,
+        Call::FireImages => fire_case(from, to)?,
+        Call::Unfold => unfold_case(from, to)?,
+        Call::Images => images_case(from, to)?,
+        Call::RowOrder => order_case(from, to)?,
+        Call::FireOrders => orders_case(from, to)?,
+        Call::FirstOrder => first_order_case(from, to)?,
+        Call::NetSizes => net_sizes_case(from, to)?,
     }
     Ok(true)
 }
 
 // Runs the case with this number, and answers whether to go on.
 fn one_case<R: Read, W: Write>(from: &mut R, to: &mut W, number: u64) -> io::Result<bool> {
-    let call = read_call(from);
-    if call == 0 {
-        return Ok(false);
+    match read_call(from) {
+        Some(call) => run(from, to, call, number),
+        None => Ok(false),
     }
-    run(from, to, call, number)
 }
 
 fn main(rt: HostRuntime) -> io::Result<()> {

@@ -5,6 +5,6 @@ mod input;
 mod text;
 
 pub use input::{
-    file_buffer, list_buffer, marking_buffer, read_bytes, read_call, read_counts, read_row,
+    FILE_BYTES, LIST_BYTES, MARKING_COUNTS, read_bytes, read_call, read_counts, read_row,
 };
-pub use text::{say, say_bytes, say_case, say_counts, say_line, say_number, say_refused};
+pub use text::say_list;

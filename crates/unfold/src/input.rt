@@ -1,27 +1,20 @@
 // An input, read whole or not at all.
 ghost use Rattle.unfold.specs.internal.Input.{IsRead, Within};
 
-use std::io::{Error, Read};
+use std::io;
+use std::io::Read;
 
-// How many bytes were read, or why a read failed.
-#[derive(Drop)]
-pub enum Input {
-    Whole { length: usize },
-    Failed { error: Error },
-}
-
-// Reads until the input ends or `net` is full. Where a read fails nothing counts that came before it.
-pub fn read_input<R: Read>(from: &mut R, net: &mut [u8]) -> Input
+// Reads until the input ends or `net` is full: how many bytes were read. Where a read fails nothing counts that came before it.
+pub fn read_input<R: Read>(from: &mut R, net: &mut [u8]) -> io::Result<usize>
     ensures within { Within result net.new }
     ensures bytes { IsRead (R.remaining from.old) (R.remaining from.new) result net.new }
 {
-    let mut done: usize = 0;
+    let mut done = 0;
     while done < net.len() {
-        match from.read(&mut net[done..]) {
-            Ok(0) => return Input::Whole { length: done },
-            Ok(more) => done += more,
-            Err(error) => return Input::Failed { error },
+        match from.read(&mut net[done..])? {
+            0 => return Ok(done),
+            more => done += more,
         }
     }
-    Input::Whole { length: done }
+    Ok(done)
 }

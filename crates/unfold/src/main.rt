@@ -5,7 +5,7 @@ mod input;
 
 ghost use Rattle.std.specs.Prelude.{◌≤◌, length};
 
-use input::{Input, read_input};
+use input::read_input;
 use std::io::{Error, Write};
 use std::process::ExitCode;
 use unfolding::write_reply;
@@ -39,8 +39,8 @@ fn complain(rt: HostRuntime, what: &str, error: &Error) {
 fn main(rt: HostRuntime) -> ExitCode {
     let mut net = [0u8; 16385];
     let length = match read_input(&mut rt.stdin(), &mut net) {
-        Input::Whole { length } => length,
-        Input::Failed { error } => {
+        Ok(length) => length,
+        Err(error) => {
             complain(rt, "reading standard input", &error);
             return ExitCode::FAILURE;
         }
