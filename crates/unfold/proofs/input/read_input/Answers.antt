@@ -23,4 +23,4 @@ joined a k n xs ys within fits =
     ap (λ l. take a xs ++ l) (sym (part a k n xs ys within fits)) ∙ ap (λ l. l ++ slice_range all a (a + n)) (sym (front a k xs ys within)) ∙ sym (take-add a ((a + n) - a) all) ∙ ap (λ m. take m all) same
 
 pub loop-done-preserved : goal.loop-done-preserved
-loop-done-preserved g c = (grind arith, subst (Consumes _ _) (joined _ _ _ _ _ c.loop-done.invariant.0 c.in-Ok.ensures.bound.0) (Consumes-trans _ _ _ _ _ c.loop-done.invariant.1 c.in-Ok.ensures.bytes.0))
+loop-done-preserved g c = (grind arith, subst (Consumes _ _) (joined _ _ _ _ _ c.loop-done.invariant.0 c.in_ok-more.ensures.bound.0) (Consumes-trans _ _ _ _ _ c.loop-done.invariant.1 c.in_ok-more.ensures.bytes.0))
