@@ -31,7 +31,7 @@ use Rattle.row_bytes.specs.internal.RowBytes.{binding_bytes, transition_bytes, R
 use Rattle.flat_file.proofs.Appending.{length_row_in, Going, go_begin}
 use Rattle.row_numbers.proofs.Rows.{rowed_if}
 use Rattle.row_numbers.proofs.Tabled.{entries_next, entries_begin, in_net}
-use Rattle.row_bytes.specs.internal.Stretches.{Next, Told}
+use Rattle.row_bytes.specs.internal.StretchSteps.{Next, Told}
 use Rattle.row_bytes.specs.declared.stretch.Stretch.{Stretch}
 use Rattle.row_bytes.specs.declared.stretch.Stretches.{Stretches as Left}
 use Rattle.std.specs.Prelude.{Some, None}

@@ -1,3 +1,3 @@
 -- What the code's own tables, lists and enums stand for. Contracts between functions and proofs cite these; no call for users does.
 pub mod RowBytes
-pub mod Stretches
+pub mod StretchSteps

@@ -59,12 +59,7 @@ fn measure_bindings(
 }
 
 // How many bytes the rows of all transitions take.
-pub fn measure_all(
-    file: &[u8],
-    plan: &[u32; 3584],
-    marks: &[u32; 2048],
-    arcs: &mut [Arc],
-) -> usize
+pub fn measure_all(file: &[u8], plan: &[u32; 3584], marks: &[u32; 2048], arcs: &mut [Arc]) -> usize
     requires roomy { Roomy file.now arcs.old }
     requires ruled { Ruled file.now plan.now marks.now }
     ensures is { (k : Ruled file.now plan.now marks.now) → result ≡ length (all_bytes k.net) }
@@ -97,7 +92,8 @@ fn write_bound(
     write_row(row_arcs(arcs, ends), out, at)
 }
 
-// Writes the rows of all bindings of a transition. Where a word of their marks is 0, it passes over 32 at once.
+// Writes the rows of all bindings of a transition. Where a word of their marks is 0, it passes over 32 at once:
+// a while, since it goes on by 32 or by one.
 fn write_bindings(
     file: &[u8],
     plan: &[u32; 3584],

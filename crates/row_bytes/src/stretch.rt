@@ -25,7 +25,7 @@ pub struct Stretches<'a> {
 }
 
 impl Iterator for Stretches<'_> {
-    ghost use Rattle.row_bytes.specs.internal.Stretches.{Told};
+    ghost use Rattle.row_bytes.specs.internal.StretchSteps.{Told};
 
     type Item = Stretch;
 

@@ -29,7 +29,7 @@ use Rattle.prepared.specs.internal.Prepared.{Prepared}
 use Rattle.rows.specs.internal.Effects.{place_slots, slots_below, kind_slots, place_arcs, kind_arcs}
 use Rattle.rows.proofs.Needing.{slots_next, slots_rise, kind_arcs_lem}
 use Rattle.rows.specs.internal.Loading.{KindLoaded}
-use Rattle.rows.specs.internal.Entries.{Told}
+use Rattle.rows.specs.internal.EntrySteps.{Told}
 use Rattle.rows.specs.declared.entries.Entries.{Entries as Left}
 use Rattle.std.specs.Prelude.{Some, None}
 use Rattle.prepared.proofs.Starts.{start_next, start_low}

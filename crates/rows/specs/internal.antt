@@ -1,5 +1,5 @@
 -- What the code's own tables, lists and enums stand for. Contracts between functions and proofs cite these; no call for users does.
 pub mod Effects
-pub mod Entries
+pub mod EntrySteps
 pub mod Loading
 pub mod Slots

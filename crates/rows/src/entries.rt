@@ -1,7 +1,7 @@
 // The entries of a transition's arcs of a kind, one after the other.
 ghost use Rattle.std.specs.Prelude.{◌≡◌, ◌≤◌, ◌+◌, ◌-◌};
 ghost use Rattle.std.specs.Iterator.{at_most};
-ghost use Rattle.rows.specs.internal.Entries.{Told};
+ghost use Rattle.rows.specs.internal.EntrySteps.{Told};
 
 use plan::arc_of;
 

@@ -20,9 +20,10 @@ pub write_bindings-next-requires-clause-many_in_bounds : goal.write_bindings-nex
 write_bindings-next-requires-clause-many_in_bounds c =
     let k = c.requires.net_in_bounds.0 in
     let so_far = c.loop-those.invariant in
-    let told = c.in-Some.ensures.steps in
-    (those_known so_far.upto told k,
-    omega (arith, measure_rest (transition_bytes k.net) (length k.net.transitions) c.args.at (so_far.measured k) (those_here so_far.upto told k), c.requires.net_in_bounds.1, ap length (those_given so_far.upto told k)))
+    let told = c.in-Some.ensures.steps in (
+      those_known so_far.upto told k,
+      omega (arith, measure_rest (transition_bytes k.net) (length k.net.transitions) c.args.at (so_far.measured k) (those_here so_far.upto told k), c.requires.net_in_bounds.1, ap length (those_given so_far.upto told k)),
+    )
 
 pub loop-those-preserved : goal.loop-those-preserved
 loop-those-preserved c =
