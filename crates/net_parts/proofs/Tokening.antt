@@ -279,26 +279,23 @@ module _ {s starts : List ℕ} {count total start len : ℕ} {initial named : Li
   tokening_stops e n begun =
       let now = here.each n begun in stops s (tokens_part s n) now.reading (rw e at room) (rw e at (is n now.tokens begun now.names))
 
-  pub tokening_goes : StartsRise starts count total → {t : TokenRead} → r ≡ Ok (std.Some t)
+  pub tokening_goes : {t : TokenRead} → r ≡ Ok (std.Some t)
       → TokenLoop s starts count total start len (set initial t.flat t.count) (set named t.flat 1) t.next
-  tokening_goes rises {t} e = record {
+  tokening_goes {t} e = record {
     counted = length-set initial t.flat t.count ∙ here.counted;
     marked = length-set named t.flat 1 ∙ here.marked;
     each = λ n begun. step n begun (here.each n begun);
   }
     where
-      h : (t.place < count) × (t.flat ≡ get_or starts t.place 0 + t.rank) × (t.flat < get_or starts (t.place + 1) 0) × (at < t.next) × (t.next ≤ length s) × (get_or named t.flat 0 ≡ 0)
+      h : (t.place < count) × (t.flat ≡ get_or starts t.place 0 + t.rank) × (t.flat < get_or starts (t.place + 1) 0) × (at < t.next) × (t.next ≤ length s) × (get_or named t.flat 0 ≡ 0) × (t.flat < 4096)
       h = rw e at room
-
-      below : t.flat < 4096
-      below = omega (arith, h.2, rises.bound t.place h.0, rises.small)
 
       step : (n : Net) → Started n n.places starts count total → Tokening s n start starts initial named at
           → Tokening s n start starts (set initial t.flat t.count) (set named t.flat 1) t.next
       step n begun now =
           let fit : t.rank < colours_of n (place_at n t.place) = omega (arith, h.1, h.2, starts_next begun t.place h.0) in
           let fresh : tokens_on now.tokens t.place t.rank ≡ none = unnamed (tokens_on now.tokens t.place t.rank)
-          (sym (now.names t.place t.rank (omega (arith, h.0, begun.are)) fit (omega (arith, h.1, below, here.marked))) ∙ (rw h.1 at h.5)) in
+          (sym (now.names t.place t.rank (omega (arith, h.0, begun.are)) fit (omega (arith, h.1, h.6, here.marked))) ∙ (rw h.1 at h.5)) in
           let x : Tokens = record { place = t.place; rank = t.rank; count = t.count } in
           record {
             tokens = with now.tokens x;

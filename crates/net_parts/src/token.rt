@@ -63,7 +63,7 @@ fn token_at(
     if file.len() < next {
         return refused(Reason::CutOff, file.len());
     }
-    let place = byte_at(file, at + 1);
+    let place = file[at + 1] as usize;
     let rank = word_at(file, at + 2);
     let Some(flat) = starts.flat_at(place, rank) else {
         return refused(Reason::OutOfRange, at);
@@ -95,7 +95,7 @@ fn read_marked(
     let mut at = start;
     while let Some(token) = token_at(file, starts, named, at)? {
         store(initial, token.flat, token.count);
-        store(named, token.flat, 1);
+        named[token.flat] = 1;
         at = token.next;
     }
     Ok(at)

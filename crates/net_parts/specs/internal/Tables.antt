@@ -80,7 +80,7 @@ token_step tokens r = stepped (λ t. with tokens (record { place = t.place; rank
 -- one that goes on is at a flat place of its place that has no mark yet
 abbrev pub TokenRoom : List ℕ → List ℕ → ℕ → ℕ → ℕ → Result (std.Option TokenRead) Refusal → Type 0
 TokenRoom starts named len count at r =
-    Keeps (λ t. (t.place < count) × (t.flat ≡ flat_at starts t.place t.rank) × (t.flat < get_or starts (t.place + 1) 0) × (at < t.next) × (t.next ≤ len) × (get_or named t.flat 0 ≡ 0)) len at r
+    Keeps (λ t. (t.place < count) × (t.flat ≡ flat_at starts t.place t.rank) × (t.flat < get_or starts (t.place + 1) 0) × (at < t.next) × (t.next ≤ len) × (get_or named t.flat 0 ≡ 0) × (t.flat < 4096)) len at r
 
 -- the tokens that were read: the table holds their counts
 pub record TokensRead (s : List ℕ) (n : Net) (start : ℕ) (starts initial : List ℕ) (next : ℕ) : Type 0 where

@@ -14,7 +14,7 @@ returns-in_err-token c =
     rw (p.1, p.2) (tokening_stops c.loop-token.invariant _ c.token_at.ensures.is c.token_at.ensures.room c.in_err-token.was)
 
 pub loop-token-preserved : goal.loop-token-preserved
-loop-token-preserved c = rw (c.store.ensures, c.store-in-Some.ensures) (tokening_goes c.loop-token.invariant _ c.token_at.ensures.is c.token_at.ensures.room c.args.starts.now.rise (c.in_ok-token.was ∙ ap Ok c.in-Some.is))
+loop-token-preserved c = rw c.store.ensures (tokening_goes c.loop-token.invariant _ c.token_at.ensures.is c.token_at.ensures.room (c.in_ok-token.was ∙ ap Ok c.in-Some.is))
 
 pub returns : goal.returns
 returns c = tokening_ends c.loop-token.invariant _ c.token_at.ensures.is c.token_at.ensures.room (c.in_ok-token.was ∙ ap Ok c.in_default.is)
