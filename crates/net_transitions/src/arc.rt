@@ -3,8 +3,9 @@ ghost use Rattle.std.specs.Prelude.{◌≡◌, List, ◌≤◌, length, get_or};
 ghost use Rattle.net.specs.Net.{Arc};
 ghost use Rattle.net_transitions.specs.internal.TransitionTables.{over, RowHolds, ArcTold, ArcRoom, ArcsTold, ArcsRoom};
 
+use crate::ground::Ground;
 use arc_expressions::read_expression;
-use net::{PlaceSets, Read, Scope, after};
+use net::{Read, after};
 use reading::{Reason, Refusal, element, refused};
 
 // An arc that was read: its slot, the variables in its expression, and the place after it.
@@ -16,19 +17,13 @@ pub struct ArcStep {
 }
 
 // The arc command at a place, over places by their sets; none where no such command stands.
-fn arc_at(
-    scope: &Scope,
-    kinds: &[PlaceSets],
-    row: &[u32],
-    at: usize,
-) -> Result<Option<ArcStep>, Refusal>
-    requires kinds_len_bound { length kinds.now ≤ 32 }
+fn arc_at(ground: &Ground, row: &[u32], at: usize) -> Result<Option<ArcStep>, Refusal>
     requires row_len { length row.now ≡ 96 }
-    ensures is { (arcs : List Arc) → RowHolds scope.now.file.now (over scope.now kinds.now) arcs (λ i. get_or row.now i 0)
-        → ArcTold scope.now.file.now (over scope.now kinds.now) arcs at row.now result }
-    ensures room { ArcRoom (length scope.now.file.now) at result }
+    ensures is { (arcs : List Arc) → RowHolds ground.now.scope.file.now (over ground.now.scope ground.now.kinds.now) arcs (λ i. get_or row.now i 0)
+        → ArcTold ground.now.scope.file.now (over ground.now.scope ground.now.kinds.now) arcs at row.now result }
+    ensures room { ArcRoom (length ground.now.scope.file.now) at result }
 {
-    let file = scope.file;
+    let file = ground.scope.file;
     let b = element(file, at, 0);
     if b < 0x16 || 0x18 < b {
         return Ok(None);
@@ -38,14 +33,14 @@ fn arc_at(
         return refused(Reason::CutOff, file.len());
     }
     let p = file[at + 1] as usize;
-    if kinds.len() <= p {
+    if ground.kinds.len() <= p {
         return refused(Reason::OutOfRange, at);
     }
     let slot = (b - 0x16) as usize * 32 + p;
     if 0 < row[slot] {
         return refused(Reason::Doubled, at);
     }
-    let e = read_expression(scope, kinds[p], 16, next)?;
+    let e = read_expression(&ground.scope, ground.kinds[p], 16, next)?;
     Ok(Some(ArcStep {
         slot,
         uses: e.uses,
@@ -54,22 +49,15 @@ fn arc_at(
 }
 
 // The arcs of one transition: the place after them and the variables in their expressions; or the first fault.
-pub fn read_arcs(
-    scope: &Scope,
-    kinds: &[PlaceSets],
-    row: &mut [u32],
-    start: usize,
-) -> Result<Read, Refusal>
-    requires file_len_bound { length scope.now.file.now ≤ 16384 }
-    requires kinds_len_bound { length kinds.now ≤ 32 }
+pub fn read_arcs(ground: &Ground, row: &mut [u32], start: usize) -> Result<Read, Refusal>
     requires row_len { length row.old ≡ 96 }
-    ensures is { ArcsTold scope.now.file.now (over scope.now kinds.now) start row.new result }
-    ensures room { ArcsRoom (length scope.now.file.now) start result }
+    ensures is { ArcsTold ground.now.scope.file.now (over ground.now.scope ground.now.kinds.now) start row.new result }
+    ensures room { ArcsRoom (length ground.now.scope.file.now) start result }
 {
     row.fill(0);
     let mut uses = 0;
     let mut at = start;
-    while let Some(arc) = arc_at(scope, kinds, row, at)? {
+    while let Some(arc) = arc_at(ground, row, at)? {
         row[arc.slot] = (at + 2) as u32;
         uses |= arc.uses;
         at = arc.next;

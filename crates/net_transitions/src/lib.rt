@@ -2,6 +2,7 @@
 #![tactic(auto)]
 
 mod arc;
+mod ground;
 mod space;
 mod transition;
 mod transitions;

@@ -7,8 +7,9 @@ ghost use Rattle.net_transitions.specs.Transitions.{transition_part};
 ghost use Rattle.std.proofs.Math.Option.{some};
 
 use crate::arc::read_arcs;
+use crate::ground::Ground;
 use crate::space::{bindings_of, count_of};
-use net::{PlaceSets, Scope, after, read_guard_if};
+use net::{Scope, after, read_guard_if};
 use reading::{Reason, Refusal, byte_at, element, refused};
 
 // The end of a transition with these variables, after a binding space: the space with it, or the fault.
@@ -55,30 +56,27 @@ pub struct TransitionStep {
 
 // The transition whose command stands at a place and ends before next.
 fn transition_in(
-    scope: &Scope,
-    kinds: &[PlaceSets],
+    ground: &Ground,
     space: usize,
     row: &mut [u32],
     at: usize,
     next: usize,
 ) -> Result<TransitionStep, Refusal>
-    requires file_len_bound { length scope.now.file.now ≤ 16384 }
-    requires kinds_len_bound { length kinds.now ≤ 32 }
     requires row_len { length row.old ≡ 96 }
     requires space_bound { space ≤ 65536 }
     requires at_lt_next { at < next }
-    requires next_in_bounds { next ≤ length scope.now.file.now }
-    ensures is { (transitions : List Transition) → binding_space (over scope.now kinds.now) transitions ≡ space
-        → TransitionTold scope.now.file.now (over scope.now kinds.now) transitions
-        (some (inside scope.now.file.now (over scope.now kinds.now) transitions at next)) (λ i. get_or row.new i 0) result }
-    ensures room { TransitionRoom (length scope.now.file.now) at result }
+    requires next_in_bounds { next ≤ length ground.now.scope.file.now }
+    ensures is { (transitions : List Transition) → binding_space (over ground.now.scope ground.now.kinds.now) transitions ≡ space
+        → TransitionTold ground.now.scope.file.now (over ground.now.scope ground.now.kinds.now) transitions
+        (some (inside ground.now.scope.file.now (over ground.now.scope ground.now.kinds.now) transitions at next)) (λ i. get_or row.new i 0) result }
+    ensures room { TransitionRoom (length ground.now.scope.file.now) at result }
 {
-    let guard = read_guard_if(scope, next)?;
-    let arcs = read_arcs(scope, kinds, row, guard.next)?;
+    let guard = read_guard_if(&ground.scope, next)?;
+    let arcs = read_arcs(ground, row, guard.next)?;
     let uses = guard.uses | arcs.uses;
-    let space = close_at(scope, uses, space, at, arcs.next)?;
+    let space = close_at(&ground.scope, uses, space, at, arcs.next)?;
     Ok(TransitionStep {
-        guard: guard_place(scope.file, next),
+        guard: guard_place(ground.scope.file, next),
         uses,
         space,
         next: arcs.next,
@@ -87,27 +85,24 @@ fn transition_in(
 
 // The transition command at a place, after so many transitions with a binding space, if it stands there; its row is the next of the table.
 pub fn transition_at(
-    scope: &Scope,
-    kinds: &[PlaceSets],
+    ground: &Ground,
     count: usize,
     space: usize,
     arcs: &mut [u32],
     at: usize,
 ) -> Result<Option<TransitionStep>, Refusal>
-    requires file_len_bound { length scope.now.file.now ≤ 16384 }
-    requires kinds_len_bound { length kinds.now ≤ 32 }
     requires arcs_len { length arcs.old ≡ 3072 }
     requires space_bound { space ≤ 65536 }
     ensures is { (transitions : List Transition) → length transitions ≡ count
-        → binding_space (over scope.now kinds.now) transitions ≡ space
-        → EntryTold scope.now.file.now (over scope.now kinds.now) transitions
-        (transition_part scope.now.file.now (over scope.now kinds.now) transitions at)
+        → binding_space (over ground.now.scope ground.now.kinds.now) transitions ≡ space
+        → EntryTold ground.now.scope.file.now (over ground.now.scope ground.now.kinds.now) transitions
+        (transition_part ground.now.scope.file.now (over ground.now.scope ground.now.kinds.now) transitions at)
         (λ i. get_or arcs.new (count * 96 + i) 0) result }
-    ensures room { EntryRoom (length scope.now.file.now) at result }
+    ensures room { EntryRoom (length ground.now.scope.file.now) at result }
     ensures few { TransitionFew count result }
     ensures kept { (i : ℕ) → i < count * 96 → get_or arcs.new i 0 ≡ get_or arcs.old i 0 }
 {
-    if element(scope.file, at, 0) != 0x14 {
+    if element(ground.scope.file, at, 0) != 0x14 {
         return Ok(None);
     }
     if 32 <= count {
@@ -115,7 +110,7 @@ pub fn transition_at(
     }
     let from = count * 96;
     let to = from + 96;
-    let next = after(scope.file, at);
-    let t = transition_in(scope, kinds, space, &mut arcs[from..to], at, next)?;
+    let next = after(ground.scope.file, at);
+    let t = transition_in(ground, space, &mut arcs[from..to], at, next)?;
     Ok(Some(t))
 }

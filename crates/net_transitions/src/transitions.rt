@@ -2,6 +2,7 @@
 ghost use Rattle.std.specs.Prelude.{◌≡◌, ◌≤◌, length};
 ghost use Rattle.net_transitions.specs.internal.TransitionTables.{over, TransitionsTold};
 
+use crate::ground::Ground;
 use crate::transition::transition_at;
 use net::{PlaceSets, Scope};
 use net_parts::Part;
@@ -28,10 +29,15 @@ pub fn read_transitions(
     requires arcs_len { length arcs.old ≡ 3072 }
     ensures { TransitionsTold scope.now.file.now (over scope.now kinds.now) start heads.new arcs.new result }
 {
+    let ground = Ground {
+        scope: *scope,
+        kinds,
+    };
+    // Counted by hand: how many there are is known when the part ends.
     let mut count = 0;
     let mut space = 0;
     let mut at = start;
-    while let Some(t) = transition_at(scope, kinds, count, space, arcs, at)? {
+    while let Some(t) = transition_at(&ground, count, space, arcs, at)? {
         heads[count] = Head {
             uses: t.uses,
             guard: t.guard,

@@ -20,9 +20,6 @@ pub record Placing {A : Type 0} (becomes : A → ℕ → Type 0) (from : ℕ) (v
   pub back : (j : ℕ) → from + i ≤ j → get_or now j 0 ≡ get_or before j 0
 
 module _ {A : Type 0} {becomes : A → ℕ → Type 0} {from : ℕ} {values : List A} {before : List ℕ} where
-  pub placing_begins : Placing becomes from values before before 0
-  placing_begins = record { inside = omega arith; long = refl; done = λ j other h. absurd (omega arith); front = λ j h. refl; back = λ j h. refl }
-
   pub placing_goes : {now : List ℕ} {i : ℕ} (x : ℕ) → Placing becomes from values before now i → i < length values → from + length values ≤ length before
       → ((other : A) → becomes (get_or values i other) x) → Placing becomes from values before (set now (from + i) x) (i + 1)
   placing_goes {now} {i} x here lt room is =

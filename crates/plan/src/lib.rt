@@ -71,7 +71,7 @@ pub fn own_of(plan: &[u32; 3584], t: usize, k: usize) -> u64
     u64::from(plan[152 + (t * 4 + k)])
 }
 
-// An entry of the packed arcs, with what its place is like.
+// An entry of the packed arcs, with what its place is like, 0 where there is none: one number, since the table is fixed memory of numbers.
 #[tactic(auto, using(crate::proofs::Sections::arc_none, crate::proofs::Sections::arc_told))]
 pub fn arc_of(plan: &[u32; 3584], i: usize) -> u64
     requires { i < 3072 }

@@ -14,6 +14,7 @@ fn list_slots(uses: u32, scope: &Scope, base: usize, own: &mut [u16; 128])
     requires { base ≤ 124 }
     ensures { SlotsListed uses scope.now.sizes.now scope.now.vars.now base own.old own.new }
 {
+    // Counted by hand: only variables of the set take a slot.
     let mut k = 0;
     for v in 0..scope.vars.len() {
         if k < 4 && has(uses, v) {

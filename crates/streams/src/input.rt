@@ -16,6 +16,7 @@ pub const MARKING_COUNTS: usize = 16384;
 fn read_full<R: Read>(from: &mut R, buf: &mut [u8]) -> usize
     ensures { IsPrefixLen result buf.new }
 {
+    // No method of the library tells how many bytes came before a failed read.
     let mut done = 0;
     while done < buf.len() {
         match from.read(&mut buf[done..]) {

@@ -9,6 +9,7 @@ pub fn read_input<R: Read>(from: &mut R, net: &mut [u8]) -> io::Result<usize>
     ensures within { Within result net.new }
     ensures bytes { IsRead (R.remaining from.old) (R.remaining from.new) result net.new }
 {
+    // No method of the library tells how many bytes came before the end.
     let mut done = 0;
     while done < net.len() {
         match from.read(&mut net[done..])? {

@@ -4,7 +4,7 @@ use Rattle.net_transitions.proofs.Arcing.{arcing_begins, arcing_goes, arcing_end
 use Rattle.net_transitions.proofs.arc.read_arcs.Goals as goal
 
 pub loop-arc-init : goal.loop-arc-init
-loop-arc-init c = arcing_begins _ _ _ (c.fill.ensures.after (λ y h. h)) c.requires.row_len (rw length_places c.requires.kinds_len_bound)
+loop-arc-init c = arcing_begins _ _ _ (c.fill.ensures.after (λ y h. h)) c.requires.row_len (rw length_places c.args.ground.now.few_places)
 
 pub returns-in_err-arc-clause-is : goal.returns-in_err-arc-clause-is
 returns-in_err-arc-clause-is c =
@@ -12,7 +12,7 @@ returns-in_err-arc-clause-is c =
     rw (p.1, p.2) (arcing_stops c.loop-arc.invariant c.in_err-arc.ensures.is c.in_err-arc.ensures.room)
 
 pub loop-arc-preserved : goal.loop-arc-preserved
-loop-arc-preserved c = arcing_goes c.loop-arc.invariant (rw length_places c.requires.kinds_len_bound) (rw c.in-Some.is at c.in_ok-arc.ensures.is) (rw c.in-Some.is at c.in_ok-arc.ensures.room)
+loop-arc-preserved c = arcing_goes c.loop-arc.invariant (rw length_places c.args.ground.now.few_places) (rw c.in-Some.is at c.in_ok-arc.ensures.is) (rw c.in-Some.is at c.in_ok-arc.ensures.room)
 
 pub returns-clause-is : goal.returns-clause-is
 returns-clause-is c = arcing_ends c.loop-arc.invariant (rw c.in_default.is at c.in_ok-arc.ensures.is)

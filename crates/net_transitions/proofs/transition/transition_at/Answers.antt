@@ -13,17 +13,17 @@ pub returns-then-count-ge32-clause-is : goal.returns-then-count-ge32-clause-is
 returns-then-count-ge32-clause-is c =
     λ ts e f.
     let b = sym c.element.ensures ∙ c.if-element-ne20.false in
-    let h = stands_in c.args.scope.now.file.now c.args.at (omega (arith, b)) in
+    let h = stands_in c.args.ground.now.scope.file.now c.args.at (omega (arith, b)) in
     rw c.refused.ensures (record { number = 4; is = transitions_full _ _ ts _ b (omega arith) (omega arith); reason = refl })
 
 pub transition_in-requires-clause-at_lt_next : goal.transition_in-requires-clause-at_lt_next
-transition_in-requires-clause-at_lt_next c = let q = after_transition c.args.scope.now.file.now c.args.at c.after-next.ensures (sym c.element.ensures ∙ c.if-element-ne20.false) in omega arith
+transition_in-requires-clause-at_lt_next c = let q = after_transition c.args.ground.now.scope.file.now c.args.at c.after-next.ensures (sym c.element.ensures ∙ c.if-element-ne20.false) in omega arith
 
 pub transition_in-requires-clause-next_in_bounds : goal.transition_in-requires-clause-next_in_bounds
 transition_in-requires-clause-next_in_bounds c =
     let b = sym c.element.ensures ∙ c.if-element-ne20.false in
-    let h = stands_in c.args.scope.now.file.now c.args.at (omega (arith, b)) in
-    let q = after_transition c.args.scope.now.file.now c.args.at c.after-next.ensures b in
+    let h = stands_in c.args.ground.now.scope.file.now c.args.at (omega (arith, b)) in
+    let q = after_transition c.args.ground.now.scope.file.now c.args.at c.after-next.ensures b in
     omega arith
 
 pub returns-in_err-t-clause-is : goal.returns-in_err-t-clause-is
@@ -31,18 +31,18 @@ returns-in_err-t-clause-is c =
     λ ts e f.
     let p = err_from_is_err_and c.from_residual.result c.from_residual.ensures.1 in
     let b = sym c.element.ensures ∙ c.if-element-ne20.false in
-    let h = stands_in c.args.scope.now.file.now c.args.at (omega (arith, b)) in
+    let h = stands_in c.args.ground.now.scope.file.now c.args.at (omega (arith, b)) in
     let few : length ts < 32 = omega arith in
-    rw (p.1, p.2, transitions_go c.args.scope.now.file.now (over c.args.scope.now c.args.kinds.now) ts c.args.at b (omega arith) (after_transition c.args.scope.now.file.now c.args.at c.after-next.ensures b) few) (c.in_err-t.ensures.is ts f)
+    rw (p.1, p.2, transitions_go c.args.ground.now.scope.file.now (over c.args.ground.now.scope c.args.ground.now.kinds.now) ts c.args.at b (omega arith) (after_transition c.args.ground.now.scope.file.now c.args.at c.after-next.ensures b) few) (c.in_err-t.ensures.is ts f)
 
 pub returns-clause-is : goal.returns-clause-is
 returns-clause-is c =
     λ ts e f.
     let b = sym c.element.ensures ∙ c.if-element-ne20.false in
-    let h = stands_in c.args.scope.now.file.now c.args.at (omega (arith, b)) in
+    let h = stands_in c.args.ground.now.scope.file.now c.args.at (omega (arith, b)) in
     let few : length ts < 32 = omega arith in
     let k : c.args.count * 96 + 96 - c.args.count * 96 ≡ 96 = omega arith in
     let sized : length c.transition_in.new.row ≡ 96 = c.transition_in.auto.row ∙ part_sized c.args.arcs.now (c.args.count * 96) (c.args.count * 96 + 96 - c.args.count * 96) (omega arith) ∙ k in
-    rw (transitions_go c.args.scope.now.file.now (over c.args.scope.now c.args.kinds.now) ts c.args.at b (omega arith) (after_transition c.args.scope.now.file.now c.args.at c.after-next.ensures b) few)
-    (told_same c.args.scope.now.file.now (over c.args.scope.now c.args.kinds.now) (rw length_places c.requires.kinds_len_bound) (λ i. get_or c.transition_in.new.row i 0) _
+    rw (transitions_go c.args.ground.now.scope.file.now (over c.args.ground.now.scope c.args.ground.now.kinds.now) ts c.args.at b (omega arith) (after_transition c.args.ground.now.scope.file.now c.args.at c.after-next.ensures b) few)
+    (told_same c.args.ground.now.scope.file.now (over c.args.ground.now.scope c.args.ground.now.kinds.now) (rw length_places c.args.ground.now.few_places) (λ i. get_or c.transition_in.new.row i 0) _
     (λ i lt. sym (part_in c.args.arcs.now c.transition_in.new.row _ (c.args.count * 96) i (omega arith) (omega arith))) ts (c.in_ok-t.ensures.is ts f))
