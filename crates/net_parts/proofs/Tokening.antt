@@ -8,7 +8,7 @@ use native.Mathlib.Omega.{arith}
 use native.Mathlib.Numerals.{add-one}
 use borrow.Author.Tests.{lt-ltb, le-ltb, eq-eqb, ne_eqb, ltb-true, ltb-false, eqb-true, eqb-false}
 use lib.ListN.{set, length-set, replicate}
-use lib.Seq.{take-suc, take-add, get_or-set_same, get_or-set_other}
+use lib.Seq.{take-suc, take-add, take_all, get_or-set_same, get_or-set_other}
 use Rattle.reading.specs.Basics.{ℕ, zero, suc, List, [], Option, some, none, absent, map, sum, length, get_or, take, drop, with, find, eqb, ltb, byte_at, word_at}
 use Rattle.reading.specs.Reading.{fine, fault, whole}
 use Rattle.reading.specs.Refusals.{number_of}
@@ -59,17 +59,7 @@ module _ {n : Net} {places : List Place} {starts : List ℕ} {count total : ℕ}
   starts_rise p q le few = rw (here.begin p (omega arith), here.begin q few) (start_rises n places p q le)
 
   pub starts_last : get_or starts count 0 ≡ total
-  starts_last = here.begin count (omega arith) ∙ ap (λ l. sum (map (colours_of n) l)) whole_is ∙ here.all
-    where
-      open_take : (l : List Place) (k : ℕ) → length l ≡ k → take k l ≡ l
-      open_take l k e = rw (← e) (all_of l)
-        where
-          all_of : (l : List Place) → take (length l) l ≡ l
-          all_of [] = refl
-          all_of (x ∷ l) = ap (λ r. x ∷ r) (all_of l)
-
-      whole_is : take count places ≡ places
-      whole_is = open_take places count here.are
+  starts_last = here.begin count (omega arith) ∙ ap (λ l. sum (map (colours_of n) l)) (take_all count places (omega (arith, here.are))) ∙ here.all
 
   pub rising : count < length starts → StartsRise starts count total
   rising lt = record {
