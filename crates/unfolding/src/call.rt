@@ -14,73 +14,65 @@ use row_bytes::{fits, write_all};
 use row_numbers::mark_all;
 use rows::{is_small, most_slots};
 
-// Writes a net's flat file, if there is space for it, with its initial counts and a list lent for a row's arcs.
-fn write_with(
-    drawing: &Drawing,
-    initial: &[u16],
-    arcs: &mut [Arc],
-    out: &mut [u8],
-) -> Result<usize, Refusal>
-    requires counts { initial.now ≡ (unfolded (net_of drawing.now)).initial }
-    requires roomy { Roomy drawing.now.file arcs.old }
-    ensures { unfold_called result out.new ≡ unfold_call drawing.now.file out.old }
-{
-    let file = drawing.file();
-    let plan = drawing.plan();
-    let mut marks = [0u32; 2048];
-    let mut counts = [0usize; 32];
-    mark_all(file, plan, &mut marks, &mut counts);
-    if !fits(file, plan, &marks, &counts, arcs, out.len()) {
-        return refused(Reason::NoSpace, 0);
-    }
-    let mut next = write_head(out, 0);
-    next = write_places(initial, out, next);
-    next = write_all(file, plan, &marks, arcs, out, next);
-    Ok(write_end(out, next))
+// A net that was read, and the initial counts of its flat places.
+#[derive(Clone, Copy)]
+struct Counted<'a> {
+    drawing: &'a Drawing<'a>,
+    initial: &'a [u16],
+    ghost counts: { initial.now ≡ (unfolded (net_of drawing.now)).initial },
 }
 
-// With a list of so many arcs, which has room for each of its rows.
-fn write_in<const ARCS: usize>(
-    drawing: &Drawing,
-    initial: &[u16],
-    out: &mut [u8],
-) -> Result<usize, Refusal>
-    requires few { ARCS ≤ 20480 }
-    requires counts { initial.now ≡ (unfolded (net_of drawing.now)).initial }
-    requires roomy { Slots drawing.now.file ARCS }
-    ensures { unfold_called result out.new ≡ unfold_call drawing.now.file out.old }
-{
-    let mut arcs = [Arc::default(); ARCS];
-    write_with(drawing, initial, &mut arcs, out)
-}
-
-// With room for every net. Kept apart (once_more).
-#[inline(never)]
-fn write_large(
-    drawing: &Drawing,
-    initial: &[u16],
-    out: &mut [u8],
-    again: bool,
-) -> Result<usize, Refusal>
-    requires { initial.now ≡ (unfolded (net_of drawing.now)).initial }
-    ensures { unfold_called result out.new ≡ unfold_call drawing.now.file out.old }
-{
-    if once_more(drawing.file(), again) {
-        return write_large(drawing, initial, out, false);
+impl Counted<'_> {
+    // Writes its flat file, if there is space for it, with a list lent for a row's arcs.
+    fn write_with(self, arcs: &mut [Arc], out: &mut [u8]) -> Result<usize, Refusal>
+        requires { Roomy self.drawing.now.file arcs.old }
+        ensures { unfold_called result out.new ≡ unfold_call self.entry.drawing.now.file out.old }
+    {
+        let file = self.drawing.file();
+        let plan = self.drawing.plan();
+        let mut marks = [0u32; 2048];
+        let mut counts = [0usize; 32];
+        mark_all(file, plan, &mut marks, &mut counts);
+        if !fits(file, plan, &marks, &counts, arcs, out.len()) {
+            return refused(Reason::NoSpace, 0);
+        }
+        let mut next = write_head(out, 0);
+        next = write_places(self.initial, out, next);
+        next = write_all(file, plan, &marks, arcs, out, next);
+        Ok(write_end(out, next))
     }
-    write_in::<20480>(drawing, initial, out)
-}
 
-// Writes a net's flat file, if there is space for it.
-fn write_file(drawing: &Drawing, initial: &[u16], out: &mut [u8]) -> Result<usize, Refusal>
-    requires { initial.now ≡ (unfolded (net_of drawing.now)).initial }
-    ensures { unfold_called result out.new ≡ unfold_call drawing.now.file out.old }
-{
-    let file = drawing.file();
-    if is_small(most_slots(file, drawing.plan()), file.len()) {
-        return write_in::<1024>(drawing, initial, out);
+    // With a list of so many arcs, which has room for each of its rows.
+    fn write_in<const ARCS: usize>(self, out: &mut [u8]) -> Result<usize, Refusal>
+        requires few { ARCS ≤ 20480 }
+        requires roomy { Slots self.drawing.now.file ARCS }
+        ensures { unfold_called result out.new ≡ unfold_call self.entry.drawing.now.file out.old }
+    {
+        let mut arcs = [Arc::default(); ARCS];
+        self.write_with(&mut arcs, out)
     }
-    write_large(drawing, initial, out, true)
+
+    // With room for every net. Kept apart (once_more).
+    #[inline(never)]
+    fn write_large(self, out: &mut [u8], again: bool) -> Result<usize, Refusal>
+        ensures { unfold_called result out.new ≡ unfold_call self.entry.drawing.now.file out.old }
+    {
+        if once_more(self.drawing.file(), again) {
+            return self.write_large(out, false);
+        }
+        self.write_in::<20480>(out)
+    }
+
+    // Writes its flat file, if there is space for it.
+    fn write_file(self, out: &mut [u8]) -> Result<usize, Refusal>
+        ensures { unfold_called result out.new ≡ unfold_call self.entry.drawing.now.file out.old }
+    {
+        let file = self.drawing.file();
+        if is_small(most_slots(file, self.drawing.plan()), file.len()) {
+            return self.write_in::<1024>(out);
+        }
+        self.write_large(out, true)
+    }
 }
 
 // Unfolds a net file: the flat file over the front of `out`, and its length; a refusal changes nothing.
@@ -90,5 +82,9 @@ pub fn unfold(net: &[u8], out: &mut [u8]) -> Result<usize, Refusal>
     let mut plan = [0u32; 3584];
     let mut initial = [0u16; 4096];
     let drawing = Drawing::read(net, &mut plan, &mut initial)?;
-    write_file(&drawing, &initial[..drawing.flat_places()], out)
+    Counted {
+        drawing: &drawing,
+        initial: &initial[..drawing.flat_places()],
+    }
+    .write_file(out)
 }

@@ -1,5 +1,5 @@
 use Rattle.reading.proofs.Once.{once}
-use Rattle.unfolding.proofs.call.+write_large.Given as goal
+use Rattle.unfolding.proofs.call.Counted.+write_large.Given as goal
 
 abbrev pub decreases-write_large : goal.decreases-write_large
 decreases-write_large l = once l.again
