@@ -194,6 +194,7 @@ fn read_places(file: &[u8], start: usize) -> Result<Part, Refusal>
     requires { start ≤ length file.now }
     ensures { PlacesRead file.now start result }
 {
+    // Counted by hand: how many there are is known when the part ends.
     let mut count: usize = 0;
     let mut at = start;
     while let Some(next) = place_at(file, count, at)? {
@@ -220,6 +221,7 @@ fn read_rows(file: &[u8], count: usize, start: usize, starts: &mut [u32]) -> Res
     requires start_in_bounds { start ≤ length file.now }
     ensures { RowsRead file.now count start starts.new result }
 {
+    // Counted by hand: how many there are is known when the part ends.
     let mut rows: usize = 0;
     let mut at = start;
     while let Some(first) = row_at(file, rows, at)? {
