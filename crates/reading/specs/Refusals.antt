@@ -1,6 +1,6 @@
 -- The refusals 1 to 15: the number of each reason, and what a Result says of a file or a call.
-use Rattle.std.specs.Prelude.{Result, Ok, Err}
-use Rattle.reading.specs.Basics.{ℕ, eqb, if◌then◌else◌}
+use Rattle.std.specs.Prelude.{Result, Ok, Err, if◌then◌else◌}
+use Rattle.reading.specs.Basics.{ℕ, eqb}
 use Rattle.reading.specs.Reading.{Answer, fine, fault, Outcome, accepted, refused}
 use Rattle.reading.specs.declared.refusal.Reason.{Reason}
 use Rattle.reading.specs.declared.refusal.Reason.TheVariants as reason
