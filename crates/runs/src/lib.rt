@@ -171,6 +171,29 @@ fn merge_runs(
     merge_rest(op, p, rest, room, end)
 }
 
+// Joins two runs behind them, and moves what comes out down to the start. Kept apart: runs that lie joined already do not come here.
+#[inline(never)]
+fn merge_behind(
+    op: Operator,
+    arcs: &mut [Arc],
+    start: usize,
+    middle: usize,
+    end: usize,
+    p: u16,
+    q: u16,
+) -> usize
+    requires { (start ≤ middle) × (middle ≤ end) × (end ≤ length arcs.old) }
+    ensures is { end + (end - start) ≤ length arcs.old
+        → ArcsAppended (joined (join_by op) p q (arcs_in arcs.old start middle) (arcs_in arcs.old middle end)) arcs.old start arcs.new result }
+    ensures low { start ≤ result }
+    ensures within { result ≤ length arcs.old }
+{
+    let (terms, room) = arcs.split_at_mut(end);
+    let many = merge_runs(op, &terms[start..middle], &terms[middle..end], room, p, q);
+    arcs.copy_within(end..end + many, start);
+    start + many
+}
+
 // Joins two runs of terms, one from start up to middle and one from there up to the end, to one from start on. p and q are what every other rank has.
 pub fn merge(
     op: Operator,
@@ -191,8 +214,5 @@ pub fn merge(
     if arcs.len() < end || apart(op, &arcs[start..middle], &arcs[middle..end], p, q) {
         return end;
     }
-    let (terms, room) = arcs.split_at_mut(end);
-    let many = merge_runs(op, &terms[start..middle], &terms[middle..end], room, p, q);
-    arcs.copy_within(end..end + many, start);
-    start + many
+    merge_behind(op, arcs, start, middle, end, p, q)
 }
