@@ -5,7 +5,7 @@ ghost use Rattle.plan.specs.internal.Layout.{transitions_in};
 ghost use Rattle.row_bytes.specs.internal.RowBytes.{all_bytes, Ruled, Roomy};
 ghost use Rattle.row_numbers.specs.internal.Marks.{RowsCounted};
 
-use crate::flat_rows::measure_all;
+use crate::flat_rows::Marked;
 use firing::Arc;
 use plan::{flat_places_of, transitions_of};
 use row_lengths::most_row;
@@ -44,5 +44,6 @@ pub fn fits(
     if front + bound_all(file, plan, rows) <= size {
         return true;
     }
-    front + measure_all(file, plan, marks, arcs) <= size
+    let net = Marked { file, plan, marks };
+    front + net.measure_all(arcs) <= size
 }

@@ -4,7 +4,7 @@ use Prim.Native.Nat.{◌+◌}
 use Rattle.bindings.proofs.Owning.{first_binds}
 use Rattle.row_bytes.specs.internal.RowBytes.{binding_bytes}
 use Rattle.row_bytes.proofs.RowBytes.{measure_begins, measure_goes, measure_ends, here_of, binds_on}
-use Rattle.row_bytes.proofs.flat_rows.measure_bindings.Goals as goal
+use Rattle.row_bytes.proofs.flat_rows.Marked.measure_bindings.Goals as goal
 
 pub loop-i-init : goal.loop-i-init
 loop-i-init c = record { low = omega arith; binds = λ k lt. first_binds k.net _ 32; measured = λ k. measure_begins (binding_bytes k.net _) _ 0 }

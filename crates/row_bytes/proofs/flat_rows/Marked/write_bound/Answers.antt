@@ -4,7 +4,7 @@ use lib.ListN.{length}
 use Rattle.firing.specs.internal.RowLists.{row_held}
 use Rattle.flat_file.proofs.Written.{length-row}
 use Rattle.row_bytes.proofs.RowBytes.{gives_held}
-use Rattle.row_bytes.proofs.flat_rows.write_bound.Goals as goal
+use Rattle.row_bytes.proofs.flat_rows.Marked.write_bound.Goals as goal
 
 pub write_row-requires : goal.write_row-requires
 write_row-requires c =

@@ -4,7 +4,7 @@ use lib.ListN.{length}
 use Rattle.row_bytes.specs.internal.RowBytes.{transition_bytes}
 use Rattle.flat_file.proofs.Appending.{go_on, go_end}
 use Rattle.row_bytes.proofs.RowBytes.{measure_begins, measure_rest, measure_goes, left_more, left_none, write_begins, first_is, upto_begins, upto_goes, upto_ends, those_here, those_given, those_known, next_is}
-use Rattle.row_bytes.proofs.flat_rows.write_all.Goals as goal
+use Rattle.row_bytes.proofs.flat_rows.Marked.write_rows.Goals as goal
 
 pub loop-those-init : goal.loop-those-init
 loop-those-init c =

@@ -4,7 +4,7 @@ use Prim.Native.Nat.{◌+◌}
 use lib.ListN.{length}
 use Rattle.row_bytes.specs.internal.RowBytes.{transition_bytes}
 use Rattle.row_bytes.proofs.RowBytes.{measure_begins, measure_goes, measure_ends, first_is, upto_begins, upto_goes, upto_ends, those_here, those_given, those_known, next_is}
-use Rattle.row_bytes.proofs.flat_rows.measure_all.Goals as goal
+use Rattle.row_bytes.proofs.flat_rows.Marked.measure_all.Goals as goal
 
 pub loop-those-init : goal.loop-those-init
 loop-those-init c =

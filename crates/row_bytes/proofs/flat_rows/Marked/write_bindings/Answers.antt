@@ -3,7 +3,7 @@ use Rattle.bindings.proofs.Owning.{first_binds}
 use Rattle.row_bytes.specs.internal.RowBytes.{binding_bytes}
 use Rattle.flat_file.proofs.Appending.{go_on, go_over, go_end}
 use Rattle.row_bytes.proofs.RowBytes.{measure_begins, measure_rest, measure_goes, measure_over, left_more, left_none, write_begins, bound_here, here_of, known_over, known_past, binds_on}
-use Rattle.row_bytes.proofs.flat_rows.write_bindings.Goals as goal
+use Rattle.row_bytes.proofs.flat_rows.Marked.write_bindings.Goals as goal
 
 pub loop-i-init : goal.loop-i-init
 loop-i-init c = record { inside = omega arith; binds = λ k lt. first_binds k.net _ 32; measured = λ k. measure_begins (binding_bytes k.net _) _ c.args.at; going = λ k. write_begins (binding_bytes k.net _) _ _ c.args.at }
