@@ -12,9 +12,7 @@ use Rattle.reading.specs.Basics.{ℕ, zero, suc, List, [], length, get_or, take,
 use Rattle.net.specs.Net.{Net}
 use Rattle.net_file.specs.Limits.{Limits}
 use Rattle.prepared.specs.internal.TransitionVariables.{Owned, slot_size}
-use Rattle.bindings.specs.Orders.{order_of}
 use Rattle.bindings.specs.internal.Numbers.{digits}
-use Rattle.bindings.specs.internal.Bindings.{binding}
 use Rattle.bindings.specs.internal.SlotSteps.{colours_at}
 use Rattle.bindings.proofs.Owning.{their_sizes, sizes_are, few_theirs, by_slot}
 
@@ -78,10 +76,3 @@ module _ (n : Net) (t i : ℕ) {own : List ℕ} (owned : Owned n own) (l : Limit
       let whole : drop k (their_sizes n t) ≡ slot_size slot ∷ drop (k + 1) (their_sizes n t) =
       drop-cons (their_sizes n t) k 0 (omega (arith, held.inside, sizes_are n t)) ∙ ap₂ (λ x j. x ∷ drop j (their_sizes n t)) (sym held.size) (sym (add-one k)) in
       rw its (gather_one inside here (slot_size slot) whole)))
-
-  -- all four: the colours of the order
-  pub gather_ends : {k left : ℕ} (colours : List ℕ) → k ≤ 0 → Gathering (their_sizes n t) i k (drop k colours) left → 0x60 ∷ t ∷ colours ≡ order_of (binding t (digits (their_sizes n t) i))
-  gather_ends {k} {left} colours none here =
-      let e : k ≡ 0 = omega arith in
-      let first : Gathering (their_sizes n t) i 0 colours left = rw e at here in
-      ap (λ l. 0x60 ∷ t ∷ l) (sym first.are)

@@ -1,10 +1,9 @@
 -- A binding has an effect exactly where it is legal, and that is where its guard holds. Assumes nothing.
-use Rattle.std.specs.Prelude.{◌||◌, if◌then◌else◌, is_some, not, MatchOption}
-use Rattle.std.specs.Prelude as reply
+use Rattle.std.specs.Prelude.{◌||◌, if◌then◌else◌}
 use mathlib.Core.Path.{◌≡◌, refl, sym, ap, subst, ◌∙◌}
 use Prim.Native.Nat.{◌≤◌, ◌<◌}
 use native.Mathlib.Omega.{arith}
-use borrow.Author.Tests.{ltb-true, le-ltb}
+use borrow.Author.Tests.{ltb-true}
 use Rattle.reading.specs.Basics.{ℕ, Bool, true, false, List, length, get_or, any, Option, none, some, given}
 use Rattle.firing.specs.Firing.{Weights}
 use Rattle.net.specs.Net.{Net, in_guard, in_expression, transition_at}
@@ -79,11 +78,3 @@ module _ {s plan : List ℕ} {n : Net} {t : ℕ} (p : Prepared s n plan) (lt : t
   -- where every binding has a row, it is legal
   pub every-legal : every_row plan t ≡ true → legal n (binding t colours) ≡ true
   every-legal e = let h = ltb-true (get_or (guards_in plan) t 0) 1 e in sym (guard_none (omega arith))
-
--- no guard's place was found
-pub none_found : (plan : List ℕ) (t : ℕ) (o : reply.Option ℕ) {b : Bool} → MatchOption o (get_or (guards_in plan) t 0 ≡ 0) (λ place. (0 < place) × (place ≡ get_or (guards_in plan) t 0))
-    → is_some o ≡ not b → b ≡ every_row plan t
-none_found plan t reply.None {b = true} h e = rw h
-none_found plan t reply.None {b = false} h e = cc
-none_found plan t (reply.Some place) {b = true} h e = cc
-none_found plan t (reply.Some place) {b = false} h e = sym (le-ltb (get_or (guards_in plan) t 0) 1 (omega arith))

@@ -16,14 +16,11 @@ use Rattle.bindings.specs.declared.binding.Numbered.{Numbered}
 use Rattle.bindings.specs.internal.SlotSteps.{colours_at, Given}
 use Rattle.bindings.proofs.Owning.{theirs, their_sizes}
 use Rattle.bindings.proofs.Ordering.{named_other, named_past, named_unfit, named_fit, order_colours, order_byte}
-use Rattle.bindings.proofs.Giving.{Giving, give_begins, give_goes, give_fails, give_fits, give_number, give_binds}
+use Rattle.bindings.proofs.Giving.{Giving, give_goes, give_fails, give_fits, give_number, give_binds}
 
 -- so many slots have their colours
 abbrev pub GivenTo : Net → List ℕ → ℕ → ℕ → List ℕ → ℕ → ℕ → Type 0
 GivenTo n orders i t env index k = Giving (theirs n t) (their_sizes n t) (take 4 (drop (i * 6 + 2) orders)) env index k
-
-pub name_begins : (n : Net) (orders : List ℕ) (i t : ℕ) (env : List ℕ) → GivenTo n orders i t env 0 0
-name_begins n orders i t env = give_begins (theirs n t) (their_sizes n t) (take 4 (drop (i * 6 + 2) orders)) env
 
 module _ {s plan : List ℕ} {n : Net} (ready : Prepared s n plan) (orders : List ℕ) (i : ℕ) where
   abbrev order : List ℕ

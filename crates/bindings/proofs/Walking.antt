@@ -4,7 +4,7 @@ use mathlib.Core.Path.{◌≡◌, refl, sym, ap, ap₂, subst, ◌∙◌}
 use Prim.Native.Nat.{◌≤◌, ◌<◌, ◌-◌}
 use native.Mathlib.Omega.{arith}
 use native.Mathlib.Numerals.{add-one}
-use native.Mathlib.Nat.{add-mul, zero-mul, one-mul, suc-mul, mul_assoc, mod-lt, mod-eq_of_lt, mod-add-div', div-lt_iff_lt-mul}
+use native.Mathlib.Nat.{add-mul, zero-mul, one-mul, suc-mul, mul_assoc, mod-lt, mod-add-div'}
 use borrow.Author.Tests.{ltb-true, ltb-false}
 use lib.ListN.{set, drop_of_length-le}
 use lib.Seq.{get_or-set_same, get_or-set_other, drop-cons}
@@ -103,10 +103,6 @@ module _ {variables sizes env : List ℕ} {j rest k : ℕ} (here : Walking varia
           fit = rw (set_it c) (fit_set k c here.fit lt);
           is = omega (arith, counts_it c, here.is, round, sum, add-mul c (left * size) after_it, add-mul colour rest after_it);
         }
-
--- how many times fits a word
-pub rounds_fit : (colour many size : ℕ) → colour < size → many < 65536 → (colour + many) / size % 65536 ≡ (colour + many) / size
-rounds_fit colour many size lt few = mod-eq_of_lt ((div-lt_iff_lt-mul {k = size} (omega arith)).1 (omega arith))
 
 -- ---- by the table
 module _ (n : Net) (t j : ℕ) where

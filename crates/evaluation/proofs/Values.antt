@@ -3,11 +3,11 @@ use Rattle.std.specs.Prelude.{◌+◌, ◌-◌, ◌&&◌, ◌||◌, ◌∷◌, i
 use mathlib.Core.Path.{◌≡◌, refl, sym, ap, subst, ◌∙◌}
 use Prim.Native.Nat.{◌≤◌, ◌<◌}
 use native.Mathlib.Omega.{arith}
-use borrow.Author.Tests.{leb-true, leb-false, eqb-true}
-use lib.ListN.{length-drop, get_or-eq_default}
+use borrow.Author.Tests.{eqb-true}
+use lib.ListN.{length-drop}
 use lib.Seq.{take_all, get_or-drop}
 use Rattle.std.specs.List.{slice_range}
-use Rattle.reading.specs.Basics.{ℕ, Bool, true, false, not, List, [], Option, some, none, option_map, length, get_or, drop, leb, ltb, eqb, given, find, byte_at}
+use Rattle.reading.specs.Basics.{ℕ, Bool, true, not, List, [], Option, some, none, option_map, length, get_or, drop, ltb, eqb, given, find, byte_at}
 use Rattle.reading.specs.Reading.{Answer, fine, fault, ◌and_then◌, under, Check, ◌unless◌, failing, checked, Command, obey, standing, needed}
 use Rattle.reading.proofs.Commands.{known, needed_at, needed_past}
 use Rattle.reading.proofs.Within.{by_test}
@@ -85,14 +85,6 @@ module _ (n : Net) (env : List ℕ) where
   unfolding set_of colour
   predecessor_of (fine k next) r h = rw h
   predecessor_of (fault k p) r h = tt
-
--- a byte that is not 0 lies inside the file
-pub byte_inside : (s : List ℕ) (at b : ℕ) → byte_at s at ≡ b → 0 < b → at < length s
-byte_inside s at b e h = go (leb (length s) at) refl
-  where
-    go : (t : Bool) → leb (length s) at ≡ t → at < length s
-    go true i = absurd (let z = get_or-eq_default s 0 (leb-true (length s) at i) in omega arith)
-    go false i = omega (arith, leb-false (length s) at i)
 
 -- a byte of what stands from a place on
 part_byte : (s part : List ℕ) (from k : ℕ) → part ≡ slice_range s from (length s) → k < length part → get_or part k 0 ≡ get_or s (from + k) 0

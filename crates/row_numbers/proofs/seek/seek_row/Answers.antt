@@ -9,9 +9,6 @@ use Rattle.row_numbers.proofs.seek.seek_row.Goals as goal
 pub loop-t-init : goal.loop-t-init
 loop-t-init c = (omega arith, omega arith, λ n p. sym (passed_none n))
 
-pub seek_in-requires : goal.seek_in-requires
-seek_in-requires c = record { t_bound = omega arith; count_le_row = omega arith; size_bound = omega (arith, c.space_of.ensures.small) }
-
 pub returns-in-Ok : goal.returns-in-Ok
 returns-in-Ok c = record { is = λ n p. let less = in_net p c.transitions_of-t-end.ensures.is c.loop-t-test.true in let is = c.space_of.ensures.is _ n p less in (less, the_index n c.loop-t.t c.space_of.result c.args.row c.in-Ok.is (c.seek_in.ensures.is n p less is (c.loop-t.invariant.2 n p))); room = omega (arith, c.transitions_of-t-end.ensures.small) }
 

@@ -8,9 +8,6 @@ use Rattle.row_numbers.proofs.walk.count_entries.Goals as goal
 pub loop-t-init : goal.loop-t-init
 loop-t-init c = (omega arith, λ s n p. entries_begin n _)
 
-pub overflow_add-total : goal.overflow_add-total
-overflow_add-total c = omega (arith, c.entries_of-total.ensures.small, c.space_of.ensures.small)
-
 pub loop-t-preserved : goal.loop-t-preserved
 loop-t-preserved c = (omega (arith, c.entries_of-total.ensures.small, c.space_of.ensures.small), λ s n p. let less = in_net p c.transitions_of-t-end.ensures.is c.loop-t-test.true in let one = c.entries_of-total.ensures.is ∙ ap (entries_at (every_row c.args.plan.now c.loop-t.t)) (c.space_of.ensures.is s n p less) in omega (arith, c.loop-t.invariant.1 s n p, entries_next n c.args.plan.now c.loop-t.t))
 
