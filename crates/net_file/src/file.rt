@@ -47,6 +47,7 @@ fn read_closing(file: &[u8], at: usize) -> Result<(), Refusal>
 }
 
 // The tables of a net: each set's size, each variable's set, each place's sets and first flat place, and what each transition begins with.
+// Its arcs and its counts of tokens are lent apart: a caller has them where they stay.
 #[derive(Clone, Copy)]
 pub struct Tables {
     pub sizes: [u8; 16],
