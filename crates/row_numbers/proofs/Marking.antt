@@ -1,5 +1,5 @@
 -- Marks as the bits of words: what setting one changes, and the marks of all bindings. Assumes nothing.
-use Rattle.std.specs.Prelude.{◌∷◌, ◌+◌, ◌/◌, ◌%◌, ◌||◌, ◌&&◌, if◌then◌else◌}
+use Rattle.std.specs.Prelude.{◌+◌, ◌/◌, ◌%◌, ◌||◌, ◌&&◌, if◌then◌else◌}
 use mathlib.Core.Path.{◌≡◌, refl, sym, ap, ◌∙◌, subst}
 use mathlib.Core.Bool.{or-false, and-true, and-false}
 use native.Mathlib.Numerals.{add-one}
@@ -14,7 +14,7 @@ use lib.Dec.{lit<}
 use lib.ListN.{set}
 use lib.Pow.{low, shl-shr, pow-lt, pow-add, pow_pos}
 use lib.Seq.{get_or-set_same, get_or-set_other}
-use Rattle.reading.specs.Basics.{ℕ, zero, suc, Bool, true, false, eqb, ltb, List, [], length, get_or, replicate, keep, numbers_from, product}
+use Rattle.reading.specs.Basics.{ℕ, zero, suc, Bool, true, false, eqb, ltb, List, length, get_or, replicate, keep, numbers_from, product}
 use Rattle.net.specs.Net.{Net, sizes_of, transition_at}
 use Rattle.net.specs.internal.ReaderEnums.{member}
 use Rattle.reading.proofs.Clash.{clash}
@@ -112,18 +112,6 @@ zero_none w = ap (λ x. eqb (x % 2) 1) (div-eq_of_lt (pow_pos w))
 
 pub blank_words : (n : ℕ) → Blank (replicate n 0) 0
 blank_words n j le lt = ap (λ x. member x (j % 32)) (zero_at n (j / 32)) ∙ zero_none (j % 32)
-
--- an element that is 0 where 1 stands past the end is one of the list
-pub zero_else : (l : List ℕ) (i : ℕ) → get_or l i 1 ≡ 0 → get_or l i 0 ≡ 0
-zero_else [] i e = absurd (omega arith)
-zero_else (x ∷ l) zero e = e
-zero_else (x ∷ l) (suc i) e = zero_else l i e
-
--- nor in one word of 0
-pub blank_word : (marks : List ℕ) (k j : ℕ) → k % 32 < 1 → get_or marks (k / 32) 0 ≡ 0 → j < 32 → mark_at marks (k + j) ≡ false
-blank_word marks k j first none lt =
-    let e : (k + j) / 32 ≡ k / 32 = omega arith in
-    ap (λ x. member x ((k + j) % 32)) (ap (λ i. get_or marks i 0) e ∙ none) ∙ zero_none ((k + j) % 32)
 
 -- ---- the marks of a transition
 -- set for a binding that has an effect, and only for such a one
