@@ -8,10 +8,11 @@ use Rattle.reading.specs.Basics.{ℕ, Bool, true, false, List, none, some, lengt
 use Rattle.net.specs.Net.{Net}
 use Rattle.plan.specs.internal.Layout.{transitions_in, own_in}
 use Rattle.prepared.specs.internal.Prepared.{Prepared}
+use Rattle.prepared.specs.internal.Drawn.{Drawn, net_of}
 use Rattle.prepared.proofs.Known.{its_limits, its_form}
 use Rattle.bindings.specs.Orders.{fits, named}
 use Rattle.bindings.specs.internal.Bindings.{binding}
-use Rattle.bindings.specs.internal.Naming.{Names, NamedTold, NamedRoom}
+use Rattle.bindings.specs.internal.Naming.{Names, NamedTold}
 use Rattle.bindings.specs.declared.binding.Numbered.{Numbered}
 use Rattle.bindings.specs.internal.SlotSteps.{colours_at, Given}
 use Rattle.bindings.proofs.Owning.{theirs, their_sizes}
@@ -80,12 +81,9 @@ module _ {s plan : List ℕ} {n : Net} (ready : Prepared s n plan) (orders : Lis
         }
 
 -- ---- what was told
-module _ (n : Net) (order env : List ℕ) {r : Option Numbered} where
-  pub told_nothing : r ≡ None → NamedTold n order env r → named n order ≡ none
-  told_nothing e told = subst (NamedTold n order env) e told
+module _ (d : Drawn) (order env : List ℕ) {r : Option Numbered} where
+  pub told_nothing : r ≡ None → NamedTold d order env r → named (net_of d) order ≡ none
+  told_nothing e told = subst (NamedTold d order env) e told
 
-  pub told_of : {b : Numbered} → r ≡ Some b → NamedTold n order env r → Names n order b.t b.index env
-  told_of e told = subst (NamedTold n order env) e told
-
-pub told-room : {r : Option Numbered} {b : Numbered} → r ≡ Some b → NamedRoom r → b.t < 32
-told-room e room = subst NamedRoom e room
+  pub told_of : {b : Numbered} → r ≡ Some b → NamedTold d order env r → (b.transition.drawing ≡ d) × Names (net_of d) order b.transition.number b.index env
+  told_of e told = subst (NamedTold d order env) e told

@@ -1,30 +1,27 @@
 // Whether a binding has an effect.
-ghost use Rattle.std.specs.Prelude.{◌≡◌, List, ℕ, ◌<◌, length};
-ghost use Rattle.net.specs.Net.{Net};
-ghost use Rattle.prepared.specs.internal.Prepared.{Prepared};
+ghost use Rattle.std.specs.Prelude.{◌≡◌, List, ℕ};
+ghost use Rattle.prepared.specs.internal.Drawn.{its_net};
 ghost use Rattle.bindings.specs.Effect.{legal};
 ghost use Rattle.bindings.specs.internal.Bindings.{Binds, binding};
 ghost use Rattle.bindings.specs.internal.Legal.{every_row};
 
 use evaluation::eval_guard;
-use plan::guard_of;
+use prepared::Transition;
 
 // Whether a transition's binding has an effect: it has no guard, or its guard holds.
-pub fn has_effect(file: &[u8], plan: &[u32; 3584], env: &[u8; 32], t: usize) -> bool
-    requires { t < 32 }
-    ensures { (n : Net) (colours : List ℕ) → Prepared file.now n plan.now → t < length n.transitions
-        → Binds n (binding t colours) env.now → result ≡ legal n (binding t colours) }
+pub fn has_effect(transition: &Transition, env: &[u8; 32]) -> bool
+    ensures { (colours : List ℕ) → Binds (its_net transition.now) (binding transition.now.number colours) env.now
+        → result ≡ legal (its_net transition.now) (binding transition.now.number colours) }
 {
-    match guard_of(plan, t) {
+    match transition.guard() {
         None => true,
-        Some(guard) => eval_guard(file, plan, env, 16, guard).holds,
+        Some(guard) => eval_guard(transition.file(), transition.plan(), env, 16, guard).holds,
     }
 }
 
 // Whether each of a transition's bindings has an effect, whatever its colours: it has no guard.
-pub fn every_binding_has_row(plan: &[u32; 3584], t: usize) -> bool
-    requires { t < 32 }
-    ensures { result ≡ every_row plan.now t }
+pub fn every_binding_has_row(transition: &Transition) -> bool
+    ensures { result ≡ every_row transition.now.drawing.plan transition.now.number }
 {
-    guard_of(plan, t).is_none()
+    transition.guard().is_none()
 }

@@ -1,12 +1,10 @@
 // Bindings by each transition's own variables: how many, and the next one.
-ghost use Rattle.std.specs.Prelude.{◌≡◌, List, ℕ, ◌≤◌, ◌<◌, ◌+◌, ◌%◌, length};
+ghost use Rattle.std.specs.Prelude.{◌≡◌, ℕ, ◌≤◌, ◌<◌, ◌+◌};
 ghost use Rattle.reading.specs.Basics.{product};
-ghost use Rattle.net.specs.Net.{Net, sizes_of, transition_at};
-ghost use Rattle.prepared.specs.internal.Prepared.{Prepared};
-ghost use Rattle.bindings.specs.internal.Bindings.{Binds, numbered};
+ghost use Rattle.bindings.specs.internal.Bindings.{its_sizes, BindsIts};
 ghost use Rattle.bindings.specs.internal.SlotSteps.{colours_at, Turned, Skipped};
 
-use plan::own_of;
+use prepared::Transition;
 
 // How many colours a slot's variable has; 1 for a slot that is not used.
 pub fn colours_of(slot: u64) -> usize
@@ -17,14 +15,13 @@ pub fn colours_of(slot: u64) -> usize
 }
 
 // How many bindings a transition has.
-pub fn space_of(plan: &[u32; 3584], t: usize) -> usize
-    requires { t < 32 }
-    ensures is { (file : List ℕ) (n : Net) → Prepared file n plan.now → t < length n.transitions → result ≡ product (sizes_of n (transition_at n t)) }
+pub fn space_of(transition: &Transition) -> usize
+    ensures is { result ≡ product (its_sizes transition.now) }
     ensures small { result ≤ 4228250625 }
 {
     let mut space: usize = 1;
     for k in 0..4 {
-        space *= colours_of(own_of(plan, t, k));
+        space *= colours_of(transition.own(k));
     }
     space
 }
@@ -46,13 +43,11 @@ fn turn_slot(slot: u64, env: &mut [u8; 32]) -> bool
 }
 
 // Goes from a transition's binding to the next; the last variable changes fastest.
-pub fn next_binding(plan: &[u32; 3584], t: usize, env: &mut [u8; 32])
-    requires { t < 32 }
-    ensures { (file : List ℕ) (n : Net) (i : ℕ) → Prepared file n plan.now → t < length n.transitions
-        → i + 1 < product (sizes_of n (transition_at n t)) → Binds n (numbered n t i) env.old → Binds n (numbered n t (i + 1)) env.new }
+pub fn next_binding(transition: &Transition, env: &mut [u8; 32])
+    ensures { (i : ℕ) → i + 1 < product (its_sizes transition.now) → BindsIts transition.now i env.old → BindsIts transition.now (i + 1) env.new }
 {
     for k in (0..4).rev() {
-        if !turn_slot(own_of(plan, t, k), env) {
+        if !turn_slot(transition.own(k), env) {
             return;
         }
     }
@@ -73,16 +68,14 @@ fn skip_slot(slot: u64, many: u16, env: &mut [u8; 32]) -> u16
 }
 
 // Goes from a transition's binding on by so many.
-pub fn skip_bindings(plan: &[u32; 3584], t: usize, many: u16, env: &mut [u8; 32])
-    requires { t < 32 }
-    ensures { (file : List ℕ) (n : Net) (i : ℕ) → Prepared file n plan.now → t < length n.transitions
-        → i + many < product (sizes_of n (transition_at n t)) → Binds n (numbered n t i) env.old → Binds n (numbered n t (i + many)) env.new }
+pub fn skip_bindings(transition: &Transition, many: u16, env: &mut [u8; 32])
+    ensures { (i : ℕ) → i + many < product (its_sizes transition.now) → BindsIts transition.now i env.old → BindsIts transition.now (i + many) env.new }
 {
     let mut rest = many;
     for k in (0..4).rev() {
         if rest < 1 {
             return;
         }
-        rest = skip_slot(own_of(plan, t, k), rest, env);
+        rest = skip_slot(transition.own(k), rest, env);
     }
 }

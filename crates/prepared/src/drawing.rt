@@ -1,8 +1,8 @@
 // A net file that was read and accepted, with its table; and one of its transitions. What is known of both lies in their types.
-ghost use Rattle.std.specs.Prelude.{◌≡◌, ◌<◌, ◌≤◌, length};
+ghost use Rattle.std.specs.Prelude.{◌≡◌, ◌<◌, ◌≤◌, ◌+◌, ◌*◌, length, get_or, MatchOption};
 
 use crate::fill::prepare;
-use plan::{flat_places_of, transitions_of};
+use plan::{flat_places_of, guard_of, own_of, transitions_of};
 use reading::Refusal;
 use std::marker::Model;
 
@@ -103,6 +103,7 @@ impl<'a> Drawing<'a> {
 }
 
 impl<'a> Transition<'a> {
+    ghost use Rattle.plan.specs.internal.Layout.{guards_in, own_in};
     ghost use Rattle.prepared.specs.internal.Drawn.{its_net, IsDrawn};
 
     // Its number in its net.
@@ -128,5 +129,30 @@ impl<'a> Transition<'a> {
         ensures known { IsDrawn self.now.drawing.file self.now.drawing.plan }
     {
         self.plan
+    }
+
+    // Its net's file and table.
+    pub fn drawing(&self) -> Drawing<'a>
+        ensures { result ≡ self.now.drawing }
+    {
+        Drawing {
+            file: self.file,
+            plan: self.plan,
+        }
+    }
+
+    // Where its guard stands in the file, if it has one.
+    pub fn guard(&self) -> Option<usize>
+        ensures { MatchOption result (get_or (guards_in self.now.drawing.plan) self.now.number 0 ≡ 0) (λ place. (0 < place) × (place ≡ get_or (guards_in self.now.drawing.plan) self.now.number 0)) }
+    {
+        guard_of(self.plan, self.number)
+    }
+
+    // Slot k of its own variables.
+    pub fn own(&self, k: usize) -> u64
+        requires { k < 4 }
+        ensures { result ≡ get_or (own_in self.now.drawing.plan) (self.now.number * 4 + k) 0 }
+    {
+        own_of(self.plan, self.number, k)
     }
 }

@@ -2,6 +2,7 @@
 use Rattle.std.specs.Prelude.{◌≡◌, ◌<◌, Option, Some, None}
 use Rattle.reading.specs.Basics.{ℕ, List, none, some, length, product}
 use Rattle.net.specs.Net.{Net, sizes_of, transition_at}
+use Rattle.prepared.specs.internal.Drawn.{Drawn, net_of}
 use Rattle.bindings.specs.Orders.{named}
 use Rattle.bindings.specs.internal.Bindings.{Binds, numbered}
 use Rattle.bindings.specs.declared.binding.Numbered.{Numbered}
@@ -14,11 +15,6 @@ pub record Names (n : Net) (order : List ℕ) (t index : ℕ) (env : List ℕ) :
   pub binds : Binds n (numbered n t index) env
 
 -- what the code says of an order
-abbrev pub NamedTold : Net → List ℕ → List ℕ → Option Numbered → Type 0
-NamedTold n order env None = named n order ≡ none
-NamedTold n order env (Some b) = Names n order b.t b.index env
-
--- its transition has a place in the tables
-abbrev pub NamedRoom : Option Numbered → Type 0
-NamedRoom None = Unit {0}
-NamedRoom (Some b) = b.t < 32
+abbrev pub NamedTold : Drawn → List ℕ → List ℕ → Option Numbered → Type 0
+NamedTold d order env None = named (net_of d) order ≡ none
+NamedTold d order env (Some b) = (b.transition.drawing ≡ d) × Names (net_of d) order b.transition.number b.index env
