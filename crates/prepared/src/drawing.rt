@@ -77,6 +77,7 @@ impl<'a> Drawing<'a> {
     pub fn transitions(&self) -> usize
         ensures is { result ≡ length (net_of self.now).transitions }
         ensures small { result ≤ 32 }
+        ensures known { IsDrawn self.now.file self.now.plan }
     {
         transitions_of(self.plan)
     }
