@@ -86,6 +86,7 @@ impl<'a> Drawing<'a> {
     pub fn flat_places(&self) -> usize
         ensures is { result ≡ flat_place_count (net_of self.now) }
         ensures small { result ≤ 4096 }
+        ensures known { IsDrawn self.now.file self.now.plan }
     {
         flat_places_of(self.plan)
     }
