@@ -9,9 +9,9 @@ use lib.ListN.{set, drop_of_length-le}
 use lib.Seq.{drop-cons}
 use Rattle.std.proofs.lemmas.List.{drop-set}
 use Rattle.reading.specs.Basics.{ℕ, zero, suc, List, [], length, get_or, take, drop, product}
-use Rattle.net.specs.Net.{Net}
+use Rattle.net.specs.Net.{Net, transition_at}
 use Rattle.net_file.specs.Limits.{Limits}
-use Rattle.prepared.specs.internal.TransitionVariables.{Owned, slot_size}
+use Rattle.prepared.specs.internal.TransitionVariables.{own_of, slot_size}
 use Rattle.bindings.specs.internal.Numbers.{digits}
 use Rattle.bindings.specs.internal.SlotSteps.{colours_at}
 use Rattle.bindings.proofs.Owning.{their_sizes, sizes_are, few_theirs, by_slot}
@@ -56,18 +56,18 @@ module _ {sizes : List ℕ} {i k : ℕ} {colours : List ℕ} {left : ℕ} (lt : 
       record { rest = rw is parted; are = rw (is, one_more) (ap₂ (λ x l. x ∷ l) (ap (λ y. y % size) (sym here.rest)) here.are) }
 
 -- ---- by the table
-module _ (n : Net) (t i : ℕ) {own : List ℕ} (owned : Owned n own) (l : Limits n) (lt : t < length n.transitions) where
+module _ (n : Net) (t i : ℕ) (l : Limits n) (lt : t < length n.transitions) where
   -- no slot yet
   pub gather_begins : Gathering (their_sizes n t) i 4 [] i
   unfolding digits
   gather_begins =
-      let none : drop 4 (their_sizes n t) ≡ [] = drop_of_length-le (their_sizes n t) (few_theirs owned l lt) in
+      let none : drop 4 (their_sizes n t) ≡ [] = drop_of_length-le (their_sizes n t) (few_theirs l lt) in
       record { rest = rw none (sym (div-one i)); are = refl }
 
   -- one slot more
-  pub gather_goes : {k slot left size : ℕ} (colours : List ℕ) → k < 4 → length colours ≡ 4 → slot ≡ get_or own (t * 4 + k) 0 → size ≡ colours_at slot
+  pub gather_goes : {k slot left size : ℕ} (colours : List ℕ) → k < 4 → length colours ≡ 4 → slot ≡ get_or (own_of n (transition_at n t)) k 0 → size ≡ colours_at slot
       → Gathering (their_sizes n t) i (k + 1) (drop (k + 1) colours) left → Gathering (their_sizes n t) i k (drop k (set colours k (left % size))) (left / size)
-  gather_goes {k} {slot} {left} {size} colours inside four is all here = rw (drop-set colours k (left % size) (omega arith)) (by_slot owned l lt inside is
+  gather_goes {k} {slot} {left} {size} colours inside four is all here = rw (drop-set colours k (left % size) (omega arith)) (by_slot l lt inside is
       (λ free past.
       let one : size ≡ 1 = omega arith in
       rw (one, mod-one left, div-one left) (gather_none inside here (omega (arith, sizes_are n t))))

@@ -11,14 +11,14 @@ use lib.ListN.{set, length-map, length-drop, drop_of_length-le}
 use lib.Seq.{get_or-set_same, get_or-set_other, get_or-take, get_or-drop, drop-cons, length-take-le, ext_get_or}
 use Rattle.reading.specs.Basics.{ℕ, suc, Bool, true, false, List, [], length, get_or, take, drop, ltb, eqb, every, product}
 use Rattle.reading.proofs.Lists.{Apart}
-use Rattle.net.specs.Net.{Net}
+use Rattle.net.specs.Net.{Net, transition_at}
 use Rattle.net_file.specs.Limits.{Limits}
 use Rattle.net_file.specs.Formed.{Formed}
 use Rattle.bindings.specs.Orders.{fits}
 use Rattle.bindings.specs.internal.Bindings.{Binds, binding, numbered}
 use Rattle.bindings.specs.internal.Numbers.{digits, number}
 use Rattle.bindings.specs.internal.SlotSteps.{colours_at, Given}
-use Rattle.prepared.specs.internal.TransitionVariables.{Owned, slot_size}
+use Rattle.prepared.specs.internal.TransitionVariables.{own_of, slot_size}
 use Rattle.bindings.proofs.Digits.{number-below, digits_number, number_front}
 use Rattle.bindings.proofs.NamedOrders.{fits_padded}
 use Rattle.bindings.proofs.Owning.{colours_in, theirs, their_sizes, theirs_apart, sizes_are, held_binds, SlotHeld, few_theirs, by_slot}
@@ -107,14 +107,14 @@ small_number {index} {size} k small few byte =
 pub fits-number : {index : ℕ} (k : ℕ) → index < 256 ^ k → k ≤ 4 → index < 4294967296
 fits-number k small few = let most : 256 ^ k ≤ 4294967296 = pow-le-pow_right {n = 256} (omega arith) few in omega arith
 
-module _ (n : Net) (t : ℕ) (orders : List ℕ) (at : ℕ) (whole : at + 4 ≤ length orders) {own : List ℕ} (owned : Owned n own) (l : Limits n) (lt : t < length n.transitions) where
+module _ (n : Net) (t : ℕ) (orders : List ℕ) (at : ℕ) (whole : at + 4 ≤ length orders) (l : Limits n) (lt : t < length n.transitions) where
   abbrev named : List ℕ
   named = take 4 (drop at orders)
 
   four : length named ≡ 4
   four = length-take-le 4 (drop at orders) (rw length-drop (omega arith))
 
-  module _ {env after : List ℕ} {index k slot colour : ℕ} {r : Bool} (inside : k < 4) (is : slot ≡ get_or own (t * 4 + k) 0) (byte : colour ≡ get_or orders (at + k) 0) (given : Given slot colour env after r) (here : Giving (theirs n t) (their_sizes n t) named env index k) where
+  module _ {env after : List ℕ} {index k slot colour : ℕ} {r : Bool} (inside : k < 4) (is : slot ≡ get_or (own_of n (transition_at n t)) k 0) (byte : colour ≡ get_or orders (at + k) 0) (given : Given slot colour env after r) (here : Giving (theirs n t) (their_sizes n t) named env index k) where
     colour_is : colour ≡ get_or named k 0
     colour_is = byte ∙ sym (get_or-take 4 (drop at orders) k 0 inside ∙ get_or-drop at orders k 0)
 
@@ -122,19 +122,19 @@ module _ (n : Net) (t : ℕ) (orders : List ℕ) (at : ℕ) (whole : at + 4 ≤ 
     there_is = omega (arith, four)
 
     pub give_goes : {size : ℕ} → size ≡ colours_at slot → r ≡ true → Giving (theirs n t) (their_sizes n t) named after (index * size + colour) (k + 1)
-    give_goes sized e = by_slot owned l lt inside is
+    give_goes sized e = by_slot l lt inside is
         (λ free le. unused_goes given here colour_is there_is free (omega (arith, sizes_are n t)) le (omega arith) e)
         (λ held. used_goes given here colour_is there_is (theirs_apart n t) (sizes_are n t) held (omega (arith, held.sized)) e)
 
     pub give_fails : r ≡ false → fits (their_sizes n t) named ≡ false
-    give_fails e = by_slot owned l lt inside is
+    give_fails e = by_slot l lt inside is
         (λ free le. unused_fails given here colour_is there_is free (omega (arith, sizes_are n t)) le e)
         (λ held. used_fails given here colour_is there_is (theirs_apart n t) (sizes_are n t) held e)
 
   -- after the last slot all fit, the number is theirs, and the variables have them
   module _ {env : List ℕ} {index k : ℕ} (all : 4 ≤ k) (here : Giving (theirs n t) (their_sizes n t) named env index k) where
     no_sizes : drop k (their_sizes n t) ≡ []
-    no_sizes = drop_of_length-le (their_sizes n t) (let h : length (their_sizes n t) ≤ k = omega (arith, few_theirs owned l lt) in h)
+    no_sizes = drop_of_length-le (their_sizes n t) (let h : length (their_sizes n t) ≤ k = omega (arith, few_theirs l lt) in h)
 
     pub give_fits : fits (their_sizes n t) named ≡ true
     unfolding fits every
@@ -152,7 +152,7 @@ module _ (n : Net) (t : ℕ) (orders : List ℕ) (at : ℕ) (whole : at + 4 ≤ 
 
     pub give_binds : Formed n → Binds n (numbered n t index) env
     give_binds formed =
-        let most = few_theirs owned l lt in
+        let most = few_theirs l lt in
         let as_many : length (colours_in env (theirs n t)) ≡ length (theirs n t) = length-map (theirs n t) (λ v. get_or env v 0) in
         let front : length (take (length (their_sizes n t)) named) ≡ length (their_sizes n t) = length-take-le (length (their_sizes n t)) named (omega (arith, four)) in
         let e : colours_in env (theirs n t) ≡ take (length (their_sizes n t)) named = ext_get_or 0 (colours_in env (theirs n t)) (take (length (their_sizes n t)) named)

@@ -5,10 +5,10 @@ use Prim.Native.Nat.{◌≤◌, ◌<◌}
 use native.Mathlib.Omega.{arith}
 use native.Mathlib.Nat.{add-zero}
 use Rattle.reading.specs.Basics.{ℕ, Bool, true, false, List, none, some, length, take, drop, byte_at, get_or}
-use Rattle.net.specs.Net.{Net}
-use Rattle.plan.specs.internal.Layout.{transitions_in, own_in}
+use Rattle.net.specs.Net.{Net, transition_at}
 use Rattle.prepared.specs.internal.Prepared.{Prepared}
 use Rattle.prepared.specs.internal.Drawn.{Drawn, net_of}
+use Rattle.prepared.specs.internal.TransitionVariables.{own_of}
 use Rattle.prepared.proofs.Known.{its_limits, its_form}
 use Rattle.bindings.specs.Orders.{fits, named}
 use Rattle.bindings.specs.internal.Bindings.{binding}
@@ -23,7 +23,7 @@ use Rattle.bindings.proofs.Giving.{Giving, give_goes, give_fails, give_fits, giv
 abbrev pub GivenTo : Net → List ℕ → ℕ → ℕ → List ℕ → ℕ → ℕ → Type 0
 GivenTo n orders i t env index k = Giving (theirs n t) (their_sizes n t) (take 4 (drop (i * 6 + 2) orders)) env index k
 
-module _ {s plan : List ℕ} {n : Net} (ready : Prepared s n plan) (orders : List ℕ) (i : ℕ) where
+module _ (n : Net) (orders : List ℕ) (i : ℕ) where
   abbrev order : List ℕ
   order = take 6 (drop (i * 6) orders)
 
@@ -34,13 +34,10 @@ module _ {s plan : List ℕ} {n : Net} (ready : Prepared s n plan) (orders : Lis
   pub name_other : (byte_at orders (i * 6) ≡ 0x60 → ⊥) → named n order ≡ none
   name_other ne = named_other n order (λ e. ne (sym opening ∙ e))
 
-  pub name_past : transitions_in plan ≤ byte_at orders (i * 6 + 1) → named n order ≡ none
-  name_past le = named_past n order (omega (arith, ready.transitions_are, order_byte orders (i * 6) 1 (omega arith)))
+  pub name_past : length n.transitions ≤ byte_at orders (i * 6 + 1) → named n order ≡ none
+  name_past le = named_past n order (omega (arith, order_byte orders (i * 6) 1 (omega arith)))
 
-  module _ (whole : i * 6 + 6 ≤ length orders) (opens : byte_at orders (i * 6) ≡ 0x60) {t : ℕ} (second : t ≡ byte_at orders (i * 6 + 1)) (lt : t < transitions_in plan) where
-    inside : t < length n.transitions
-    inside = omega (arith, ready.transitions_are)
-
+  module _ {s plan : List ℕ} (ready : Prepared s n plan) (whole : i * 6 + 6 ≤ length orders) (opens : byte_at orders (i * 6) ≡ 0x60) {t : ℕ} (second : t ≡ byte_at orders (i * 6 + 1)) (inside : t < length n.transitions) where
     four : i * 6 + 2 + 4 ≤ length orders
     four = omega arith
 
@@ -55,21 +52,20 @@ module _ {s plan : List ℕ} {n : Net} (ready : Prepared s n plan) (orders : Lis
     fit_is e = rw (its, order_colours orders (i * 6)) e
 
     -- one slot more: its colour is one of its set, or not
-    module _ {env after : List ℕ} {index k slot colour : ℕ} {r : Bool} (few : k < 4) (is : slot ≡ get_or (own_in plan) (t * 4 + k) 0) (byte : colour ≡ get_or orders (i * 6 + 2 + k) 0)
+    module _ {env after : List ℕ} {index k slot colour : ℕ} {r : Bool} (few : k < 4) (is : slot ≡ get_or (own_of n (transition_at n t)) k 0) (byte : colour ≡ get_or orders (i * 6 + 2 + k) 0)
         (given : Given slot colour env after r) (here : GivenTo n orders i t env index k) where
       pub name_goes : {size : ℕ} → size ≡ colours_at slot → r ≡ true → GivenTo n orders i t after (index * size + colour) (k + 1)
-      name_goes sized e = give_goes n t orders (i * 6 + 2) four ready.owned (its_limits ready) inside few is byte given here sized e
+      name_goes sized e = give_goes n t orders (i * 6 + 2) four (its_limits ready) inside few is byte given here sized e
 
       pub name_fails : r ≡ false → named n order ≡ none
-      name_fails e = named_unfit n order (opening ∙ opens) below_it (fit_is (give_fails n t orders (i * 6 + 2) four ready.owned (its_limits ready) inside few is byte given here e))
+      name_fails e = named_unfit n order (opening ∙ opens) below_it (fit_is (give_fails n t orders (i * 6 + 2) four (its_limits ready) inside few is byte given here e))
 
     -- all four
     pub name_ends : {env : List ℕ} {index k : ℕ} → 4 ≤ k → GivenTo n orders i t env index k → Names n order t index env
     name_ends {env} {index} all here =
-        let owned = ready.owned in
         let limits = its_limits ready in
-        let (small, digits_are) = give_number n t orders (i * 6 + 2) four owned limits inside all here in
-        let fit = give_fits n t orders (i * 6 + 2) four owned limits inside all here in
+        let (small, digits_are) = give_number n t orders (i * 6 + 2) four limits inside all here in
+        let fit = give_fits n t orders (i * 6 + 2) four limits inside all here in
         record {
           stands = inside;
           inside = small;
@@ -77,7 +73,7 @@ module _ {s plan : List ℕ} {n : Net} (ready : Prepared s n plan) (orders : Lis
               ∙ ap (λ u. some (binding u (take (length (their_sizes n u)) (drop 2 order)))) its
               ∙ ap (λ l. some (binding t (take (length (their_sizes n t)) l))) (order_colours orders (i * 6))
               ∙ ap (λ l. some (binding t l)) (sym digits_are);
-          binds = give_binds n t orders (i * 6 + 2) four owned limits inside all here (its_form ready);
+          binds = give_binds n t orders (i * 6 + 2) four limits inside all here (its_form ready);
         }
 
 -- ---- what was told

@@ -17,7 +17,7 @@ use Rattle.net_file.specs.Formed.{Formed}
 use Rattle.bindings.specs.Effect.{stands_for}
 use Rattle.bindings.specs.internal.Numbers.{digits}
 use Rattle.bindings.specs.internal.Bindings.{Binds, binding, numbered}
-use Rattle.prepared.specs.internal.TransitionVariables.{own_of, Owned, slot_variable, slot_size}
+use Rattle.prepared.specs.internal.TransitionVariables.{own_of, slot_variable, slot_size}
 use Rattle.bindings.specs.internal.SlotSteps.{colours_at}
 use Rattle.bindings.proofs.Digits.{product-with}
 use Rattle.bindings.proofs.Used.{used_below}
@@ -149,16 +149,16 @@ in_get_d [] k lt = absurd (omega arith)
 in_get_d (x ∷ l) zero lt = here
 in_get_d (x ∷ l) (suc k) lt = there (in_get_d l k (omega arith))
 
-module _ {n : Net} {own : List ℕ} (owned : Owned n own) (l : Limits n) {t : ℕ} (lt : t < length n.transitions) where
+module _ {n : Net} (l : Limits n) {t : ℕ} (lt : t < length n.transitions) where
   pub few_theirs : length (their_sizes n t) ≤ 4
   few_theirs = rw length-map (l.few_variables t lt)
 
   -- it holds one, or it is 0
-  pub by_slot : {C : Type 0} {k slot : ℕ} → k < 4 → slot ≡ get_or own (t * 4 + k) 0 → (slot < 1 → length (theirs n t) ≤ k → C) → (SlotHeld (theirs n t) (their_sizes n t) k slot → C) → C
+  pub by_slot : {C : Type 0} {k slot : ℕ} → k < 4 → slot ≡ get_or (own_of n (transition_at n t)) k 0 → (slot < 1 → length (theirs n t) ≤ k → C) → (SlotHeld (theirs n t) (their_sizes n t) k slot → C) → C
   by_slot {C} {k} {slot} less is unused used = go (ltb k (length (theirs n t))) refl
     where
       entry : slot ≡ get_or (own_of n (transition_at n t)) k 0
-      entry = is ∙ owned.slot t k lt less
+      entry = is
 
       go : (b : Bool) → ltb k (length (theirs n t)) ≡ b → C
       go true e =
@@ -184,11 +184,11 @@ small_space k le few = rw (add-one, pow-suc) (mul-le-mul le few)
 pub fits_space : {space : ℕ} (k : ℕ) → space ≤ 255 ^ k → k ≤ 4 → space ≤ 4228250625
 fits_space k le few = le_trans le (pow-le-pow_right {n = 255} (omega arith) few)
 
-module _ {n : Net} {own : List ℕ} (owned : Owned n own) (l : Limits n) {t : ℕ} (lt : t < length n.transitions) where
-  pub space_goes : {space r : ℕ} (k slot : ℕ) → k < 4 → slot ≡ get_or own (t * 4 + k) 0 → r ≡ colours_at slot
+module _ {n : Net} (l : Limits n) {t : ℕ} (lt : t < length n.transitions) where
+  pub space_goes : {space r : ℕ} (k slot : ℕ) → k < 4 → slot ≡ get_or (own_of n (transition_at n t)) k 0 → r ≡ colours_at slot
       → space ≡ product (take k (their_sizes n t)) → space * r ≡ product (take (k + 1) (their_sizes n t))
   space_goes {space} {r} k slot less is all so =
-      by_slot owned l lt less is
+      by_slot l lt less is
       (λ free le.
       let past : length (their_sizes n t) ≤ k = omega (arith, sizes_are n t) in
       let more : length (their_sizes n t) ≤ k + 1 = omega arith in
@@ -201,4 +201,4 @@ module _ {n : Net} {own : List ℕ} (owned : Owned n own) (l : Limits n) {t : �
       (sym (ap product (take-suc (their_sizes n t) k 0 inside) ∙ product-with (take k (their_sizes n t)) (get_or (their_sizes n t) k 0))))
 
   pub space_ends : {space : ℕ} (k : ℕ) → 4 ≤ k → space ≡ product (take k (their_sizes n t)) → space ≡ product (their_sizes n t)
-  space_ends k le so = so ∙ ap product (take_all k (their_sizes n t) (omega (arith, few_theirs owned l lt)))
+  space_ends k le so = so ∙ ap product (take_all k (their_sizes n t) (omega (arith, few_theirs l lt)))

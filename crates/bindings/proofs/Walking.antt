@@ -10,13 +10,15 @@ use lib.ListN.{set, drop_of_length-le}
 use lib.Seq.{get_or-set_same, get_or-set_other, drop-cons}
 use Rattle.reading.specs.Basics.{ℕ, zero, suc, Bool, true, false, List, [], length, get_or, drop, ltb, product}
 use Rattle.reading.proofs.Lists.{here, Apart, alone, new, map_same}
-use Rattle.net.specs.Net.{Net}
+use Rattle.net.specs.Net.{Net, transition_at}
 use Rattle.net_file.specs.Limits.{Limits}
 use Rattle.net_file.specs.Formed.{Formed}
 use Rattle.bindings.specs.internal.Numbers.{digits, number}
-use Rattle.bindings.specs.internal.Bindings.{Binds, binding, numbered}
+use Rattle.prepared.specs.internal.Drawn.{DrawnTransition, its_net, Stands}
+use Rattle.prepared.proofs.Known.{its_limits}
+use Rattle.bindings.specs.internal.Bindings.{Binds, binding, numbered, its_sizes, BindsIts}
 use Rattle.bindings.specs.internal.SlotSteps.{Turned, Skipped}
-use Rattle.prepared.specs.internal.TransitionVariables.{Owned, slot_variable, slot_size}
+use Rattle.prepared.specs.internal.TransitionVariables.{own_of, slot_variable, slot_size}
 use Rattle.bindings.proofs.Bindings.{Fit, none, more, fit_length}
 use Rattle.bindings.proofs.Digits.{digits-length, digits_fit, digits_number, number_digits}
 use Rattle.reading.proofs.Clash.{clash}
@@ -123,15 +125,15 @@ module _ (n : Net) (t j : ℕ) where
       let h : number (their_sizes n t) (colours_in env (theirs n t)) + suc rest * product (their_sizes n t) ≡ j = rw e at here.is in
       absurd (omega (arith, suc-mul rest (product (their_sizes n t))))
 
-  module _ {own : List ℕ} (owned : Owned n own) (l : Limits n) (lt : t < length n.transitions) where
+  module _ (l : Limits n) (lt : t < length n.transitions) where
     pub walk_begins : (env : List ℕ) (i many : ℕ) → i + many ≡ j → j < product (their_sizes n t) → Binds n (numbered n t i) env → Walking (theirs n t) (their_sizes n t) env j many 4
     walk_begins env i many is less b =
         let held = binds_held n t env (digits (their_sizes n t) i) (digits-length (their_sizes n t) i ∙ sizes_are n t) b in
         let counts : number (their_sizes n t) (colours_in env (theirs n t)) ≡ i = rw held (number_digits (their_sizes n t) i (omega arith)) in
-        let none : many * product (drop 4 (their_sizes n t)) ≡ many * 1 = ap (λ p. many * product p) (drop_of_length-le (their_sizes n t) (few_theirs owned l lt)) in
+        let none : many * product (drop 4 (their_sizes n t)) ≡ many * 1 = ap (λ p. many * product p) (drop_of_length-le (their_sizes n t) (few_theirs l lt)) in
         record { fit = rw held (digits_fit (their_sizes n t) i (omega arith)); is = omega arith }
 
-    module _ {env : List ℕ} {k slot rest : ℕ} (some : 0 < k) (most : k ≤ 4) (is : slot ≡ get_or own (t * 4 + (k - 1)) 0) (here : Walking (theirs n t) (their_sizes n t) env j rest k) where
+    module _ {env : List ℕ} {k slot rest : ℕ} (some : 0 < k) (most : k ≤ 4) (is : slot ≡ get_or (own_of n (transition_at n t)) (k - 1) 0) (here : Walking (theirs n t) (their_sizes n t) env j rest k) where
       kept : Walking (theirs n t) (their_sizes n t) env j rest (k - 1 + 1)
       kept = let e : k - 1 + 1 ≡ k = omega arith in rw e here
 
@@ -154,7 +156,7 @@ module _ (n : Net) (t j : ℕ) where
 
       -- by one colour: it begins anew, and the one before it goes on too; or it has its next
       pub walk_turns : rest ≡ 1 → {after : List ℕ} {r : Bool} → Turned slot env after r → r ≡ true → Walking (theirs n t) (their_sizes n t) after j rest (k - 1)
-      walk_turns one {after} turned e = by_slot owned l lt inside is
+      walk_turns one {after} turned e = by_slot l lt inside is
           (λ free le. passes le (turned.unused free).1)
           (λ held. go held (ltb (get_or env (slot_variable slot) 0 + 1) (slot_size slot)) refl)
         where
@@ -167,7 +169,7 @@ module _ (n : Net) (t j : ℕ) where
               goes turned.room held 0 rest (turned.last held.some le).1 (omega arith) (omega arith)
 
       pub walk_stops : rest ≡ 1 → {after : List ℕ} {r : Bool} → Turned slot env after r → r ≡ false → Walking (theirs n t) (their_sizes n t) after j 0 (k - 1)
-      walk_stops one {after} turned e = by_slot owned l lt inside is
+      walk_stops one {after} turned e = by_slot l lt inside is
           (λ free le. clash refl (turned.unused free).0 e)
           (λ held. go held (ltb (get_or env (slot_variable slot) 0 + 1) (slot_size slot)) refl)
         where
@@ -179,10 +181,19 @@ module _ (n : Net) (t j : ℕ) where
 
       -- by so many
       pub walk_skips : {after : List ℕ} {r : ℕ} → Skipped slot rest env after r → Walking (theirs n t) (their_sizes n t) after j r (k - 1)
-      walk_skips skipped = by_slot owned l lt inside is
+      walk_skips skipped = by_slot l lt inside is
           (λ free le. let (same, stays) = skipped.unused (omega arith) in rw same (passes le stays))
           (λ held.
           let less = below_size skipped.room held in
           let sum : ℕ = get_or env (slot_variable slot) 0 + rest in
           rw (skipped.rounds less)
           (goes skipped.room held (sum % slot_size slot) (sum / slot_size slot) (skipped.stored (omega arith)) (mod-lt sum (omega arith)) (mod-add-div' sum (slot_size slot))))
+
+-- ---- of a transition of a drawing
+-- a list that had the colours of a binding is on the walk to the one so many further on; after the first step the transition is known to stand
+abbrev pub OnTheWay : DrawnTransition → List ℕ → List ℕ → ℕ → ℕ → ℕ → Type 0
+OnTheWay t before env many rest k =
+    (k < 4 → Stands t) × ((i : ℕ) → Stands t → i + many < product (its_sizes t) → BindsIts t i before → Walking (theirs (its_net t) t.number) (its_sizes t) env (i + many) rest k)
+
+pub sets_out : (t : DrawnTransition) (env : List ℕ) (many : ℕ) → OnTheWay t env env many many 4
+sets_out t env many = (λ lt. absurd (omega arith), λ i stands less b. walk_begins (its_net t) t.number (i + many) (its_limits stands.0) stands.1 env i many refl less b)

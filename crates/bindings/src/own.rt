@@ -73,9 +73,9 @@ pub fn skip_bindings(transition: &Transition, many: u16, env: &mut [u8; 32])
 {
     let mut rest = many;
     for k in (0..4).rev() {
+        rest = skip_slot(transition.own(k), rest, env);
         if rest < 1 {
             return;
         }
-        rest = skip_slot(transition.own(k), rest, env);
     }
 }

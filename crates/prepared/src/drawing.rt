@@ -1,16 +1,17 @@
-// A net file that was read and accepted, with its table; and one of its transitions. What is known of both lies in their types.
-ghost use Rattle.std.specs.Prelude.{◌≡◌, ◌<◌, ◌≤◌, ◌+◌, ◌*◌, length, get_or, MatchOption};
+// A net file that was read and accepted, with its table. What is known of both lies in the type.
+ghost use Rattle.std.specs.Prelude.{◌≡◌, ◌<◌, ◌≤◌, length};
 
 use crate::fill::prepare;
-use plan::{flat_places_of, guard_of, own_of, transitions_of};
+use crate::transition::Transition;
+use plan::{flat_places_of, transitions_of};
 use reading::Refusal;
 use std::marker::Model;
 
 // A net file and its table.
 #[derive(Drop)]
 pub struct Drawing<'a> {
-    file: &'a [u8],
-    plan: &'a [u32; 3584],
+    pub(crate) file: &'a [u8],
+    pub(crate) plan: &'a [u32; 3584],
 }
 
 impl<'a> Model for Drawing<'a> {
@@ -21,24 +22,6 @@ impl<'a> Model for Drawing<'a> {
     ghost view = { λ d. drawn d.file.now d.plan.now };
 
     ghost invariant = { λ d. IsDrawn d.file.now d.plan.now };
-}
-
-// One of its transitions.
-#[derive(Drop)]
-pub struct Transition<'a> {
-    file: &'a [u8],
-    plan: &'a [u32; 3584],
-    number: usize,
-}
-
-impl<'a> Model for Transition<'a> {
-    ghost use Rattle.prepared.specs.internal.Drawn.{DrawnTransition, drawn, drawn_transition, IsInside};
-
-    ghost Value = { DrawnTransition };
-
-    ghost view = { λ t. drawn_transition (drawn t.file.now t.plan.now) t.number };
-
-    ghost invariant = { λ t. IsInside t.file.now t.plan.now t.number };
 }
 
 impl<'a> Drawing<'a> {
@@ -101,60 +84,5 @@ impl<'a> Drawing<'a> {
             plan: self.plan,
             number: t,
         }
-    }
-}
-
-impl<'a> Transition<'a> {
-    ghost use Rattle.plan.specs.internal.Layout.{guards_in, own_in};
-    ghost use Rattle.prepared.specs.internal.Drawn.{its_net, IsDrawn};
-
-    // Its number in its net.
-    pub fn number(&self) -> usize
-        ensures is { result ≡ self.now.number }
-        ensures inside { result < length (its_net self.now).transitions }
-        ensures small { result < 32 }
-    {
-        self.number
-    }
-
-    // Its net's file.
-    pub fn file(&self) -> &'a [u8]
-        ensures is { result.now ≡ self.now.drawing.file }
-        ensures known { IsDrawn self.now.drawing.file self.now.drawing.plan }
-    {
-        self.file
-    }
-
-    // Its net's table.
-    pub fn plan(&self) -> &'a [u32; 3584]
-        ensures is { result.now ≡ self.now.drawing.plan }
-        ensures known { IsDrawn self.now.drawing.file self.now.drawing.plan }
-    {
-        self.plan
-    }
-
-    // Its net's file and table.
-    pub fn drawing(&self) -> Drawing<'a>
-        ensures { result ≡ self.now.drawing }
-    {
-        Drawing {
-            file: self.file,
-            plan: self.plan,
-        }
-    }
-
-    // Where its guard stands in the file, if it has one.
-    pub fn guard(&self) -> Option<usize>
-        ensures { MatchOption result (get_or (guards_in self.now.drawing.plan) self.now.number 0 ≡ 0) (λ place. (0 < place) × (place ≡ get_or (guards_in self.now.drawing.plan) self.now.number 0)) }
-    {
-        guard_of(self.plan, self.number)
-    }
-
-    // Slot k of its own variables.
-    pub fn own(&self, k: usize) -> u64
-        requires { k < 4 }
-        ensures { result ≡ get_or (own_in self.now.drawing.plan) (self.now.number * 4 + k) 0 }
-    {
-        own_of(self.plan, self.number, k)
     }
 }

@@ -5,6 +5,8 @@ mod drawing;
 mod fill;
 mod own;
 mod pack;
+mod transition;
 
-pub use drawing::{Drawing, Transition};
+pub use drawing::Drawing;
 pub use fill::prepare;
+pub use transition::Transition;

@@ -41,6 +41,9 @@ its_net t = net_of t.drawing
 abbrev pub IsInside : List ℕ → List ℕ → ℕ → Type 0
 IsInside file plan t = IsDrawn file plan × (t < length (net_in file).transitions)
 
+abbrev pub Stands : DrawnTransition → Type 0
+Stands t = IsInside t.drawing.file t.drawing.plan t.number
+
 -- what reading gives: the file with its net and initial counts, or the refusal
 abbrev pub DrawingTold : List ℕ → List ℕ → Result Drawn Refusal → Type 0
 DrawingTold s initial (Ok d) = (d.file ≡ s) × (read_net s ≡ accepted (net_of d)) × InitialCounts (net_of d) initial

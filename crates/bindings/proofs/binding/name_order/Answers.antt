@@ -1,19 +1,22 @@
 use native.Mathlib.Omega.{arith}
-use mathlib.Core.Path.{refl}
+use mathlib.Core.Path.{ap, refl}
 use lib.ListN.{get_or}
 use Prim.Native.Nat.{◌≤◌, ◌+◌, ◌*◌}
-use Rattle.bindings.proofs.Giving.{small_number, fits-number}
+use Rattle.bindings.proofs.Giving.{give_begins, small_number, fits-number}
 use Rattle.bindings.proofs.Naming.{name_other, name_past, name_goes, name_fails, name_ends}
 use Rattle.bindings.proofs.binding.name_order.Goals as goal
 
 pub returns-then-orders-at-ne96 : goal.returns-then-orders-at-ne96
-returns-then-orders-at-ne96 c = record { told = λ s n p. name_other p c.args.orders.now c.args.i c.if-orders-at-ne96.true; room = tt }
+returns-then-orders-at-ne96 c = name_other _ c.args.orders.now c.args.i c.if-orders-at-ne96.true
 
-pub returns-then-transitions_of-t : goal.returns-then-transitions_of-t
-returns-then-transitions_of-t c = record { told = λ s n p. name_past p c.args.orders.now c.args.i (omega (arith, c.transitions_of.ensures.is, c.if-transitions_of-t.true)); room = tt }
+pub returns-then-transitions-t : goal.returns-then-transitions-t
+returns-then-transitions-t c = name_past _ c.args.orders.now c.args.i (omega (arith, c.transitions.ensures.is, c.if-transitions-t.true))
 
 pub returns-then-not-give_slot : goal.returns-then-not-give_slot
-returns-then-not-give_slot c = record { told = λ s n p. name_fails p c.args.orders.now c.args.i c.requires c.if-orders-at-ne96.false refl (omega (arith, c.if-transitions_of-t.false, c.transitions_of.ensures.is)) c.loop-k-test.true c.own_of-slot.ensures refl c.give_slot.ensures (c.loop-k.invariant.1 s n p) c.if-not-give_slot.true; room = tt }
+returns-then-not-give_slot c = let (p, lt) = c.own-slot.ensures.known in rw (← ap (λ t. t.drawing) c.transition-transition.ensures) (name_fails _ c.args.orders.now c.args.i p c.requires c.if-orders-at-ne96.false (ap (λ t. t.number) c.transition-transition.ensures) lt c.loop-k-test.true c.own-slot.ensures.is refl c.give_slot.ensures c.loop-k.invariant.1 c.if-not-give_slot.true)
+
+pub loop-k-init : goal.loop-k-init
+loop-k-init c = (omega arith, give_begins _ _ _ _, λ lt. absurd (omega arith))
 
 pub overflow_mul-index : goal.overflow_mul-index
 overflow_mul-index c = let small = small_number {c = 0} _ c.loop-k.invariant.0 c.colours_of.ensures.small.1 (omega arith) in omega (arith, fits-number (c.loop-k.k + 1) small (let h : c.loop-k.k + 1 ≤ 4 = omega arith in h))
@@ -22,7 +25,11 @@ pub overflow_add-index : goal.overflow_add-index
 overflow_add-index c = let byte : get_or c.args.orders.now (c.args.i * 6 + 2 + c.loop-k.k) 0 ≤ 255 = omega (arith, c.type_inv.orders (c.args.i * 6 + 2 + c.loop-k.k)) in let small = small_number _ c.loop-k.invariant.0 c.colours_of.ensures.small.1 byte in omega (arith, fits-number (c.loop-k.k + 1) small (let h : c.loop-k.k + 1 ≤ 4 = omega arith in h))
 
 pub loop-k-preserved : goal.loop-k-preserved
-loop-k-preserved c = (small_number _ c.loop-k.invariant.0 c.colours_of.ensures.small.1 (let h : get_or c.args.orders.now (c.args.i * 6 + 2 + c.loop-k.k) 0 ≤ 255 = omega (arith, c.type_inv.orders (c.args.i * 6 + 2 + c.loop-k.k)) in h), λ s n p. name_goes p c.args.orders.now c.args.i c.requires c.if-orders-at-ne96.false refl (omega (arith, c.if-transitions_of-t.false, c.transitions_of.ensures.is)) c.loop-k-test.true c.own_of-slot.ensures refl c.give_slot.ensures (c.loop-k.invariant.1 s n p) c.colours_of.ensures.is c.if-not-give_slot.false)
+loop-k-preserved c = let (p, lt) = c.own-slot.ensures.known in (
+  small_number _ c.loop-k.invariant.0 c.colours_of.ensures.small.1 (let h : get_or c.args.orders.now (c.args.i * 6 + 2 + c.loop-k.k) 0 ≤ 255 = omega (arith, c.type_inv.orders (c.args.i * 6 + 2 + c.loop-k.k)) in h),
+  name_goes _ c.args.orders.now c.args.i p c.requires c.if-orders-at-ne96.false (ap (λ t. t.number) c.transition-transition.ensures) lt c.loop-k-test.true c.own-slot.ensures.is refl c.give_slot.ensures c.loop-k.invariant.1 c.colours_of.ensures.is c.if-not-give_slot.false,
+  λ some. c.own-slot.ensures.known,
+)
 
 pub returns : goal.returns
-returns c = record { told = λ s n p. name_ends p c.args.orders.now c.args.i c.requires c.if-orders-at-ne96.false refl (omega (arith, c.if-transitions_of-t.false, c.transitions_of.ensures.is)) c.loop-k-test.false (c.loop-k.invariant.1 s n p); room = omega (arith, c.transitions_of.ensures.small, c.if-transitions_of-t.false) }
+returns c = let (p, lt) = c.loop-k.invariant.2 (omega arith) in let same = ap (λ t. t.drawing) c.transition-transition.ensures in (same, rw (← same) (name_ends _ c.args.orders.now c.args.i p c.requires c.if-orders-at-ne96.false (ap (λ t. t.number) c.transition-transition.ensures) lt c.loop-k-test.false c.loop-k.invariant.1))

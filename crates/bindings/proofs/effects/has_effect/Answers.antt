@@ -1,8 +1,9 @@
+use Rattle.prepared.specs.internal.Drawn.{its_net}
 use Rattle.bindings.proofs.Legal.{guard_none, guard_told}
 use Rattle.bindings.proofs.effects.has_effect.Goals as goal
 
 pub returns-in-None : goal.returns-in-None
-returns-in-None c = λ n colours p lt binds. guard_none p lt colours c.in-None.ensures
+returns-in-None c = λ colours binds. let (p, lt) = c.guard.ensures.known in guard_none p lt colours c.in-None.ensures.is
 
 pub returns-in-Some : goal.returns-in-Some
-returns-in-Some c = λ n colours p lt binds. let (some, is) = c.in-Some.ensures in guard_told p lt colours c.args.env.now c.eval_guard.result is some binds (c.eval_guard.ensures n.places)
+returns-in-Some c = λ colours binds. let (p, lt) = c.guard.ensures.known in let (some, is) = c.in-Some.ensures.is in guard_told p lt colours c.args.env.now c.eval_guard.result is some binds (rw (c.file.ensures.is, c.plan.ensures.is) at c.eval_guard.ensures (its_net c.args.transition.now).places)

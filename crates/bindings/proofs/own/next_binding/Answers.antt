@@ -2,17 +2,17 @@ use native.Mathlib.Omega.{arith}
 use mathlib.Core.Path.{refl}
 use Prim.Native.Nat.{◌+◌}
 use Rattle.prepared.proofs.Known.{its_limits, its_form}
-use Rattle.bindings.proofs.Walking.{walk_begins, walk_is, walk_turns, walk_stops, walk_ends}
+use Rattle.bindings.proofs.Walking.{sets_out, walk_is, walk_turns, walk_stops, walk_ends}
 use Rattle.bindings.proofs.own.next_binding.Goals as goal
 
 pub loop-k-init : goal.loop-k-init
-loop-k-init c = λ n i owned l lt less b. walk_begins n c.args.t (i + 1) owned l lt _ i 1 refl less b
+loop-k-init c = sets_out c.args.transition.now c.args.env.now 1
 
 pub returns-then-not-turn_slot : goal.returns-then-not-turn_slot
-returns-then-not-turn_slot c = λ s n i p lt less b. let owned = p.owned in let l = its_limits p in let formed = its_form p in walk_is n _ (i + 1) formed lt (omega arith) (walk_stops n _ (i + 1) owned l lt (omega arith) (omega arith) c.own_of.ensures (c.loop-k.invariant n i owned l lt less b) refl c.turn_slot.ensures c.if-not-turn_slot.true)
+returns-then-not-turn_slot c = λ i less b. let (p, lt) = c.own.ensures.known in walk_is _ _ (i + 1) (its_form p) lt (omega arith) (walk_stops _ _ (i + 1) (its_limits p) lt (omega arith) (omega arith) c.own.ensures.is (c.loop-k.invariant.1 i c.own.ensures.known less b) refl c.turn_slot.ensures c.if-not-turn_slot.true)
 
 pub loop-k-preserved : goal.loop-k-preserved
-loop-k-preserved c = λ n i owned l lt less b. walk_turns n _ (i + 1) owned l lt (omega arith) (omega arith) c.own_of.ensures (c.loop-k.invariant n i owned l lt less b) refl c.turn_slot.ensures c.if-not-turn_slot.false
+loop-k-preserved c = (λ lt. c.own.ensures.known, λ i stands less b. walk_turns _ _ (i + 1) (its_limits stands.0) stands.1 (omega arith) (omega arith) c.own.ensures.is (c.loop-k.invariant.1 i stands less b) refl c.turn_slot.ensures c.if-not-turn_slot.false)
 
 pub returns : goal.returns
-returns c = λ s n i p lt less b. let owned = p.owned in let l = its_limits p in let formed = its_form p in walk_ends n _ (i + 1) formed lt less (omega arith) (c.loop-k.invariant n i owned l lt less b)
+returns c = λ i less b. let stands = c.loop-k.invariant.0 (omega arith) in walk_ends _ _ (i + 1) (its_form stands.0) stands.1 less (omega arith) (c.loop-k.invariant.1 i stands less b)

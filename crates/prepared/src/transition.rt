@@ -1,0 +1,83 @@
+// A transition of a net file that was read and accepted, with its table. That it is one lies in the type.
+ghost use Rattle.std.specs.Prelude.{◌≡◌, ◌<◌, length, get_or, MatchOption};
+
+use crate::drawing::Drawing;
+use plan::{guard_of, own_of};
+use std::marker::Model;
+
+// A file, its table, and a transition's number in it.
+#[derive(Drop)]
+pub struct Transition<'a> {
+    pub(crate) file: &'a [u8],
+    pub(crate) plan: &'a [u32; 3584],
+    pub(crate) number: usize,
+}
+
+impl<'a> Model for Transition<'a> {
+    ghost use Rattle.prepared.specs.internal.Drawn.{DrawnTransition, drawn, drawn_transition, IsInside};
+
+    ghost Value = { DrawnTransition };
+
+    ghost view = { λ t. drawn_transition (drawn t.file.now t.plan.now) t.number };
+
+    ghost invariant = { λ t. IsInside t.file.now t.plan.now t.number };
+}
+
+impl<'a> Transition<'a> {
+    ghost use Rattle.net.specs.Net.{transition_at};
+    ghost use Rattle.plan.specs.internal.Layout.{guards_in};
+    ghost use Rattle.prepared.specs.internal.Drawn.{its_net, IsDrawn, Stands};
+    ghost use Rattle.prepared.specs.internal.TransitionVariables.{own_of};
+
+    // Its number in its net.
+    pub fn number(&self) -> usize
+        ensures is { result ≡ self.now.number }
+        ensures inside { result < length (its_net self.now).transitions }
+        ensures small { result < 32 }
+    {
+        self.number
+    }
+
+    // Its net's file.
+    pub fn file(&self) -> &'a [u8]
+        ensures is { result.now ≡ self.now.drawing.file }
+        ensures known { IsDrawn self.now.drawing.file self.now.drawing.plan }
+    {
+        self.file
+    }
+
+    // Its net's table.
+    pub fn plan(&self) -> &'a [u32; 3584]
+        ensures is { result.now ≡ self.now.drawing.plan }
+        ensures known { IsDrawn self.now.drawing.file self.now.drawing.plan }
+    {
+        self.plan
+    }
+
+    // Its net's file and table.
+    pub fn drawing(&self) -> Drawing<'a>
+        ensures { result ≡ self.now.drawing }
+    {
+        Drawing {
+            file: self.file,
+            plan: self.plan,
+        }
+    }
+
+    // Where its guard stands in the file, if it has one.
+    pub fn guard(&self) -> Option<usize>
+        ensures is { MatchOption result (get_or (guards_in self.now.drawing.plan) self.now.number 0 ≡ 0) (λ place. (0 < place) × (place ≡ get_or (guards_in self.now.drawing.plan) self.now.number 0)) }
+        ensures known { Stands self.now }
+    {
+        guard_of(self.plan, self.number)
+    }
+
+    // Its own variable number k with the size of its set, by rising number; 0 past the last.
+    pub fn own(&self, k: usize) -> u64
+        requires { k < 4 }
+        ensures is { result ≡ get_or (own_of (its_net self.now) (transition_at (its_net self.now) self.now.number)) k 0 }
+        ensures known { Stands self.now }
+    {
+        own_of(self.plan, self.number, k)
+    }
+}
