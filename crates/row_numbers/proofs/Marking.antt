@@ -21,10 +21,9 @@ use Rattle.reading.proofs.Clash.{clash}
 use Rattle.prepared.specs.internal.Prepared.{Prepared}
 use Rattle.prepared.proofs.Known.{its_limits}
 use Rattle.bindings.specs.internal.Legal.{every_row}
-use Rattle.net_transitions.proofs.Spaces.{count_next, count_takes}
-use Rattle.row_numbers.specs.internal.Walked.{takes_effect, entries}
-use Rattle.row_numbers.specs.internal.Marks.{mark_at, has_row, Blank, effects, BindingsMarked, Marked, RowsCounted}
-use Rattle.row_numbers.proofs.Tabled.{every_takes, number_small, entries_begin, entries_next, entries-rise, entries_few, entries-most, entries_without, entries_with}
+use Rattle.row_numbers.specs.internal.Walked.{takes_effect, effects, entries}
+use Rattle.row_numbers.specs.internal.Marks.{mark_at, has_row, Blank, BindingsMarked, Marked, RowsCounted}
+use Rattle.row_numbers.proofs.Tabled.{every_takes, effects-every, before_fit, entries_begin, entries_next, entries-rise, entries-most, entries_without, entries_with}
 
 -- ---- bits
 or_low : (a b : ℕ) → bit_or a b % 2 ≡ max (a % 2) (b % 2)
@@ -143,35 +142,6 @@ module _ (n : Net) (t : ℕ) where
     blank = λ j le lt. set j lt ∙ other (mark_at marks j) (takes_effect n t i) j (base + i) (λ e. omega arith) ∙ here.blank j (omega arith) lt;
   }
 
-  -- how many have an effect, with one more; no more than there are
-  pub effects_more : (i : ℕ) {count : ℕ} → true ≡ takes_effect n t i → count ≡ effects n t i → count + 1 ≡ effects n t (i + 1)
-  effects_more i h e = ap (λ c. c + 1) e ∙ sym (count_takes (takes_effect n t) i h)
-
-  pub effects-same : (i : ℕ) {count : ℕ} → false ≡ takes_effect n t i → count ≡ effects n t i → count ≡ effects n t (i + 1)
-  effects-same i h e = omega (arith, count_next (takes_effect n t) i, ap {B = ℕ} (λ b. if b then 1 else 0) (sym h))
-
-  pub effects_none : ◌≡◌ {A = ℕ} 0 (effects n t 0)
-  unfolding keep numbers_from
-  effects_none = refl
-
-  pub effects-most : (many : ℕ) → effects n t many ≤ many
-  effects-most zero = omega (arith, effects_none)
-  effects-most (suc i) = subst (λ k. effects n t k ≤ k) (add-one i) (go (takes_effect n t i) (count_next (takes_effect n t) i) (effects-most i))
-    where
-      go : (b : Bool) → effects n t (i + 1) ≡ effects n t i + (if b then 1 else 0) → effects n t i ≤ i → effects n t (i + 1) ≤ i + 1
-      go true e h = omega arith
-      go false e h = omega arith
-
-  -- all of them
-  effects_all : (many : ℕ) → ((i : ℕ) → i < many → true ≡ takes_effect n t i) → many ≡ effects n t many
-  effects_all zero h = effects_none
-  effects_all (suc i) h =
-      subst (λ k. k ≡ effects n t k) (add-one i) (effects_more i (h i (omega arith)) (effects_all i (λ j lt. h j (omega arith))))
-
-  -- as where every binding has a row
-  pub effects-every : {s plan : List ℕ} → Prepared s n plan → t < length n.transitions → every_row plan t ≡ true → (many : ℕ) → many ≡ effects n t many
-  effects-every p less every many = effects_all many (λ i lt. every_takes p less every i)
-
 -- ---- one transition after another
 -- so many transitions are marked and counted, with so many marks
 pub record Reached (n : Net) (plan marks rows : List ℕ) (t base : ℕ) : Type 0 where
@@ -209,14 +179,14 @@ module _ (n : Net) (plan : List ℕ) where
             (λ less. was.marked.told u i less guarded inside)
             (eq-or-lt_of_le (let le : u ≤ t = omega arith in le));
       };
-      counted = counted_more was.counted room (effects-every n t p less without many ∙ ap (effects n t) is);
+      counted = counted_more was.counted room (effects-every p less without many ∙ ap (effects n t) is);
       blank = was.blank;
     }
 
     -- one more with marks
-    pub reach_goes : {after : List ℕ} {count : ℕ} → every_row plan t ≡ false → (count ≡ effects n t many) × BindingsMarked n t marks after base many
+    pub reach_goes : {after : List ℕ} {count : ℕ} → every_row plan t ≡ false → count ≡ effects n t many → BindingsMarked n t marks after base many
         → Reached n plan after (set rows t count) (t + 1) (base + many)
-    reach_goes {after} guarded (counts, marking) = record {
+    reach_goes {after} guarded counts marking = record {
       used = omega (arith, was.used, entries_next n plan t, entries_with (every_row plan t) (product (sizes_of n (transition_at n t))) guarded);
       marked = record {
         told = λ u i lt g inside. ⊎_elim
@@ -245,16 +215,7 @@ module _ {s plan : List ℕ} {n : Net} (p : Prepared s n plan) {t many base : �
     (is : many ≡ product (sizes_of n (transition_at n t))) (from : base ≡ entries n plan t) where
   -- its bindings stand below 65,536
   pub marks_few : base + many ≤ 65536
-  marks_few = go (ltb 0 many) refl
-    where
-      go : (b : Bool) → ltb 0 many ≡ b → base + many ≤ 65536
-      go true e =
-          let h = ltb-true 0 many e in
-          omega (arith, number_small n t (many - 1) (its_limits p) lt (omega arith), entries-most n plan t (omega arith))
-      go false e =
-          let h = ltb-false 0 many e in
-          let k : length n.transitions ≡ t + (length n.transitions - t) = omega arith in
-          omega (arith, entries_few p, rw (← k) at (entries-rise n plan t (length n.transitions - t)))
+  marks_few = omega (arith, entries-most n plan t (omega arith), before_fit n t (its_limits p) lt)
 
   -- what they tell
   pub marks_told : {marks : List ℕ} → Marked n plan marks (length n.transitions) → (i : ℕ) → i < many → has_row (every_row plan t) marks (base + i) ≡ takes_effect n t i

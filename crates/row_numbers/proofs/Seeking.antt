@@ -1,55 +1,53 @@
 -- The search for the binding of a row. Assumes nothing.
-use Rattle.std.specs.Prelude.{◌+◌, Result, Ok, Err}
-use mathlib.Core.Path.{◌≡◌, ap, ◌∙◌, subst}
+use Rattle.std.specs.Prelude.{◌+◌, if◌then◌else◌, Result, Ok, Err}
+use mathlib.Core.Path.{◌≡◌, refl, ap, ◌∙◌, subst}
 use Prim.Native.Nat.{◌≤◌, ◌<◌, ◌-◌}
 use native.Mathlib.Omega.{arith}
-use Rattle.reading.specs.Basics.{ℕ, true, List, none, some, length, product}
+use Rattle.reading.specs.Basics.{ℕ, Bool, true, false, none, some, length, product}
 use Rattle.net.specs.Net.{Net, sizes_of, transition_at}
+use Rattle.prepared.specs.internal.Drawn.{DrawnTransition, its_net}
 use Rattle.bindings.specs.Effect.{bindings}
-use Rattle.prepared.specs.internal.Prepared.{Prepared}
-use Rattle.prepared.proofs.Known.{its_limits}
-use Rattle.bindings.specs.internal.Legal.{every_row}
 use Rattle.bindings.specs.internal.Numbers.{before}
+use Rattle.bindings.specs.internal.Bindings.{its_sizes}
 use Rattle.bindings.proofs.Digits.{bindings_at, before_all}
 use Rattle.row_numbers.specs.Unfolding.{order_of_row}
-use Rattle.row_numbers.specs.internal.Walked.{passed, order_at, SoughtTold, SoughtRoom}
-use Rattle.row_numbers.proofs.Walking.{passed_all, order_here, order_past}
-use Rattle.row_numbers.proofs.Tabled.{every_takes, count_passes, row_each}
+use Rattle.row_numbers.specs.internal.Walked.{passed, takes_effect, effects, it_takes, its_effects, order_at, SoughtTold}
+use Rattle.row_numbers.proofs.Walking.{passed_all, order_here, order_past, effect_passes}
+use Rattle.row_numbers.proofs.Effects.{passed_here}
+use Rattle.row_numbers.proofs.Tabled.{passed_then}
 
-module _ (n : Net) (t i : ℕ) (lt : t < length n.transitions) (inside : i < product (sizes_of n (transition_at n t))) where
-  -- the row is that of binding number i
-  pub sought_here : {row count next : ℕ} → count ≡ passed n (before n t + i) → next ≡ passed n (before n t + i + 1) → count ≤ row → row < next
-      → order_of_row n row ≡ some (order_at n t i)
-  sought_here {row} is more le less = order_here n (before n t + i) (bindings_at n t i lt inside) row (omega arith) (omega arith)
-
--- a transition of which every binding has a row
-module _ {s plan : List ℕ} {n : Net} {t : ℕ} (p : Prepared s n plan) (lt : t < length n.transitions) (every : every_row plan t ≡ true) where
-  -- the row is that of the binding as many after its first as the row after its first row
-  pub sought_follows : (row : ℕ) {count size : ℕ} → count ≡ passed n (before n t) → size ≡ product (sizes_of n (transition_at n t)) → count ≤ row → row - count < size
-      → order_of_row n row ≡ some (order_at n t (row - count))
-  sought_follows row {count} is size_is le less =
-      let i : ℕ = row - count in
-      let inside : i < product (sizes_of n (transition_at n t)) = omega arith in
-      let at = row_each p lt every i (omega arith) in
-      let more = count_passes n t i (its_limits p) lt inside (every_takes p lt every i) at in
-      order_here n (before n t + i) (bindings_at n t i lt inside) row (omega arith) (omega arith)
-
-  -- the rows with all of its bindings
-  pub sought_past : {count size : ℕ} → count ≡ passed n (before n t) → size ≡ product (sizes_of n (transition_at n t)) → count + size ≡ passed n (before n t + size)
-  sought_past {count} {size} is size_is = rw is (row_each p lt every size (omega arith))
+-- the row that comes after so many is that of the binding with which it is passed
+pub sought_here : (n : Net) (t i : ℕ) {row count one : ℕ} → count ≡ effects n t i → one ≡ (if takes_effect n t i then 1 else 0) → count ≤ row → row < count + one
+    → (takes_effect n t i ≡ true) × (row ≡ effects n t i)
+sought_here n t i {row} {count} {one} is takes le less = go (takes_effect n t i) takes
+  where
+    go : (b : Bool) → one ≡ (if b then 1 else 0) → (b ≡ true) × (row ≡ effects n t i)
+    go true e = (cc, omega arith)
+    go false e = absurd (omega arith)
 
 -- what a transition's search told
-pub the_index : (n : Net) (t size row : ℕ) {index : ℕ} {r : Result ℕ ℕ} → r ≡ Ok index → SoughtTold n t size row r → order_of_row n row ≡ some (order_at n t index)
-the_index n t size row e h = subst (SoughtTold n t size row) e h
+pub the_index : (t : DrawnTransition) (row : ℕ) {index : ℕ} {r : Result ℕ ℕ} → r ≡ Ok index → SoughtTold t row r
+    → (index < product (its_sizes t)) × (it_takes t index ≡ true) × (row ≡ its_effects t index)
+the_index t row e h = subst (SoughtTold t row) e h
 
-pub the_count : (n : Net) (t size row : ℕ) {count : ℕ} {r : Result ℕ ℕ} → r ≡ Err count → SoughtTold n t size row r → count ≡ passed n (before n t + size)
-the_count n t size row e h = subst (SoughtTold n t size row) e h
+pub the_rows : (t : DrawnTransition) (row : ℕ) {rows : ℕ} {r : Result ℕ ℕ} → r ≡ Err rows → SoughtTold t row r → (rows ≤ row) × (rows ≡ its_effects t (product (its_sizes t)))
+the_rows t row e h = subst (SoughtTold t row) e h
 
-pub the_room : (size row count : ℕ) {more : ℕ} {r : Result ℕ ℕ} → r ≡ Err more → SoughtRoom size row count r → (more ≤ count + size) × (more ≤ row)
-the_room size row count e h = subst (SoughtRoom size row count) e h
+module _ (n : Net) (row : ℕ) {t left : ℕ} (is : row ≡ left + passed n (before n t)) where
+  -- the row is that of a transition's binding
+  pub seek_found : t < length n.transitions → {i : ℕ} → i < product (sizes_of n (transition_at n t)) → takes_effect n t i ≡ true → left ≡ effects n t i
+      → order_of_row n row ≡ some (order_at n t i)
+  seek_found lt {i} inside takes e =
+      let here = bindings_at n t i lt inside in
+      let h : passed n (before n t + i) ≡ row = omega (arith, passed_here n t lt i (omega arith)) in
+      order_here n (before n t + i) here row (omega arith) (omega (arith, effect_passes n (before n t + i) here takes))
 
--- the row is not among those of all transitions
-pub seek_ends : (n : Net) (row t : ℕ) {count : ℕ} → count ≡ passed n (before n t) → count ≤ row → t ≡ length n.transitions → order_of_row n row ≡ none
-seek_ends n row t is least e =
+  -- it comes after all of a transition's rows
+  pub seek_next : t < length n.transitions → {rows : ℕ} → rows ≤ left → rows ≡ effects n t (product (sizes_of n (transition_at n t))) → row ≡ left - rows + passed n (before n (t + 1))
+  seek_next lt le e = omega (arith, passed_then n lt refl e)
+
+-- it is not among those of all transitions
+pub seek_ends : (n : Net) (row t left : ℕ) → row ≡ left + passed n (before n t) → t ≡ length n.transitions → order_of_row n row ≡ none
+seek_ends n row t left is e =
     let all : before n t ≡ length (bindings n) = ap (before n) e ∙ before_all n in
     order_past n row (omega (arith, passed_all n (before n t) (omega arith)))

@@ -1,5 +1,5 @@
 -- The table of row numbers and the starts of transitions, as the walk fills them. Assumes nothing.
-use Rattle.std.specs.Prelude.{◌+◌}
+use Rattle.std.specs.Prelude.{◌+◌, if◌then◌else◌}
 use mathlib.Core.Path.{◌≡◌, refl, sym, ap, ◌∙◌, subst}
 use mathlib.Core.Logic.{⊎_elim}
 use Prim.Native.Nat.{◌≤◌, ◌<◌, ◌-◌}
@@ -25,8 +25,9 @@ use Rattle.bindings.specs.internal.Numbers.{digits, before}
 use Rattle.bindings.proofs.Bindings.{bindings-length}
 use Rattle.bindings.proofs.Digits.{bindings_at, before_next, before_all}
 use Rattle.row_numbers.specs.Unfolding.{row_number}
-use Rattle.row_numbers.specs.internal.Walked.{passed, takes_effect, entries_at, entries, Numbers, Follows, Starts}
+use Rattle.row_numbers.specs.internal.Walked.{passed, takes_effect, effects, order_at, entries_at, entries, Numbers, NumbersFrom, Follows, Starts}
 use Rattle.row_numbers.proofs.Walking.{passed_none, passed-most, effect_passes, effect_fails, number_passes, number_fails}
+use Rattle.row_numbers.proofs.Effects.{effects_all, effects-most, passed_here}
 use Rattle.bindings.proofs.Legal.{legal-told, every-legal}
 
 -- ---- transitions by their count in the table
@@ -46,95 +47,83 @@ effect-told n t i e = e ∙ legal-told n (numbered n t i) refl
 pub every_takes : {s plan : List ℕ} {n : Net} {t : ℕ} → Prepared s n plan → t < length n.transitions → every_row plan t ≡ true → (i : ℕ) → true ≡ takes_effect n t i
 every_takes {n = n} {t = t} p lt e i = effect-told n t i (sym (every-legal p lt (digits (sizes_of n (transition_at n t)) i) e))
 
--- ---- one binding
-module _ (n : Net) (t i : ℕ) (limits : Limits n) (lt : t < length n.transitions) (inside : i < product (sizes_of n (transition_at n t))) where
-  -- it stands at a place of the list
-  abbrev it : Binding
-  it = numbered n t i
+-- so as many have one as there are
+pub effects-every : {s plan : List ℕ} {n : Net} {t : ℕ} → Prepared s n plan → t < length n.transitions → every_row plan t ≡ true → (many : ℕ) → many ≡ effects n t many
+effects-every {n = n} {t = t} p lt every many = effects_all n t many (λ i less. every_takes p lt every i)
 
-  here : get_elem? (bindings n) (before n t + i) ≡ some it
-  here = bindings_at n t i lt inside
+-- ---- the bindings before a transition's
+before-rise : (n : Net) (t k : ℕ) → t + k ≤ length n.transitions → before n t ≤ before n (t + k)
+before-rise n t zero le = rw add-zero (omega arith)
+before-rise n t (suc k) le = let e : t + suc k ≡ t + k + 1 = omega arith in rw e (omega (arith, before-rise n t k (omega arith), before_next n (t + k) (omega arith)))
 
-  -- the rows with it
-  pub count_passes : {count : ℕ} → true ≡ takes_effect n t i → count ≡ passed n (before n t + i) → count + 1 ≡ passed n (before n t + i + 1)
-  count_passes e is = ap (λ c. c + 1) is ∙ sym (effect_passes n (before n t + i) here (sym e))
+-- at most 65,536
+before_few : (n : Net) (t : ℕ) → Limits n → t ≤ length n.transitions → before n t ≤ 65536
+before_few n t limits le =
+    let e : t + (length n.transitions - t) ≡ length n.transitions = omega arith in
+    omega (arith, rw e at (before-rise n t (length n.transitions - t) (omega arith)), before_all n, bindings-length n, limits.space)
 
-  pub count_fails : {count : ℕ} → false ≡ takes_effect n t i → count ≡ passed n (before n t + i) → count ≡ passed n (before n t + i + 1)
-  count_fails e is = is ∙ sym (effect_fails n (before n t + i) here (sym e))
-
-  -- it stands below 65,536
-  pub number_small : before n t + i < 65536
-  number_small = omega (arith, below_at (bindings n) (before n t + i) here, bindings-length n, limits.space)
-
-  -- its number
-  number_is : {count next x : ℕ} → count ≡ passed n (before n t + i) → next ≡ passed n (before n t + i + 1) → (count < next → count < 65536 → x ≡ count)
-      → (next ≤ count → x ≡ 4294967295) → x ≡ row_number n (order_of it)
-  number_is {count} {next} {x} is more row none = go (ltb count next) refl
-    where
-      go : (b : Bool) → ltb count next ≡ b → x ≡ row_number n (order_of it)
-      go true e =
-          let h : count < next = ltb-true count next e in
-          row h (omega (arith, passed-most n (before n t + i), number_small)) ∙ is ∙ number_passes n (before n t + i) here limits (omega arith)
-      go false e = let h = ltb-false count next e in none (omega arith) ∙ number_fails n (before n t + i) here limits (omega arith)
-
-  -- stored
-  pub number_stored : {numbers : List ℕ} {base count next x : ℕ} → count ≡ passed n (before n t + i) → next ≡ passed n (before n t + i + 1)
-      → (count < next → count < 65536 → x ≡ count) → (next ≤ count → x ≡ 4294967295) → base + i < length numbers
-      → Numbers n t numbers base i → Numbers n t (set numbers (base + i) x) base (i + 1)
-  number_stored {numbers} {base} {count} {next} {x} is more row none room held = record {
-    number = λ j below. ⊎_elim
-        (λ e. rw e (get_or-set_same numbers (base + i) x 0 room ∙ number_is is more row none))
-        (λ less. get_or-set_other numbers (base + i) (base + j) x 0 (λ e. omega arith) ∙ held.number j less)
-        (eq-or-lt_of_le (let le : j ≤ i = omega arith in le));
-  }
-
--- with the one after it
-pub passed_next : (n : Net) (t i : ℕ) {next : ℕ} → next ≡ passed n (before n t + i + 1) → next ≡ passed n (before n t + (i + 1))
-passed_next n t i e = let q : before n t + i + 1 ≡ before n t + (i + 1) = omega arith in e ∙ ap (passed n) q
+-- with its own too
+pub before_fit : (n : Net) (t : ℕ) → Limits n → t < length n.transitions → before n t + product (sizes_of n (transition_at n t)) ≤ 65536
+before_fit n t limits lt = omega (arith, before_next n t lt, before_few n (t + 1) limits (omega arith))
 
 -- with all of them: those before the next transition
-pub passed_then : (n : Net) {t size total : ℕ} → t < length n.transitions → size ≡ product (sizes_of n (transition_at n t)) → total ≡ passed n (before n t + size)
-    → total ≡ passed n (before n (t + 1))
-passed_then n {t} {size} lt is e = let q : before n t + size ≡ before n (t + 1) = omega (arith, before_next n t lt) in e ∙ ap (passed n) q
+pub passed_then : (n : Net) {t size rows : ℕ} → t < length n.transitions → size ≡ product (sizes_of n (transition_at n t)) → rows ≡ effects n t size
+    → passed n (before n t) + rows ≡ passed n (before n (t + 1))
+passed_then n {t} {size} lt is e =
+    let q : before n t + size ≡ before n (t + 1) = omega (arith, before_next n t lt) in
+    let h : passed n (before n t + size) ≡ passed n (before n t) + effects n t size = passed_here n t lt size (omega arith) in
+    omega (arith, ap (passed n) q)
 
 -- ---- a transition with entries
 -- no binding yet
-pub number_none : (n : Net) (t : ℕ) (numbers : List ℕ) (base : ℕ) → Numbers n t numbers base 0
-number_none n t numbers base = record { number = λ j lt. absurd (omega arith) }
+pub number_none : (n : Net) (t : ℕ) (numbers : List ℕ) (base count : ℕ) → NumbersFrom n t numbers base count 0
+number_none n t numbers base count = record { number = λ j lt. absurd (omega arith) }
 
 -- one binding more, in the table from base on
-pub number_turn : (n : Net) (t : ℕ) → Limits n → t < length n.transitions → {size base i count next x : ℕ} {numbers after : List ℕ} → i < size
-    → size ≡ product (sizes_of n (transition_at n t)) → base + size ≤ length numbers → (count ≡ passed n (before n t + i)) × Numbers n t numbers base i
-    → (i < product (sizes_of n (transition_at n t)) → count ≡ passed n (before n t + i) → next ≡ passed n (before n t + i + 1))
-    → (count < next → count < 65536 → x ≡ count) → (next ≤ count → x ≡ 4294967295) → after ≡ set numbers (base + i) x
-    → (next ≡ passed n (before n t + (i + 1))) × Numbers n t after base (i + 1)
-number_turn n t limits lt {i = i} less is room here more row none e =
-    let inside : i < product (sizes_of n (transition_at n t)) = omega arith in
-    let with_it = more inside here.0 in
-    (passed_next n t i with_it, rw e (number_stored n t i limits lt inside here.0 with_it row none (omega arith) here.1))
+pub number_turn : (n : Net) (t : ℕ) {base i count total one x : ℕ} {numbers after : List ℕ} → base + i < length numbers → total ≡ count + effects n t i
+    → one ≡ (if takes_effect n t i then 1 else 0) → (total < total + one → x ≡ total) → (total + one ≤ total → x ≡ 4294967295) → after ≡ set numbers (base + i) x
+    → NumbersFrom n t numbers base count i → NumbersFrom n t after base count (i + 1)
+number_turn n t {base} {i} {count} {total} {one} {x} {numbers} {after} room is takes row none e was = rw e (record {
+  number = λ j less. ⊎_elim
+      (λ q. rw q (get_or-set_same numbers (base + i) x 0 room ∙ go (takes_effect n t i) takes))
+      (λ lower. get_or-set_other numbers (base + i) (base + j) x 0 (λ q. omega arith) ∙ was.number j lower)
+      (eq-or-lt_of_le (let le : j ≤ i = omega arith in le));
+})
+  where
+    go : (b : Bool) → one ≡ (if b then 1 else 0) → x ≡ (if b then count + effects n t i else 4294967295)
+    go true e = row (omega arith) ∙ is
+    go false e = none (omega arith)
 
 -- what stands before base stays
 pub same-below : (numbers : List ℕ) {after : List ℕ} (base i j x : ℕ) → after ≡ set numbers (base + i) x → j < base → get_or after j 0 ≡ get_or numbers j 0
 same-below numbers base i j x e lt = rw e (get_or-set_other numbers (base + i) j x 0 (λ q. omega arith))
 
--- ---- a transition of which every binding has a row
-module _ {s plan : List ℕ} {n : Net} {t : ℕ} (p : Prepared s n plan) (lt : t < length n.transitions) (every : every_row plan t ≡ true) where
-  -- each of its bindings has a row
-  pub row_each : (i : ℕ) → i ≤ product (sizes_of n (transition_at n t)) → passed n (before n t) + i ≡ passed n (before n t + i)
-  row_each zero le = let e : before n t ≡ before n t + 0 = omega arith in add-zero (passed n (before n t)) ∙ ap (passed n) e
-  row_each (suc i) le =
-      let h = count_passes n t i (its_limits p) lt (omega arith) (every_takes p lt every i) (row_each i (omega arith)) in
-      let e : passed n (before n t) + (i + 1) ≡ passed n (before n t) + i + 1 = omega arith in
-      rw (← add-one i) (e ∙ passed_next n t i h)
+-- numbers by counting are row numbers
+pub numbers_are : (n : Net) (t : ℕ) → Limits n → t < length n.transitions → {numbers : List ℕ} {base count : ℕ} → count ≡ passed n (before n t)
+    → NumbersFrom n t numbers base count (product (sizes_of n (transition_at n t))) → Numbers n t numbers base (product (sizes_of n (transition_at n t)))
+numbers_are n t limits lt {count = count} is held = record {
+  number = λ i inside. held.number i inside ∙ go i inside (takes_effect n t i) refl;
+}
+  where
+    go : (i : ℕ) → i < product (sizes_of n (transition_at n t)) → (b : Bool) → takes_effect n t i ≡ b → (if b then count + effects n t i else 4294967295) ≡ row_number n (order_at n t i)
+    go i inside true e =
+        let here = bindings_at n t i lt inside in
+        let rows : count + effects n t i ≡ passed n (before n t + i) = omega (arith, passed_here n t lt i (omega arith)) in
+        rows ∙ number_passes n (before n t + i) here limits (omega (arith, effect_passes n (before n t + i) here e))
+    go i inside false e =
+        let here = bindings_at n t i lt inside in
+        number_fails n (before n t + i) here limits (omega (arith, effect_fails n (before n t + i) here e))
 
-  -- so its rows follow each other
-  pub follows : Follows n t (passed n (before n t)) (product (sizes_of n (transition_at n t)))
-  follows = record {
-    number = λ i inside.
-        let more = count_passes n t i (its_limits p) lt inside (every_takes p lt every i) refl in
-        row_each i (omega arith) ∙ number_passes n (before n t + i) (here n t i (its_limits p) lt inside) (its_limits p) (omega arith);
-    few = λ i inside. omega (arith, row_each i (omega arith), passed-most n (before n t + i), number_small n t i (its_limits p) lt inside);
-  }
+-- ---- a transition of which every binding has a row
+-- its rows follow each other
+pub follows : {s plan : List ℕ} {n : Net} {t : ℕ} → Prepared s n plan → t < length n.transitions → every_row plan t ≡ true → Follows n t (passed n (before n t)) (product (sizes_of n (transition_at n t)))
+follows {n = n} {t = t} p lt every = record {
+  number = λ i inside.
+      let here = bindings_at n t i lt inside in
+      let rows : passed n (before n t) + i ≡ passed n (before n t + i) = omega (arith, passed_here n t lt i (omega arith), effects-every p lt every i) in
+      rows ∙ number_passes n (before n t + i) here (its_limits p) (omega (arith, effect_passes n (before n t + i) here (sym (every_takes p lt every i))));
+  few = λ i inside. omega (arith, passed_here n t lt i (omega arith), effects-every p lt every i, passed-most n (before n t + i), before_fit n t (its_limits p) lt);
+}
 
 -- ---- entries
 at_most : (every : Bool) (size : ℕ) → entries_at every size ≤ size
@@ -170,8 +159,7 @@ module _ (n : Net) (plan : List ℕ) where
 
 -- so 65,536 are enough
 pub entries_few : {s plan : List ℕ} {n : Net} → Prepared s n plan → entries n plan (length n.transitions) ≤ 65536
-entries_few {plan = plan} {n = n} p =
-    omega (arith, entries-most n plan (length n.transitions) (omega arith), before_all n, bindings-length n, (its_limits p).space)
+entries_few {plan = plan} {n = n} p = omega (arith, entries-most n plan (length n.transitions) (omega arith), before_few n (length n.transitions) (its_limits p) (omega arith))
 
 -- ---- one transition after another
 -- so many transitions are numbered, with so many entries and rows
@@ -220,7 +208,7 @@ module _ (n : Net) (plan : List ℕ) where
       → t < length starts → Prepared s n plan → t < length n.transitions → every_row plan t ≡ true
       → size ≡ product (sizes_of n (transition_at n t)) → Numbered n plan (set starts t count) numbers (t + 1) base (count + size)
   number_follows {numbers = numbers} {t = t} {base = base} {count = count} {size = size} was room p lt every is = record {
-    rows = passed_then n lt is (rw (was.rows, is) (row_each p lt every (product (sizes_of n (transition_at n t))) (omega arith)));
+    rows = rw was.rows (passed_then n lt is (effects-every p lt every size));
     used = omega (arith, was.used, entries_next n plan t, entries_without (every_row plan t) (product (sizes_of n (transition_at n t))) every);
     told = starts_more count was room numbers (λ j less. refl) (λ h. rw was.rows (follows p lt every)) (λ h. clash refl every h);
     below = below_more count was room base (omega arith) (λ h. clash refl every h);
@@ -228,12 +216,12 @@ module _ (n : Net) (plan : List ℕ) where
 
   -- one more with entries
   pub number_goes : {starts numbers after : List ℕ} {t base count size total : ℕ} → Numbered n plan starts numbers t base count → t < length n.transitions
-      → t < length starts → every_row plan t ≡ false → size ≡ product (sizes_of n (transition_at n t)) → (total ≡ passed n (before n t + size)) × Numbers n t after base size
+      → t < length starts → every_row plan t ≡ false → size ≡ product (sizes_of n (transition_at n t)) → total ≡ count + effects n t size → Numbers n t after base size
       → ((j : ℕ) → j < base → get_or after j 0 ≡ get_or numbers j 0) → Numbered n plan (set starts t base) after (t + 1) (base + size) total
-  number_goes {after = after} {t = t} {base = base} {size = size} was lt room guarded is told same = record {
-    rows = passed_then n lt is told.0;
+  number_goes {after = after} {t = t} {base = base} {size = size} was lt room guarded is total held same = record {
+    rows = total ∙ rw was.rows (passed_then n lt is refl);
     used = omega (arith, was.used, entries_next n plan t, entries_with (every_row plan t) (product (sizes_of n (transition_at n t))) guarded);
-    told = starts_more base was room after same (λ h. clash refl h guarded) (λ h. rw (← is) told.1);
+    told = starts_more base was room after same (λ h. clash refl h guarded) (λ h. rw (← is) held);
     below = below_more base was room (base + size) (omega arith) (λ h. omega arith);
   }
 

@@ -1,15 +1,13 @@
 // Marks: a bit for each binding of a transition whose bindings do not all have rows, one after the other in words of 32.
 ghost use Rattle.std.specs.Prelude.{◌≡◌, true, false, ◌||◌, ◌&&◌, ℕ, ◌+◌, ◌≤◌, ◌<◌, length, eqb};
 ghost use Rattle.reading.specs.Basics.{product};
-ghost use Rattle.net.specs.Net.{Net, sizes_of, transition_at};
-ghost use Rattle.prepared.specs.internal.Prepared.{Prepared};
-ghost use Rattle.bindings.specs.internal.Bindings.{Binds, numbered};
-ghost use Rattle.bindings.specs.internal.Legal.{every_row};
-ghost use Rattle.row_numbers.specs.internal.Walked.{takes_effect};
-ghost use Rattle.row_numbers.specs.internal.Marks.{mark_at, has_row, Blank, effects, BindingsMarked, Marked, RowsCounted};
+ghost use Rattle.prepared.specs.internal.Drawn.{net_of, its_net};
+ghost use Rattle.bindings.specs.internal.Bindings.{its_sizes, BindsIts};
+ghost use Rattle.row_numbers.specs.internal.Walked.{its_every_row, it_takes, its_effects};
+ghost use Rattle.row_numbers.specs.internal.Marks.{mark_at, has_row, Blank, BindingsMarked, Marked, RowsCounted};
 
 use bindings::{every_binding_has_row, has_effect, next_binding, space_of};
-use plan::transitions_of;
+use prepared::{Drawing, Transition};
 use reading::element;
 
 // Sets a mark; past the end it sets none.
@@ -29,40 +27,30 @@ fn mark_at(marks: &[u32; 2048], k: usize) -> bool
 }
 
 // Whether a binding has a row: where every binding has one it has, else its mark tells.
-pub fn has_row(plan: &[u32; 3584], t: usize, marks: &[u32; 2048], k: usize) -> bool
-    requires { t < 32 }
-    ensures { k < 65536 → result ≡ has_row (every_row plan.now t) marks.now k }
+pub fn has_row(transition: &Transition, marks: &[u32; 2048], k: usize) -> bool
+    ensures { k < 65536 → result ≡ has_row (its_every_row transition.now) marks.now k }
 {
-    every_binding_has_row(plan, t) || mark_at(marks, k)
+    every_binding_has_row(transition) || mark_at(marks, k)
 }
 
 // Whether the transition's bindings have marks, so many are left, at least 32, and none of the next 32 has a row: their marks are one word, from number k on.
-pub fn has_none(plan: &[u32; 3584], t: usize, marks: &[u32; 2048], k: usize, left: usize) -> bool
-    requires { t < 32 }
-    ensures { result ≡ true → (every_row plan.now t ≡ false) × (32 ≤ left) × ((j : ℕ) → j < 32 → mark_at marks.now (k + j) ≡ false) }
+pub fn has_none(transition: &Transition, marks: &[u32; 2048], k: usize, left: usize) -> bool
+    ensures { result ≡ true → (its_every_row transition.now ≡ false) × (32 ≤ left)
+        × ((j : ℕ) → j < 32 → mark_at marks.now (k + j) ≡ false) }
 {
-    if every_binding_has_row(plan, t) || left < 32 || 0 < k % 32 {
+    if every_binding_has_row(transition) || left < 32 || 0 < k % 32 {
         return false;
     }
     element(marks, k / 32, 1) == 0
 }
 
 // Sets the mark of a binding, if it has an effect: whether it has one.
-fn mark_one(
-    file: &[u8],
-    plan: &[u32; 3584],
-    env: &[u8; 32],
-    t: usize,
-    k: usize,
-    marks: &mut [u32; 2048],
-) -> bool
-    requires { t < 32 }
-    ensures { (n : Net) (i : ℕ) → Prepared file.now n plan.now → t < length n.transitions
-        → Binds n (numbered n t i) env.now
-        → (result ≡ takes_effect n t i)
-        × ((j : ℕ) → j < 65536 → mark_at marks.new j ≡ (mark_at marks.old j || (eqb j k && takes_effect n t i))) }
+fn mark_one(transition: &Transition, env: &[u8; 32], k: usize, marks: &mut [u32; 2048]) -> bool
+    ensures { (i : ℕ) → BindsIts transition.now i env.now
+        → (result ≡ it_takes transition.now i)
+        × ((j : ℕ) → j < 65536 → mark_at marks.new j ≡ (mark_at marks.old j || (eqb j k && it_takes transition.now i))) }
 {
-    let has_row = has_effect(file, plan, env, t);
+    let has_row = has_effect(transition, env);
     if has_row {
         set_mark(marks, k);
     }
@@ -70,43 +58,36 @@ fn mark_one(
 }
 
 // Sets the marks of the bindings of a transition, from base on: how many have an effect.
-fn mark_those(
-    file: &[u8],
-    plan: &[u32; 3584],
-    t: usize,
-    many: usize,
-    base: usize,
-    marks: &mut [u32; 2048],
-) -> usize
-    requires { (t < 32) × (many ≤ 4228250625) × (base ≤ 135304020000) }
-    ensures { (n : Net) → Prepared file.now n plan.now → t < length n.transitions
-        → many ≡ product (sizes_of n (transition_at n t)) → base + many ≤ 65536 → Blank marks.old base
-        → (result ≡ effects n t many) × BindingsMarked n t marks.old marks.new base many }
+fn mark_those(transition: &Transition, base: usize, marks: &mut [u32; 2048]) -> usize
+    requires { base + product (its_sizes transition.now) ≤ 65536 }
+    ensures { Blank marks.old base → (result ≡ its_effects transition.now (product (its_sizes transition.now)))
+        × BindingsMarked (its_net transition.now) transition.now.number marks.old marks.new base (product (its_sizes transition.now)) }
 {
     let mut env = [0u8; 32];
     let mut count: usize = 0;
-    for i in 0..many {
-        if mark_one(file, plan, &env, t, base + i, marks) {
+    for i in 0..space_of(transition) {
+        if mark_one(transition, &env, base + i, marks) {
             count += 1;
         }
-        next_binding(plan, t, &mut env);
+        next_binding(transition, &mut env);
     }
     count
 }
 
 // Sets the marks of all bindings that need one, and tells how many rows each transition has: where every binding has a row, as many as bindings.
-pub fn mark_all(file: &[u8], plan: &[u32; 3584], marks: &mut [u32; 2048], counts: &mut [usize; 32])
-    ensures { (n : Net) → Prepared file.now n plan.now → Blank marks.old 0
-        → Marked n plan.now marks.new (length n.transitions) × RowsCounted n counts.new (length n.transitions) }
+pub fn mark_all(drawing: &Drawing, marks: &mut [u32; 2048], counts: &mut [usize; 32])
+    ensures { Blank marks.old 0
+        → Marked (net_of drawing.now) drawing.now.plan marks.new (length (net_of drawing.now).transitions)
+        × RowsCounted (net_of drawing.now) counts.new (length (net_of drawing.now).transitions) }
 {
     let mut base: usize = 0;
-    for t in 0..transitions_of(plan) {
-        let many = space_of(plan, t);
-        if every_binding_has_row(plan, t) {
-            counts[t] = many;
+    for t in 0..drawing.transitions() {
+        let transition = drawing.transition(t);
+        if every_binding_has_row(&transition) {
+            counts[t] = space_of(&transition);
         } else {
-            counts[t] = mark_those(file, plan, t, many, base, marks);
-            base += many;
+            counts[t] = mark_those(&transition, base, marks);
+            base += space_of(&transition);
         }
     }
 }

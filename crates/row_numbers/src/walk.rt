@@ -1,116 +1,91 @@
 // The walk over all bindings in order, which gives each its row number.
-ghost use Rattle.std.specs.Prelude.{◌≡◌, ℕ, ◌≤◌, ◌<◌, ◌+◌, List, length, get_or};
+ghost use Rattle.std.specs.Prelude.{◌≡◌, ℕ, ◌≤◌, ◌<◌, ◌+◌, length, get_or, if◌then◌else◌};
 ghost use Rattle.reading.specs.Basics.{product};
-ghost use Rattle.net.specs.Net.{Net, sizes_of, transition_at};
-ghost use Rattle.prepared.specs.internal.Prepared.{Prepared};
-ghost use Rattle.bindings.specs.internal.Bindings.{Binds, numbered};
-ghost use Rattle.bindings.specs.internal.Legal.{every_row};
-ghost use Rattle.bindings.specs.internal.Numbers.{before};
-ghost use Rattle.row_numbers.specs.internal.Walked.{passed, entries_at, entries, Numbers, Starts};
+ghost use Rattle.prepared.specs.internal.Drawn.{net_of, its_net};
+ghost use Rattle.bindings.specs.internal.Bindings.{its_sizes, BindsIts};
+ghost use Rattle.row_numbers.specs.internal.Walked.{its_every_row, it_takes, its_effects, entries_at, entries, NumbersFrom, Starts};
 
 use bindings::{every_binding_has_row, has_effect, next_binding, space_of};
-use plan::transitions_of;
+use prepared::{Drawing, Transition};
 use reading::store;
 
-// How many rows there are with a binding, after so many.
-pub fn count_one(file: &[u8], plan: &[u32; 3584], env: &[u8; 32], t: usize, count: usize) -> usize
-    requires t_bound { t < 32 }
-    requires count_bound { count ≤ 1000000000000 }
-    ensures is { (n : Net) (i : ℕ) → Prepared file.now n plan.now → t < length n.transitions
-        → Binds n (numbered n t i) env.now → i < product (sizes_of n (transition_at n t)) → count ≡ passed n (before n t + i) → result ≡ passed n (before n t + i + 1) }
-    ensures low { count ≤ result }
-    ensures high { result ≤ count + 1 }
+// How many rows a binding has: one, if it has an effect.
+pub fn count_one(transition: &Transition, env: &[u8; 32]) -> usize
+    ensures is { (i : ℕ) → BindsIts transition.now i env.now
+        → result ≡ (if it_takes transition.now i then 1 else 0) }
+    ensures small { result ≤ 1 }
 {
-    if has_effect(file, plan, env, t) {
-        count + 1
-    } else {
-        count
-    }
+    usize::from(has_effect(transition, env))
 }
 
 // The number of a row that follows so many, or 4,294,967,295 where there is none.
 fn number_of(count: usize, next: usize) -> u32
-    ensures row { count < next → count < 65536 → result ≡ count }
+    requires { count < 65536 }
+    ensures row { count < next → result ≡ count }
     ensures none { next ≤ count → result ≡ 4294967295 }
 {
-    if count < next {
-        (count % 65536) as u32
-    } else {
-        u32::MAX
-    }
+    if count < next { count as u32 } else { u32::MAX }
 }
 
-// Numbers the bindings of a transition, in the table from base on; it tells how many rows there are with them.
-fn number_those(
-    file: &[u8],
-    plan: &[u32; 3584],
-    t: usize,
-    size: usize,
-    base: usize,
-    count: usize,
-    numbers: &mut [u32],
-) -> usize
-    requires t_bound { t < 32 }
-    requires size_bound { base + size ≤ 1000000000000 }
-    requires size_bound_2 { count + size ≤ 1000000000000 }
-    ensures is { (n : Net) → Prepared file.now n plan.now → t < length n.transitions
-        → size ≡ product (sizes_of n (transition_at n t)) → count ≡ passed n (before n t) → base + size ≤ length numbers.old
-        → (result ≡ passed n (before n t + size)) × Numbers n t numbers.new base size }
-    ensures high { result ≤ count + size }
+// Numbers the bindings of a transition after so many rows, in the table from base on: how many rows there are with them.
+fn number_those(transition: &Transition, base: usize, count: usize, numbers: &mut [u32]) -> usize
+    requires few { count + product (its_sizes transition.now) ≤ 65536 }
+    requires inside { base + product (its_sizes transition.now) ≤ 65536 }
+    ensures is { result ≡ count + its_effects transition.now (product (its_sizes transition.now)) }
+    ensures held { base + product (its_sizes transition.now) ≤ length numbers.old
+        → NumbersFrom (its_net transition.now) transition.now.number numbers.new base count (product (its_sizes transition.now)) }
     ensures same { (j : ℕ) → j < base → get_or numbers.new j 0 ≡ get_or numbers.old j 0 }
 {
     let mut env = [0u8; 32];
     let mut total = count;
-    for i in 0..size {
-        let next = count_one(file, plan, &env, t, total);
+    for i in 0..space_of(transition) {
+        let next = total + count_one(transition, &env);
         store(numbers, base + i, number_of(total, next));
         total = next;
-        next_binding(plan, t, &mut env);
+        next_binding(transition, &mut env);
     }
     total
 }
 
-// How many entries a transition with so many bindings has in the table: one for each, none where every binding has a row.
-pub fn entries_of(plan: &[u32; 3584], t: usize, size: usize) -> usize
-    requires { t < 32 }
-    ensures is { result ≡ entries_at (every_row plan.now t) size }
-    ensures small { result ≤ size }
+// How many entries a transition has in the table: one for each binding, none where every binding has a row.
+pub fn entries_of(transition: &Transition) -> usize
+    ensures is { result ≡ entries_at (its_every_row transition.now) (product (its_sizes transition.now)) }
+    ensures small { result ≤ 4228250625 }
 {
-    if every_binding_has_row(plan, t) {
+    if every_binding_has_row(transition) {
         0
     } else {
-        size
+        space_of(transition)
     }
 }
 
 // How many entries the table needs.
-pub fn count_entries(plan: &[u32; 3584]) -> usize
-    ensures { (file : List ℕ) (n : Net) → Prepared file n plan.now → result ≡ entries n plan.now (length n.transitions) }
+pub fn count_entries(drawing: &Drawing) -> usize
+    ensures { result ≡ entries (net_of drawing.now) drawing.now.plan (length (net_of drawing.now).transitions) }
 {
     let mut total: usize = 0;
-    for t in 0..transitions_of(plan) {
-        total += entries_of(plan, t, space_of(plan, t));
+    for t in 0..drawing.transitions() {
+        total += entries_of(&drawing.transition(t));
     }
     total
 }
 
 // Numbers the bindings of all transitions that have entries, and tells where each transition starts: in the table, or where every binding has a row its first row.
-pub fn number_all(file: &[u8], plan: &[u32; 3584], starts: &mut [usize; 32], numbers: &mut [u32])
-    ensures { (n : Net) → Prepared file.now n plan.now
-        → entries n plan.now (length n.transitions) ≤ length numbers.old
-        → Starts n plan.now starts.new numbers.new (length n.transitions) }
+pub fn number_all(drawing: &Drawing, starts: &mut [usize; 32], numbers: &mut [u32])
+    ensures { entries (net_of drawing.now) drawing.now.plan (length (net_of drawing.now).transitions) ≤ length numbers.old
+        → Starts (net_of drawing.now) drawing.now.plan starts.new numbers.new (length (net_of drawing.now).transitions) }
 {
     let mut base: usize = 0;
     let mut count: usize = 0;
-    for t in 0..transitions_of(plan) {
-        let size = space_of(plan, t);
-        if every_binding_has_row(plan, t) {
+    for t in 0..drawing.transitions() {
+        let transition = drawing.transition(t);
+        if every_binding_has_row(&transition) {
             starts[t] = count;
-            count += size;
+            count += space_of(&transition);
         } else {
             starts[t] = base;
-            count = number_those(file, plan, t, size, base, count, numbers);
-            base += size;
+            count = number_those(&transition, base, count, numbers);
+            base += space_of(&transition);
         }
     }
 }

@@ -1,10 +1,10 @@
 -- The marks: for each binding of a transition whose bindings do not all have rows, whether it has an effect.
 use Rattle.std.specs.Prelude.{◌≡◌, ◌≤◌, ◌<◌, ◌+◌, ◌/◌, ◌%◌, if◌then◌else◌}
-use Rattle.reading.specs.Basics.{ℕ, Bool, true, false, List, length, get_or, keep, below, product}
+use Rattle.reading.specs.Basics.{ℕ, Bool, true, false, List, get_or, product}
 use Rattle.net.specs.Net.{Net, sizes_of, transition_at}
 use Rattle.net.specs.internal.ReaderEnums.{member}
 use Rattle.bindings.specs.internal.Legal.{every_row}
-use Rattle.row_numbers.specs.internal.Walked.{takes_effect, entries}
+use Rattle.row_numbers.specs.internal.Walked.{takes_effect, effects, entries}
 
 -- a mark: one bit of one word of 32
 abbrev pub mark_at : List ℕ → ℕ → Bool
@@ -17,10 +17,6 @@ has_row every marks k = if every then true else mark_at marks k
 -- no mark is set from a number on
 abbrev pub Blank : List ℕ → ℕ → Type 0
 Blank marks from = (j : ℕ) → from ≤ j → j < 65536 → mark_at marks j ≡ false
-
--- how many of a transition's first so many bindings have an effect
-abbrev pub effects : Net → ℕ → ℕ → ℕ
-effects n t many = length (keep (takes_effect n t) (below many))
 
 -- from a base on, the marks tell of a transition's first so many bindings; those below it are as they were, and no further one is set
 pub record BindingsMarked (n : Net) (t : ℕ) (was marks : List ℕ) (base size : ℕ) : Type 0 where
