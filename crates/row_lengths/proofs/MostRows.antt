@@ -1,21 +1,17 @@
 -- How many arcs the rows of a transition have at most: no more than its expressions give under any binding. Assumes nothing.
-use Rattle.std.specs.Prelude.{◌+◌, ◌*◌, ◌&&◌, ◌∷◌, if◌then◌else◌}
+use Rattle.std.specs.Prelude.{◌+◌, ◌*◌, ◌&&◌, ◌∷◌, if◌then◌else◌, Some, None}
 use mathlib.Core.Path.{◌≡◌, refl, sym, ap, subst, ◌∙◌}
 use Prim.Native.Nat.{◌≤◌, ◌<◌}
 use native.Mathlib.Omega.{arith}
 use borrow.Author.Tests.{eqb-true}
 use lib.ListN.{length-append}
-use Rattle.reading.specs.Basics.{ℕ, Bool, true, false, List, [], flat_map, Option, none, some, option_map, length, get_or, take, eqb, find}
+use Rattle.reading.specs.Basics.{ℕ, Bool, true, false, List, [], flat_map, some, length, take, eqb, find}
 use Rattle.reading.proofs.Lists.{In, at_below, get_d_at, at_in}
 use Rattle.reading.proofs.Gives.{both_second}
-use Rattle.reading.specs.Reading.{fine}
 use Rattle.net.specs.Net as net
 use Rattle.net.specs.Net.{Expression, Transition, Net, place_at, colours_of, arc_on, variables_of, sizes_of, no_transition, transition_at}
-use Rattle.net.specs.Reader.{read_expression}
-use Rattle.evaluation.specs.internal.Evaluated.{scope_in}
 use Rattle.firing.specs.declared.Arc.{Arc}
 use Rattle.net_file.specs.Formed.{Fitting, expression_formed}
-use Rattle.net_transitions.specs.internal.TransitionTables.{Slot}
 use Rattle.net_file.proofs.Formed.{found_in, its_expression}
 use Rattle.row_lengths.specs.internal.MostArcs.{most, MostArc}
 use Rattle.row_lengths.proofs.MostArcs.{arcs_most}
@@ -26,11 +22,15 @@ use Rattle.prepared.specs.internal.Packed.{holding}
 use Rattle.plan.specs.internal.Layout.{sets_in, variables_in, guards_in, packed_in}
 use Rattle.prepared.specs.internal.Drawing.{start_of, Drawing}
 use Rattle.prepared.specs.internal.Prepared.{Prepared}
-use Rattle.prepared.proofs.Known.{its_limits, its_form}
+use Rattle.prepared.specs.internal.Drawn.{DrawnTransition, its_net}
+use Rattle.net_file.specs.Limits.{Limits}
+use Rattle.prepared.proofs.Known.{its_form}
 use Rattle.rows.specs.internal.Effects.{place_arcs, kind_arcs}
 use Rattle.row_lengths.specs.internal.MostRows.{MostKind, arcs_of_row, MostRow}
 use Rattle.rows.proofs.Split.{split}
-use Rattle.rows.proofs.Drawn.{place_by_lem, slot, row_gives, Entered, entered, arcs_given, Entries, entries_begin, entries_go, entries_end}
+use Rattle.rows.specs.internal.EntrySteps.{Told}
+use Rattle.rows.specs.declared.entries.Entries.{Entries as Left}
+use Rattle.rows.proofs.Drawn.{place_by_lem, row_gives, Entered, entry_arc, given_before, given_with_it, arcs_given, Upto, upto_goes, upto_ends}
 use Rattle.bindings.proofs.Digits.{bindings_at}
 use Rattle.row_lengths.proofs.Values.{binding_stands}
 use Rattle.bindings.proofs.Legal.{effect_weighs}
@@ -46,7 +46,7 @@ found_passes test (b ∷ l) {a} e = go (test b) refl (found_passes test l) e
     go false q ih r = ih r
 
 module _ {s : List ℕ} {n : Net} {plan : List ℕ} (prepared : Prepared s n plan) (value : ℕ → ℕ) (fits : Fitting n value)
-    {t k base : ℕ} (ht : t < length n.transitions) (hk : k < 3) (hb : base ≡ t * 96 + k * 32) where
+    {t k : ℕ} (ht : t < length n.transitions) (hk : k < 3) where
   abbrev d : Drawing s n (sets_in plan) (variables_in plan) (guards_in plan) (packed_in plan)
   d = prepared.drawing
 
@@ -60,75 +60,53 @@ module _ {s : List ℕ} {n : Net} {plan : List ℕ} (prepared : Prepared s n pla
 
   -- the arcs of a row's first places
   abbrev so_many : ℕ → List Arc
-  so_many i = flat_map (place_arcs n (transition_at n t) value (0x16 + k)) (take i (holding d.slots base (length n.places)))
+  so_many i = flat_map (place_arcs n (transition_at n t) value (0x16 + k)) (take i (holding d.slots (t * 96 + k * 32) (length n.places)))
 
   -- one entry more
-  entry_adds : (i entry total more : ℕ) → i < 32 → i ≤ length (holding d.slots base (length n.places)) → entry ≡ get_or (packed_in plan) (base + i) 0 → 1 ≤ entry
-      → length (so_many i) ≤ total → MostArc s plan entry more → length (so_many (i + 1)) ≤ total + more
-  entry_adds i entry total more h far e has so_far told =
+  entry_adds : {i entry : ℕ} (en : Entered d ht hk i entry) {total more : ℕ} → length (so_many i) ≤ total → MostArc s plan entry more → length (so_many (i + 1)) ≤ total + more
+  entry_adds {entry = entry} en {total} {more} so_far told =
+      let p = en.place in
       omega (
         arith,
-        ap length en.with_it,
+        ap length (given_with_it d ht hk value en),
         length-append (kind_arcs n (transition_at n t) value (0x16 + k) p) (place_arcs n (transition_at n t) value (0x16 + k) p),
-        ap length en.before,
-        here (arc_on (transition_at n t).arcs (0x16 + k) p) refl (slot value d ht hk hb p en.inside),
+        ap length (given_before d ht hk value en),
+        entry_arc d ht hk en (λ a next q reads.
+            let by = place_by_lem (place_at n p) in
+            let tells : more ≡ most (colours_of n (place_at n p)) a.expression = rw (en.ranks, en.paired) at told n.places by.0 by.1 next a.expression (rw by.2 reads) in
+            let few : length (place_arcs n (transition_at n t) value (0x16 + k) p) ≤ more = omega (
+              arith,
+              ap length (arcs_given d ht hk value p a q),
+              arcs_most (start_of n p) n value fits (place_at n p) a.expression (on_place p a q),
+              tells,
+            ) in
+            few),
       )
-    where
-      en : Entered value d ht hk hb i entry
-      en = entered value d ht hk hb i entry h far e has
-
-      p : ℕ
-      p = en.place
-
-      -- its most is that of the place's expression
-      tells : (x : Expression) (next : ℕ) → read_expression s (scope_in plan n.places) (place_at n p) 16 (get_or d.slots (base + p) 0) ≡ fine x next → more ≡ most (colours_of n (place_at n p)) x
-      tells x next reads =
-          let by = place_by_lem (place_at n p) in
-          rw (en.ranks, en.stands_at, en.paired) at told n.places by.0 by.1 next x (rw by.2 reads)
-
-      here : (o : Option net.Arc) → arc_on (transition_at n t).arcs (0x16 + k) p ≡ o
-          → Slot (read_expression s (scope_in plan n.places) (place_at n p) 16) (option_map (λ a. a.expression) o) (get_or d.slots (base + p) 0)
-          → length (place_arcs n (transition_at n t) value (0x16 + k) p) ≤ more
-      here none q sl = absurd (omega (arith, en.held))
-      here (some a) q sl =
-          omega (
-            arith,
-            ap length (arcs_given value d ht hk hb p a q),
-            arcs_most (start_of n p) n value fits (place_at n p) a.expression (on_place p a q),
-            tells a.expression sl.1.next sl.1.reads,
-          )
 
 -- ---- one kind, entry after entry
 -- these places give so many arcs at most, whatever the binding
-abbrev pub ArcsUpto : {s plan : List ℕ} (total : ℕ) (n : Net) (t k : ℕ) → Prepared s n plan → List ℕ → Type 0
-ArcsUpto total n t k p l = (value : ℕ → ℕ) → Fitting n value → length (flat_map (place_arcs n (transition_at n t) value (0x16 + k)) l) ≤ total
+abbrev pub ArcsUpto : DrawnTransition → ℕ → ℕ → ℕ → List ℕ → Type 0
+ArcsUpto d k total i places = (total ≤ 65535 * i) × ((value : ℕ → ℕ) → Fitting (its_net d) value
+    → length (flat_map (place_arcs (its_net d) (transition_at (its_net d) d.number) value (0x16 + k)) places) ≤ total)
 
-abbrev pub MostTo : List ℕ → List ℕ → ℕ → ℕ → ℕ → Type 0
-MostTo s plan base total = Entries {s = s} {plan = plan} base (ArcsUpto total)
+pub most_begins : (d : DrawnTransition) (k : ℕ) → ArcsUpto d k 0 0 []
+unfolding flat_map
+most_begins d k = (omega arith, λ value fits. omega arith)
 
-module _ {s plan : List ℕ} {base : ℕ} where
-  pub most_begins : MostTo s plan base 0 0
-  unfolding flat_map
-  most_begins = entries_begin (λ n t k p value fits. omega arith)
+module _ {d : DrawnTransition} {k total : ℕ} {left : Left} (u : Upto d k left (ArcsUpto d k total)) where
+  pub most_goes : {left' : Left} {entry more : ℕ} → Told left.plan.now left.at left.end (Some entry) left'.plan.now left'.at left'.end
+      → MostArc d.drawing.file d.drawing.plan entry more → more ≤ 65535 → Upto d k left' (ArcsUpto d k (total + more))
+  most_goes told is few = upto_goes u told (λ en so_far. (omega (arith, so_far.0), λ value fits. entry_adds u.ready.0 value fits u.ready.1 u.kind en (so_far.1 value fits) is))
 
-  module _ {total i : ℕ} (l : MostTo s plan base total i) where
-    pub most_goes : (entry more : ℕ) → i < 32 → entry ≡ get_or (packed_in plan) (base + i) 0 → 1 ≤ entry
-        → MostArc s plan entry more → MostTo s plan base (total + more) (i + 1)
-    most_goes entry more h e has told = entries_go l entry h e has (λ n t k p ht hk hb far so_far value fits. entry_adds p value fits ht hk hb i entry total more h far e has (so_far value fits) told)
-
-    -- the arcs of its places are the kind's
-    all_most : ((n : Net) (t k : ℕ) (p : Prepared s n plan) → t < length n.transitions → k < 3 → base ≡ t * 96 + k * 32
-        → ArcsUpto total n t k p (holding p.drawing.slots base (length n.places))) → MostKind s plan base total
-    all_most all n t k p ht hk hb value fits =
-        subst (λ arcs. length arcs ≤ total) (row_gives value p.drawing ht hk hb (length n.places) (omega arith)) (all n t k p ht hk hb value fits)
-
-    pub most_ends : (i < 32 → get_or (packed_in plan) (base + i) 0 < 1) → MostKind s plan base total
-    most_ends none_next = all_most (entries_end l none_next)
+  -- the arcs of its places are the kind's
+  pub most_ends : {plan' : List ℕ} {at' end' : ℕ} → Told left.plan.now left.at left.end None plan' at' end' → MostKind (its_net d) d.number k total
+  most_ends told value fits =
+      subst (λ arcs. length arcs ≤ total) (row_gives u.ready.0.drawing u.ready.1 u.kind value (length (its_net d).places) (omega arith)) ((upto_ends u told).1 value fits)
 
 -- ---- the rows of a transition
-pub row-most : {s plan : List ℕ} {t takes puts hinders : ℕ} → MostKind s plan (t * 96) takes → MostKind s plan (t * 96 + 32) puts
-    → MostKind s plan (t * 96 + 64) hinders → MostRow s plan t (takes + puts + hinders)
-row-most {t = t} {takes = takes} {puts = puts} {hinders = hinders} first second third n p ht i w inside e =
+pub row-most : (n : Net) → Limits n → (t : ℕ) → t < length n.transitions → {takes puts hinders : ℕ} → MostKind n t 0 takes → MostKind n t 1 puts
+    → MostKind n t 2 hinders → MostRow n t (takes + puts + hinders)
+row-most n limits t ht {takes = takes} {puts = puts} {hinders = hinders} first second third i w inside e =
     subst (λ x. arcs_of_row (flat_row n x) ≤ takes + puts + hinders) (effect_weighs n (numbered n t i) e) few
   where
     u : Transition
@@ -138,16 +116,7 @@ row-most {t = t} {takes = takes} {puts = puts} {hinders = hinders} first second 
     env = stands_for (variables_of n u) (digits (sizes_of n u) i)
 
     fits : Fitting n env
-    fits = binding_stands n (its_limits p) (at_in (bindings n) (before n t + i) (bindings_at n t i ht inside))
+    fits = binding_stands n limits (at_in (bindings n) (before n t + i) (bindings_at n t i ht inside))
 
     few : arcs_of_row (flat_row n (weights_of n u env)) ≤ takes + puts + hinders
-    few =
-        omega (
-          arith,
-          ap length (split n u env 0x16),
-          first n t 0 p ht (omega arith) (omega arith) env fits,
-          ap length (split n u env 0x17),
-          second n t 1 p ht (omega arith) (omega arith) env fits,
-          ap length (split n u env 0x18),
-          third n t 2 p ht (omega arith) (omega arith) env fits,
-        )
+    few = omega (arith, ap length (split n u env 0x16), first env fits, ap length (split n u env 0x17), second env fits, ap length (split n u env 0x18), third env fits)

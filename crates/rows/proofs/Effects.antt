@@ -1,5 +1,5 @@
 -- The effect of a binding, from its guard and the arcs of its three kinds; and what firing its row gives. Assumes nothing.
-use Rattle.std.specs.Prelude.{◌+◌, ◌/◌, ◌*◌, ◌||◌, ◌∷◌, if◌then◌else◌}
+use Rattle.std.specs.Prelude.{◌+◌, ◌/◌, ◌||◌, ◌∷◌, if◌then◌else◌}
 use mathlib.Core.Path.{◌≡◌, refl, sym, ap, subst, fun_ext, ◌∙◌}
 use mathlib.Core.List.Memᴰ
 use Prim.Native.Nat.{◌≤◌, ◌<◌}
@@ -23,7 +23,6 @@ use Rattle.runs.specs.internal.Terms.{ArcsAppended}
 use Rattle.firing.proofs.Rows.{arcs_front}
 use Rattle.runs.proofs.Appending.{kept_shorter}
 use Rattle.bindings.specs.Effect.{Binding, FlatPlace, stands_for, flat_places, arc_weight, effect, flat_row}
-use Rattle.prepared.specs.internal.Prepared.{Prepared}
 use Rattle.rows.specs.internal.Effects.{kind_slots, row_slots, room, kind_arcs, TakesLoaded, RowLoaded}
 use Rattle.bindings.specs.internal.Bindings.{Binds, binding}
 use Rattle.rows.specs.internal.Loading.{KindLoaded}
@@ -72,8 +71,7 @@ module _ (n : Net) (t : Transition) (env other : ℕ → ℕ) (same : (v : ℕ) 
   kind_row kind = sym (split n t env kind) ∙ ap (λ w. arcs_of (flat_place_count n) (λ p. given (get_elem? (flat_places n) p) 0 w)) (fun_ext (arc_as kind))
 
 -- ---- the code's results
-module _ {s : List ℕ} {n : Net} {plan : List ℕ} (env : List ℕ) (prepared : Prepared s n plan)
-    (t : ℕ) (ht : t < length n.transitions) (colours : List ℕ) (binds : Binds n (binding t colours) env) where
+module _ (s : List ℕ) (n : Net) (env : List ℕ) (t : ℕ) (ht : t < length n.transitions) (colours : List ℕ) (binds : Binds n (binding t colours) env) where
   -- the binding's colours
   abbrev other : ℕ → ℕ
   other = stands_for (variables_of n (transition_at n t)) colours
@@ -98,9 +96,9 @@ module _ {s : List ℕ} {n : Net} {plan : List ℕ} (env : List ℕ) (prepared :
 
   -- the takes were appended
   pub takes_loaded : {list list' : List Arc} {end : ℕ} → room s n ≤ length list
-      → KindLoaded s plan env (t * 96) list 0 list' end → TakesLoaded n (binding t colours) list' end
+      → KindLoaded s n env t 0 list 0 list' end → TakesLoaded n (binding t colours) list' end
   takes_loaded x k1 =
-      let first = k1 n t 0 prepared ht (omega arith) (omega arith) (omega (arith, wide)) in
+      let first = k1 (omega (arith, wide)) in
       record {
         takes = λ w is. first.are ∙ rows_of 0x16 ∙ ap (λ w. arcs_of (flat_place_count n) w.take) (effect_weighs n (binding t colours) is);
         few = omega (arith, low 0x16, first.end);
@@ -109,8 +107,8 @@ module _ {s : List ℕ} {n : Net} {plan : List ℕ} (env : List ℕ) (prepared :
   -- the puts and hinders were appended to the takes, one after the other
   pub effect_rest : {l1 l2 l3 : List Arc} {takes puts hinders : ℕ} → room s n ≤ length l1
       → TakesLoaded n (binding t colours) l1 takes
-      → KindLoaded s plan env (t * 96 + 32) l1 takes l2 puts
-      → KindLoaded s plan env (t * 96 + 64) l2 puts l3 hinders
+      → KindLoaded s n env t 1 l1 takes l2 puts
+      → KindLoaded s n env t 2 l2 puts l3 hinders
       → RowLoaded n (binding t colours) l3 takes puts hinders
   effect_rest {l1} {l2} {l3} {takes} {puts} {hinders} x k k2 k3 =
       record {
@@ -126,10 +124,10 @@ module _ {s : List ℕ} {n : Net} {plan : List ℕ} (env : List ℕ) (prepared :
       }
     where
       second : ArcsAppended (arcs_of_lem 0x17) l1 takes l2 puts
-      second = k2 n t 1 prepared ht (omega arith) (omega arith) (omega (arith, wide, k.few))
+      second = k2 (omega (arith, wide, k.few))
 
       third : ArcsAppended (arcs_of_lem 0x18) l2 puts l3 hinders
-      third = k3 n t 2 prepared ht (omega arith) (omega arith) (omega (arith, wide, k.few, low 0x17, second.end, second.size))
+      third = k3 (omega (arith, wide, k.few, low 0x17, second.end, second.size))
 
       rows : {a b c a' b' c' : List Arc} → a ≡ a' → b ≡ b' → c ≡ c' → row a b c ≡ row a' b' c'
       rows f g h = cc

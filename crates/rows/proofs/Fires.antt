@@ -1,5 +1,5 @@
 -- What follows from the tables of an accepted net, for the calls, and from a row that was loaded to be fired. Assumes nothing.
-use Rattle.std.specs.Prelude.{◌+◌, ◌*◌, ◌/◌}
+use Rattle.std.specs.Prelude.{◌+◌, ◌/◌}
 use mathlib.Core.Path.{◌≡◌, sym, ap, ◌∙◌}
 use Prim.Native.Nat.{◌≤◌, ◌<◌}
 use native.Mathlib.Omega.{arith}
@@ -52,12 +52,12 @@ pub none_fires : (n : Net) (b : Binding) (m : List ℕ) {r : Bool} → r ≡ leg
 none_fires n b m {r} told e = rw (effect_none n b (sym told ∙ not_true r e))
 
 -- it has one, and its takes were loaded, of which the code tells whether one is lacking
-module _ {s plan : List ℕ} {n : Net} (env : List ℕ) (p : Prepared s n plan) (t : ℕ) (ht : t < length n.transitions) (colours : List ℕ) (binds : Binds n (binding t colours) env)
+module _ (s : List ℕ) (n : Net) (env : List ℕ) (t : ℕ) (ht : t < length n.transitions) (colours : List ℕ) (binds : Binds n (binding t colours) env)
     (m : List ℕ) (sized : length m ≡ flat_place_count n) {r : Bool} (told : r ≡ legal n (binding t colours)) (has : not r ≡ false)
-    {list list' : List Arc} {end : ℕ} (x : room s n ≤ length list) (kind : KindLoaded s plan env (t * 96) list 0 list' end)
+    {list list' : List Arc} {end : ℕ} (x : room s n ≤ length list) (kind : KindLoaded s n env t 0 list 0 list' end)
     {lacks : Bool} (says : lacks ≡ any (lacking m) (take end list')) where
   takes : TakesLoaded n (binding t colours) list' end
-  takes = takes_loaded env p t ht colours binds x kind
+  takes = takes_loaded s n env t ht colours binds x kind
 
   is : effect n (binding t colours) ≡ some (weights_of n (transition_at n t) (stands_for (variables_of n (transition_at n t)) colours))
   is = effect-legal n (binding t colours) (sym told ∙ not_false r has)
@@ -69,9 +69,9 @@ module _ {s plan : List ℕ} {n : Net} (env : List ℕ) (p : Prepared s n plan) 
   lack_fires e = rw is (takes_lack takes is m [] sized (sym lacks_is ∙ e))
 
   -- none is, and the rest was loaded
-  pub row_ready : lacks ≡ false → length list' ≡ length list → {list'' : List Arc} {ends : Ends} → LoadsRest s plan env t end list' list'' ends → RowReady n (binding t colours) m list'' ends
+  pub row_ready : lacks ≡ false → length list' ≡ length list → {list'' : List Arc} {ends : Ends} → LoadsRest s n env t end list' list'' ends → RowReady n (binding t colours) m list'' ends
   row_ready e kept rest =
-      let l = rest n colours p ht binds (omega arith) takes in
+      let l = rest colours binds (omega arith) takes in
       record {
         proper = loaded_proper l is m sized;
         there = none_lacks takes is m l (sym lacks_is ∙ e);

@@ -1,5 +1,5 @@
 -- What the code's loop over the entries of the packed table tells of the slots that the rows of a net need. Assumes nothing.
-use Rattle.std.specs.Prelude.{◌+◌, ◌*◌, ◌/◌, ◌%◌, ◌∷◌, ◌++◌}
+use Rattle.std.specs.Prelude.{◌+◌, ◌*◌, ◌/◌, ◌%◌, ◌∷◌, ◌++◌, Some, None}
 use mathlib.Core.Path.{◌≡◌, refl, sym, ap, subst, ◌∙◌}
 use mathlib.Core.List.{append-nil}
 use Prim.Native.Nat.{◌≤◌, ◌<◌}
@@ -14,14 +14,15 @@ use Rattle.net_transitions.specs.internal.TransitionTables.{Slot}
 use Rattle.sums.specs.internal.Slots.{expression_slots, slots_for}
 use Rattle.multiset.proofs.Slots.{slots_told}
 use Rattle.prepared.specs.internal.Packed.{if_held, holding}
-use Rattle.plan.specs.internal.Layout.{transitions_in, packed_in}
 use Rattle.prepared.specs.internal.Drawing.{Drawing}
-use Rattle.prepared.specs.internal.Prepared.{Prepared}
+use Rattle.prepared.specs.internal.Drawn.{DrawnTransition, its_net}
 use Rattle.rows.specs.internal.Effects.{place_slots, slots_below, row_slots}
 use Rattle.rows.specs.internal.Slots.{KindSlotted, RowSlotted, NetSlotted}
 use Rattle.prepared.proofs.Packing.{by_slot, held_none, held_some, holding_more}
 use Rattle.rows.proofs.Needing.{greatest_least, map_at}
-use Rattle.rows.proofs.Drawn.{slot, Entered, entered, Entries, entries_begin, entries_go, entries_end}
+use Rattle.rows.specs.internal.EntrySteps.{Told}
+use Rattle.rows.specs.declared.entries.Entries.{Entries as Left}
+use Rattle.rows.proofs.Drawn.{slot, Entered, entry_arc, Upto, upto_goes, upto_ends}
 
 -- ---- sums over the places of a row that hold an arc
 snoc_sum : (f : ℕ → ℕ) (l : List ℕ) (x : ℕ) → sum (map f (l ++ (x ∷ []))) ≡ sum (map f l) + f x
@@ -29,113 +30,80 @@ snoc_sum f [] x = omega arith
 snoc_sum f (a ∷ l) x = let e = snoc_sum f l x in omega arith
 
 module _ {s : List ℕ} {n : Net} {sizes vars guards arcs : List ℕ} (d : Drawing s n sizes vars guards arcs)
-    {t k base : ℕ} (ht : t < length n.transitions) (hk : k < 3) (hb : base ≡ t * 96 + k * 32) where
+    {t k : ℕ} (ht : t < length n.transitions) (hk : k < 3) where
   abbrev slots : ℕ → ℕ
   slots = place_slots n (transition_at n t) (0x16 + k)
 
   abbrev row : List ℕ
-  row = holding d.slots base (length n.places)
+  row = holding d.slots (t * 96 + k * 32) (length n.places)
 
   -- a place whose slot is 0 has no arc
-  place_free : (p : ℕ) → p < length n.places → get_or d.slots (base + p) 0 < 1 → slots p ≡ 0
-  place_free p h free = go (arc_on (transition_at n t).arcs (0x16 + k) p) refl (slot (λ v. 0) d ht hk hb p h)
+  place_free : (p : ℕ) → p < length n.places → get_or d.slots (t * 96 + k * 32 + p) 0 < 1 → slots p ≡ 0
+  place_free p h free = go (arc_on (transition_at n t).arcs (0x16 + k) p) refl (slot d ht hk p h)
     where
       go : (o : Option net.Arc) → arc_on (transition_at n t).arcs (0x16 + k) p ≡ o
-          → Slot (read_expression s (scope sizes vars n.places) (place_at n p) 16) (option_map (λ a. a.expression) o) (get_or d.slots (base + p) 0) → slots p ≡ 0
+          → Slot (read_expression s (scope sizes vars n.places) (place_at n p) 16) (option_map (λ a. a.expression) o) (get_or d.slots (t * 96 + k * 32 + p) 0) → slots p ≡ 0
       go none q sl = rw q refl
       go (some a) q sl = absurd (omega (arith, sl.0))
 
   -- all places need what those that hold an arc need
-  held_slots : (m : ℕ) → m ≤ length n.places → sum (map slots (holding d.slots base m)) ≡ slots_below n (transition_at n t) (0x16 + k) m
+  held_slots : (m : ℕ) → m ≤ length n.places → sum (map slots (holding d.slots (t * 96 + k * 32) m)) ≡ slots_below n (transition_at n t) (0x16 + k) m
   unfolding slots_below flat_map numbers_from
   held_slots zero h = refl
   held_slots (suc m) h =
       let e : m + 1 ≡ suc m = omega arith in
-      let l = holding d.slots base m in
+      let l = holding d.slots (t * 96 + k * 32) m in
+      let here = get_or d.slots (t * 96 + k * 32 + m) 0 in
       let before = held_slots m (omega arith) in
-      let more = subst (λ x. holding d.slots base x ≡ l ++ if_held (get_or d.slots (base + m) 0) m) e (holding_more d.slots base m) in
-      by_slot (get_or d.slots (base + m) 0)
+      let more = subst (λ x. holding d.slots (t * 96 + k * 32) x ≡ l ++ if_held here m) e (holding_more d.slots (t * 96 + k * 32) m) in
+      by_slot here
       (λ free.
-      let none_here = more ∙ ap (λ x. l ++ x) (held_none (get_or d.slots (base + m) 0) m free) ∙ append-nil l in
+      let none_here = more ∙ ap (λ x. l ++ x) (held_none here m free) ∙ append-nil l in
       omega (arith, ap (λ x. sum (map slots x)) none_here, before, place_free m (omega arith) free))
       (λ has.
-      let one_more = more ∙ ap (λ x. l ++ x) (held_some (get_or d.slots (base + m) 0) m has) in
+      let one_more = more ∙ ap (λ x. l ++ x) (held_some here m has) in
       omega (arith, ap (λ x. sum (map slots x)) one_more, snoc_sum slots l m, before))
 
   -- one entry more
-  entry_slots : (i entry total more : ℕ) → i < 32 → i ≤ length row → entry ≡ get_or arcs (base + i) 0 → 1 ≤ entry
+  entry_slots : {i entry : ℕ} (en : Entered d ht hk i entry) {total more : ℕ}
       → sum (map slots (take i row)) ≤ total → more ≡ slots_for s (entry / 134217728) (entry / 2 % 8192) → sum (map slots (take (i + 1) row)) ≤ total + more
-  entry_slots i entry total more h far e has so_far told =
-      let next = en.upto ∙ holding_more d.slots base p ∙ ap (λ x. holding d.slots base p ++ x) (held_some (get_or d.slots (base + p) 0) p en.held) in
-      omega (arith, ap (λ x. sum (map slots x)) next, snoc_sum slots (holding d.slots base p) p, ap (λ x. sum (map slots x)) en.below, so_far, told, here (arc_on (transition_at n t).arcs (0x16 + k) p) refl (slot (λ v. 0) d ht hk hb p en.inside))
-    where
-      en : Entered (λ v. 0) d ht hk hb i entry
-      en = entered (λ v. 0) d ht hk hb i entry h far e has
-
-      p : ℕ
-      p = en.place
-
-      here : (o : Option net.Arc) → arc_on (transition_at n t).arcs (0x16 + k) p ≡ o
-          → Slot (read_expression s (scope sizes vars n.places) (place_at n p) 16) (option_map (λ a. a.expression) o) (get_or d.slots (base + p) 0)
-          → slots p ≡ slots_for s (entry / 134217728) (entry / 2 % 8192)
-      here none q sl = absurd (omega (arith, en.held))
-      here (some a) q sl =
-          let reads = ap (read_expression s (scope sizes vars n.places) (place_at n p) 16) en.stands_at ∙ sl.1.reads in
-          rw q (sym (slots_told s (scope sizes vars n.places) (place_at n p) (entry / 134217728) (entry / 2 % 8192) reads ∙ ap (λ c. expression_slots c a.expression) en.ranks))
+  entry_slots {entry = entry} en so_far told =
+      let p = en.place in
+      let next = en.upto ∙ holding_more d.slots (t * 96 + k * 32) p ∙ ap (λ x. holding d.slots (t * 96 + k * 32) p ++ x) (held_some (get_or d.slots (t * 96 + k * 32 + p) 0) p en.held) in
+      let here : slots p ≡ slots_for s (entry / 134217728) (entry / 2 % 8192) = entry_arc d ht hk en (λ a next q reads.
+      rw q (sym (slots_told s (scope sizes vars n.places) (place_at n p) (entry / 134217728) (entry / 2 % 8192) reads ∙ ap (λ c. expression_slots c a.expression) en.ranks))) in
+      omega (arith, ap (λ x. sum (map slots x)) next, snoc_sum slots (holding d.slots (t * 96 + k * 32) p) p, ap (λ x. sum (map slots x)) en.below, so_far, told, here)
 
 -- ---- one kind, entry after entry
 -- the arcs on these places need so many slots at most
-abbrev pub SlotsUpto : {s plan : List ℕ} (total : ℕ) (n : Net) (t k : ℕ) → Prepared s n plan → List ℕ → Type 0
-SlotsUpto total n t k p l = sum (map (place_slots n (transition_at n t) (0x16 + k)) l) ≤ total
+abbrev pub SlotsUpto : DrawnTransition → ℕ → ℕ → ℕ → List ℕ → Type 0
+SlotsUpto d k total i places = (total ≤ 8192 * i) × (sum (map (place_slots (its_net d) (transition_at (its_net d) d.number) (0x16 + k)) places) ≤ total)
 
-abbrev pub SlotsTo : List ℕ → List ℕ → ℕ → ℕ → ℕ → Type 0
-SlotsTo s plan base total = Entries {s = s} {plan = plan} base (SlotsUpto total)
+module _ {d : DrawnTransition} {k total : ℕ} {left : Left} (u : Upto d k left (SlotsUpto d k total)) where
+  pub slots_go : {left' : Left} {entry more : ℕ} → Told left.plan.now left.at left.end (Some entry) left'.plan.now left'.at left'.end
+      → more ≡ slots_for d.drawing.file (entry / 134217728) (entry / 2 % 8192) → more ≤ entry / 2 % 8192 → Upto d k left' (SlotsUpto d k (total + more))
+  slots_go told is few = upto_goes u told (λ en so_far. (omega (arith, so_far.0), entry_slots u.ready.0.drawing u.ready.1 u.kind en so_far.1 is))
 
-module _ {s plan : List ℕ} {base : ℕ} where
-  pub slots_begin : SlotsTo s plan base 0 0
-  slots_begin = entries_begin (λ n t k p. omega arith)
-
-  module _ {total i : ℕ} (l : SlotsTo s plan base total i) where
-    pub slots_go : (entry more : ℕ) → i < 32 → entry ≡ get_or (packed_in plan) (base + i) 0 → 1 ≤ entry → more ≡ slots_for s (entry / 134217728) (entry / 2 % 8192) → SlotsTo s plan base (total + more) (i + 1)
-    slots_go entry more h e has told = entries_go l entry h e has (λ n t k p ht hk hb far so_far. entry_slots p.drawing ht hk hb i entry total more h far e has so_far told)
-
-    -- what its places need is what the kind needs
-    slotted_all : ((n : Net) (t k : ℕ) (p : Prepared s n plan) → t < length n.transitions → k < 3 → base ≡ t * 96 + k * 32
-        → SlotsUpto total n t k p (holding p.drawing.slots base (length n.places))) → KindSlotted s plan base total
-    slotted_all all n t k p ht hk hb = omega (arith, all n t k p ht hk hb, held_slots p.drawing ht hk hb (length n.places) (omega arith))
-
-    pub slots_end : (i < 32 → get_or (packed_in plan) (base + i) 0 < 1) → KindSlotted s plan base total
-    slots_end none_next = slotted_all (entries_end l none_next)
-
--- the rows of a transition
-pub row_slotted : {s plan : List ℕ} {t takes puts hinders : ℕ} → KindSlotted s plan (t * 96) takes → KindSlotted s plan (t * 96 + 32) puts → KindSlotted s plan (t * 96 + 64) hinders
-    → RowSlotted s plan t (takes + puts + hinders)
-row_slotted {s} {plan} {t} first second third n p ht =
-    omega (
-      arith,
-      first n t 0 p ht (omega arith) (omega arith),
-      second n t 1 p ht (omega arith) (omega arith),
-      third n t 2 p ht (omega arith) (omega arith),
-    )
+  -- what its places need is what the kind needs
+  pub slots_end : {plan' : List ℕ} {at' end' : ℕ} → Told left.plan.now left.at left.end None plan' at' end' → KindSlotted (its_net d) d.number k total
+  slots_end told = omega (arith, (upto_ends u told).1, held_slots u.ready.0.drawing u.ready.1 u.kind (length (its_net d).places) (omega arith))
 
 -- so many are enough for the first so many transitions
-abbrev pub Enough : List ℕ → List ℕ → ℕ → ℕ → Type 0
-Enough s plan most t = (u : ℕ) → u < t → RowSlotted s plan u most
+abbrev pub Enough : Net → ℕ → ℕ → Type 0
+Enough n most t = (u : ℕ) → u < t → RowSlotted n u most
 
-pub enough_more : {s plan : List ℕ} {most slots r t : ℕ} → Enough s plan most t → RowSlotted s plan t slots → most ≤ r → slots ≤ r → Enough s plan r (t + 1)
-enough_more {s} {plan} {most} {slots} {r} {t} before here a b u h n p ht = go (ltb u t) refl
+pub enough_more : (n : Net) {most slots r t : ℕ} → Enough n most t → RowSlotted n t slots → most ≤ r → slots ≤ r → Enough n r (t + 1)
+enough_more n {most} {slots} {r} {t} before here a b u h = go (ltb u t) refl
   where
     go : (q : Bool) → ltb u t ≡ q → row_slots n (transition_at n u) ≤ r
-    go true e = let i = before u (ltb-true u t e) n p ht in omega arith
+    go true e = omega (arith, before u (ltb-true u t e))
     go false e =
         let f = ltb-false u t e in
         let j : u ≡ t = omega arith in
-        let i = subst (λ x. RowSlotted s plan x slots) (sym j) here n p ht in
-        omega arith
+        omega (arith, subst (λ x. RowSlotted n x slots) (sym j) here)
 
-pub all_enough : {s plan : List ℕ} {most : ℕ} → Enough s plan most (transitions_in plan) → NetSlotted s plan most
-all_enough {s} {plan} {most} enough n p =
+pub all_enough : (n : Net) {most : ℕ} → Enough n most (length n.transitions) → NetSlotted n most
+all_enough n {most} enough =
     greatest_least (map (row_slots n) n.transitions) most (λ i lt.
     let inside : i < length n.transitions = omega (arith, length-map n.transitions (row_slots n)) in
-    let f = enough i (omega (arith, p.transitions_are)) n p inside in
-    omega (arith, f, map_at (row_slots n) n.transitions i no_transition inside))
+    omega (arith, enough i inside, map_at (row_slots n) n.transitions i no_transition inside))

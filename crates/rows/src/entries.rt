@@ -1,9 +1,18 @@
 // The entries of a transition's arcs of a kind, one after the other.
-ghost use Rattle.std.specs.Prelude.{◌≡◌, ◌≤◌, ◌+◌, ◌-◌};
+ghost use Rattle.std.specs.Prelude.{◌≤◌, ◌-◌};
 ghost use Rattle.std.specs.Iterator.{at_most};
-ghost use Rattle.rows.specs.internal.EntrySteps.{Told};
+ghost use Rattle.rows.specs.internal.EntrySteps.{turn_of, Begun, Told};
 
 use plan::arc_of;
+use prepared::Transition;
+
+// The kinds of arcs, in the order of a row.
+#[derive(Clone, Copy, Debug, PartialEq, Eq)]
+pub enum Kind {
+    Takes = 0,
+    Puts,
+    Hinders,
+}
 
 // Those of a row of 32 in the packed table that are still to come, up to the first 0.
 #[derive(Drop)]
@@ -34,13 +43,13 @@ impl Iterator for Entries<'_> {
     }
 }
 
-// All of the row that begins at base.
-pub fn entries_of(plan: &[u32; 3584], base: usize) -> Entries<'_>
-    requires { base ≤ 3040 }
-    ensures { (result.plan.now ≡ plan.now) × (result.at ≡ base) × (result.end ≡ base + 32) }
+// All of a transition's kind.
+pub fn entries_of<'a>(transition: &Transition<'a>, kind: Kind) -> Entries<'a>
+    ensures { Begun transition.now (turn_of kind) result.plan.now result.at result.end }
 {
+    let base = transition.number() * 96 + (kind as usize) * 32;
     Entries {
-        plan,
+        plan: transition.plan(),
         at: base,
         end: base + 32,
     }

@@ -1,10 +1,13 @@
 // How many slots the rows of a net need in the lent lists.
 ghost use Rattle.std.specs.Prelude.{◌≡◌, ℕ, ◌≤◌, ◌<◌, ◌+◌, ◌/◌, leb};
+ghost use Rattle.prepared.specs.internal.Drawn.{net_of, its_net};
 ghost use Rattle.sums.specs.internal.Slots.{slots_for};
+ghost use Rattle.rows.specs.internal.EntrySteps.{turn_of};
 ghost use Rattle.rows.specs.internal.Slots.{KindSlotted, RowSlotted, NetSlotted};
 
-use crate::entries::entries_of;
-use plan::{expression_of, ranks_of, transitions_of};
+use crate::entries::{Kind, entries_of};
+use plan::{expression_of, ranks_of};
+use prepared::{Drawing, Transition};
 use reading::byte_at;
 
 // The slots for the expression at a place of the file, over so many ranks.
@@ -18,40 +21,38 @@ fn slots_for(file: &[u8], at: usize, count: usize) -> usize
     count
 }
 
-// For the arcs of a kind, whose row of entries begins at base.
-fn kind_slots(file: &[u8], plan: &[u32; 3584], base: usize) -> usize
-    requires { base ≤ 3040 }
-    ensures is { KindSlotted file.now plan.now base result }
+// For the arcs of a kind.
+fn kind_slots(transition: &Transition, kind: Kind) -> usize
+    ensures is { KindSlotted (its_net transition.now) transition.now.number (turn_of kind) result }
     ensures small { result ≤ 262144 }
 {
+    let file = transition.file();
     let mut total: usize = 0;
-    for entry in entries_of(plan, base) {
+    for entry in entries_of(transition, kind) {
         total += slots_for(file, expression_of(entry), ranks_of(entry));
     }
     total
 }
 
 // For the rows of a transition.
-fn row_slots(file: &[u8], plan: &[u32; 3584], t: usize) -> usize
-    requires { t < 32 }
-    ensures is { RowSlotted file.now plan.now t result }
+fn row_slots(transition: &Transition) -> usize
+    ensures is { RowSlotted (its_net transition.now) transition.now.number result }
     ensures small { result ≤ 786432 }
 {
-    let base = t * 96;
-    let takes = kind_slots(file, plan, base);
-    let puts = kind_slots(file, plan, base + 32);
-    let hinders = kind_slots(file, plan, base + 64);
+    let takes = kind_slots(transition, Kind::Takes);
+    let puts = kind_slots(transition, Kind::Puts);
+    let hinders = kind_slots(transition, Kind::Hinders);
     takes + puts + hinders
 }
 
 // For the rows of any transition.
-pub fn most_slots(file: &[u8], plan: &[u32; 3584]) -> usize
-    ensures is { NetSlotted file.now plan.now result }
+pub fn most_slots(drawing: &Drawing) -> usize
+    ensures is { NetSlotted (net_of drawing.now) result }
     ensures small { result ≤ 786432 }
 {
     let mut most: usize = 0;
-    for t in 0..transitions_of(plan) {
-        most = most.max(row_slots(file, plan, t));
+    for t in 0..drawing.transitions() {
+        most = most.max(row_slots(&drawing.transition(t)));
     }
     most
 }

@@ -1,7 +1,24 @@
--- Going over the entries of a row of the packed table, up to the first 0.
-use Rattle.std.specs.Prelude.{◌≡◌, ◌≤◌, ◌<◌, ◌+◌, Option, MatchOption}
+-- Going over the entries of a transition's kind, a row of the packed table, up to the first 0.
+use Rattle.std.specs.Prelude.{◌≡◌, ◌≤◌, ◌<◌, ◌+◌, ◌*◌, Option, MatchOption}
 use Rattle.reading.specs.Basics.{ℕ, List, get_or}
 use Rattle.plan.specs.internal.Layout.{packed_in}
+use Rattle.prepared.specs.internal.Drawn.{DrawnTransition, IsInside}
+use Rattle.rows.specs.declared.entries.Kind.{Kind}
+use Rattle.rows.specs.declared.entries.Kind.TheVariants.{Takes, Puts, Hinders}
+
+-- a kind's place in a row; its arcs have the command 0x16 and so many
+abbrev pub turn_of : Kind → ℕ
+turn_of Takes = 0
+turn_of Puts = 1
+turn_of Hinders = 2
+
+-- all entries of a transition's kind are to come
+pub record Begun (d : DrawnTransition) (k : ℕ) (plan : List ℕ) (at end : ℕ) : Type 0 where
+  pub ready : IsInside d.drawing.file d.drawing.plan d.number
+  pub kind : k < 3
+  pub plan_is : plan ≡ d.drawing.plan
+  pub at_is : at ≡ d.number * 96 + k * 32
+  pub end_is : end ≡ d.number * 96 + k * 32 + 32
 
 -- the next entry before an end was told, or there is none: it is 0, or the end is reached
 pub record Told (plan : List ℕ) (at end : ℕ) (told : Option ℕ) (plan' : List ℕ) (at' end' : ℕ) : Type 0 where

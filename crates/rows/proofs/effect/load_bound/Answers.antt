@@ -3,10 +3,10 @@ use Rattle.rows.proofs.Fires.{none_fires, lack_fires, row_ready}
 use Rattle.rows.proofs.effect.load_bound.Goals as goal
 
 pub returns-then-not-has_effect-clause-told : goal.returns-then-not-has_effect-clause-told
-returns-then-not-has_effect-clause-told c = λ n colours p ht binds x sized. none_fires n _ _ (c.has_effect.ensures n colours p ht binds) (ap not c.if-not-has_effect.true)
+returns-then-not-has_effect-clause-told c = λ colours binds x sized. none_fires _ _ _ (c.has_effect.ensures colours binds) (ap not c.if-not-has_effect.true)
 
 pub returns-then-some_lacks-clause-told : goal.returns-then-some_lacks-clause-told
-returns-then-some_lacks-clause-told c = λ n colours p ht binds x sized. lack_fires c.args.env.now p _ ht colours binds _ sized (c.has_effect.ensures n colours p ht binds) (ap not c.if-not-has_effect.false) x c.load_kind-takes.ensures.is c.some_lacks.ensures c.if-some_lacks.true
+returns-then-some_lacks-clause-told c = λ colours binds x sized. lack_fires _ _ c.args.env.now _ c.load_kind-takes.ensures.inside colours binds _ sized (c.has_effect.ensures colours binds) (ap not c.if-not-has_effect.false) x c.load_kind-takes.ensures.is c.some_lacks.ensures c.if-some_lacks.true
 
 pub returns-clause-told : goal.returns-clause-told
-returns-clause-told c = λ n colours p ht binds x sized. row_ready c.args.env.now p _ ht colours binds _ sized (c.has_effect.ensures n colours p ht binds) (ap not c.if-not-has_effect.false) x c.load_kind-takes.ensures.is c.some_lacks.ensures c.if-some_lacks.false c.load_kind-takes.auto.arcs c.load_rest.ensures.is
+returns-clause-told c = λ colours binds x sized. row_ready _ _ c.args.env.now _ c.load_kind-takes.ensures.inside colours binds _ sized (c.has_effect.ensures colours binds) (ap not c.if-not-has_effect.false) x c.load_kind-takes.ensures.is c.some_lacks.ensures c.if-some_lacks.false c.load_kind-takes.auto.arcs c.load_rest.ensures.is

@@ -1,16 +1,16 @@
 use native.Mathlib.Omega.{arith}
-use Rattle.rows.proofs.Drawn.{upto_begins, upto_goes, upto_ends, kind_begins, kind_goes, kind_ends}
+use Rattle.rows.proofs.Drawn.{upto_begins, kind_begins, kind_goes, kind_ends}
 use Rattle.rows.proofs.effect.load_kind.Goals as goal
 
 pub loop-entry-init : goal.loop-entry-init
-loop-entry-init c = record { upto = upto_begins c.into_iter-entry-iterator.ensures.into_iter_gives c.entries_of-entry-items.ensures kind_begins; low = omega arith; within = λ h. h }
+loop-entry-init c = record { upto = upto_begins c.into_iter-entry-iterator.ensures.into_iter_gives c.entries_of-entry-items.ensures (kind_begins c.args.transition.now _ _ _ _); low = omega arith; within = λ h. h }
 
 pub loop-entry-preserved : goal.loop-entry-preserved
 loop-entry-preserved c = record {
-  upto = upto_goes c.loop-entry.invariant.upto c.in-Some.ensures.steps (λ i h e has so_far. kind_goes so_far h e has c.load_arc-end.ensures.is);
+  upto = kind_goes c.args.env.now c.loop-entry.invariant.upto c.in-Some.ensures.steps (rw (← c.file-file.ensures.is, ← c.plan-plan.ensures.is) c.load_arc-end.ensures.is);
   low = omega arith;
   within = λ h. omega (arith, c.load_arc-end.ensures.within);
 }
 
 pub returns-clause-is : goal.returns-clause-is
-returns-clause-is c = upto_ends c.loop-entry.invariant.upto c.in-None.ensures.steps (λ i few none_next so_far. kind_ends so_far none_next)
+returns-clause-is c = kind_ends c.args.env.now c.loop-entry.invariant.upto c.in-None.ensures.steps

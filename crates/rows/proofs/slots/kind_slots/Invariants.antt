@@ -1,7 +1,7 @@
-use Prim.Native.Nat.{◌≤◌, ◌*◌}
+use Rattle.rows.specs.internal.EntrySteps.{turn_of}
 use Rattle.rows.proofs.Drawn.{Upto}
-use Rattle.rows.proofs.Slotting.{SlotsTo}
+use Rattle.rows.proofs.Slotting.{SlotsUpto}
 use Rattle.rows.proofs.slots.kind_slots.Given as goal
 
 abbrev pub invariant-loop-entry : goal.invariant-loop-entry
-invariant-loop-entry l = Upto l.plan l.base l.entry-iterator (λ i. (l.total ≤ 8192 * i) × SlotsTo l.file l.plan l.base l.total i)
+invariant-loop-entry l = Upto l.transition (turn_of l.fn.kind) l.entry-iterator (SlotsUpto l.transition (turn_of l.fn.kind) l.total)
