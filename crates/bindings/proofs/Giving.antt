@@ -1,11 +1,11 @@
 -- The colours that an order names, given to a transition's variables one by one, and the number of the binding. Assumes nothing.
 use Rattle.std.specs.Prelude.{◌+◌, ◌*◌, ◌&&◌, ◌∷◌}
-use mathlib.Core.Path.{◌≡◌, refl, sym, ap, ap₂, subst, ◌∙◌}
+use mathlib.Core.Path.{◌≡◌, sym, ap, ap₂, subst, ◌∙◌}
 use mathlib.Core.Logic.{⊎_elim}
 use Prim.Native.Nat.{◌≤◌, ◌<◌, ◌^◌}
 use native.Mathlib.Omega.{arith}
 use native.Mathlib.Numerals.{add-one}
-use native.Mathlib.Nat.{eq-or-lt_of_le, mul-one, mul_assoc, add-mul, zero-mul, mul-le-mul, pow-suc, pow-le-pow_right}
+use native.Mathlib.Nat.{eq-or-lt_of_le, mul-one, mul_assoc, add-mul, mul-le-mul, pow-suc, pow-le-pow_right}
 use borrow.Author.Tests.{ltb-true, ltb-false, eq-eqb, ne_eqb}
 use lib.ListN.{set, length-map, length-drop, drop_of_length-le}
 use lib.Seq.{get_or-set_same, get_or-set_other, get_or-take, get_or-drop, drop-cons, length-take-le, ext_get_or}
@@ -29,9 +29,6 @@ pub record Giving (variables sizes colours env : List ℕ) (index k : ℕ) : Typ
   pub fit : fits sizes colours ≡ fits (drop k sizes) (drop k colours)
   pub is : number sizes colours ≡ index * product (drop k sizes) + number (drop k sizes) (drop k colours)
   pub held : (j : ℕ) → j < k → j < length variables → get_or (colours_in env variables) j 0 ≡ get_or colours j 0
-
-pub give_begins : (variables sizes colours env : List ℕ) → Giving variables sizes colours env 0 0
-give_begins variables sizes colours env = record { fit = refl; is = omega (arith, zero-mul (product sizes)); held = λ j less lt. absurd (omega arith) }
 
 module _ {variables sizes colours env after : List ℕ} {index k slot colour : ℕ} {r : Bool} (given : Given slot colour env after r) (here : Giving variables sizes colours env index k)
     (is : colour ≡ get_or colours k 0) (byte : k < length colours) where

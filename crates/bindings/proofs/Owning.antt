@@ -199,6 +199,3 @@ module _ {n : Net} (l : Limits n) {t : ℕ} (lt : t < length n.transitions) wher
       let held_all : r ≡ slot_size slot = omega (arith, held.sized) in
       rw (held_all, held.size, so, add-one k)
       (sym (ap product (take-suc (their_sizes n t) k 0 inside) ∙ product-with (take k (their_sizes n t)) (get_or (their_sizes n t) k 0))))
-
-  pub space_ends : {space : ℕ} (k : ℕ) → 4 ≤ k → space ≡ product (take k (their_sizes n t)) → space ≡ product (their_sizes n t)
-  space_ends k le so = so ∙ ap product (take_all k (their_sizes n t) (omega (arith, few_theirs l lt)))

@@ -2,7 +2,7 @@ use native.Mathlib.Omega.{arith}
 use mathlib.Core.Path.{ap, refl}
 use lib.ListN.{get_or}
 use Prim.Native.Nat.{◌≤◌, ◌+◌, ◌*◌}
-use Rattle.bindings.proofs.Giving.{give_begins, small_number, fits-number}
+use Rattle.bindings.proofs.Giving.{small_number, fits-number}
 use Rattle.bindings.proofs.Naming.{name_other, name_past, name_goes, name_fails, name_ends}
 use Rattle.bindings.proofs.binding.name_order.Goals as goal
 
@@ -14,9 +14,6 @@ returns-then-transitions-t c = name_past _ c.args.orders.now c.args.i (omega (ar
 
 pub returns-then-not-give_slot : goal.returns-then-not-give_slot
 returns-then-not-give_slot c = let (p, lt) = c.own-slot.ensures.known in rw (← ap (λ t. t.drawing) c.transition-transition.ensures) (name_fails _ c.args.orders.now c.args.i p c.requires c.if-orders-at-ne96.false (ap (λ t. t.number) c.transition-transition.ensures) lt c.loop-k-test.true c.own-slot.ensures.is refl c.give_slot.ensures c.loop-k.invariant.1 c.if-not-give_slot.true)
-
-pub loop-k-init : goal.loop-k-init
-loop-k-init c = (omega arith, give_begins _ _ _ _, λ lt. absurd (omega arith))
 
 pub overflow_mul-index : goal.overflow_mul-index
 overflow_mul-index c = let small = small_number {c = 0} _ c.loop-k.invariant.0 c.colours_of.ensures.small.1 (omega arith) in omega (arith, fits-number (c.loop-k.k + 1) small (let h : c.loop-k.k + 1 ≤ 4 = omega arith in h))

@@ -2,7 +2,7 @@ use native.Mathlib.Omega.{arith}
 use mathlib.Core.Path.{refl}
 use Prim.Native.Nat.{◌+◌}
 use Rattle.prepared.proofs.Known.{its_limits, its_form}
-use Rattle.bindings.proofs.Walking.{sets_out, walk_is, walk_turns, walk_stops, walk_ends}
+use Rattle.bindings.proofs.Walking.{sets_out, walk_is, walk_turns, walk_stops}
 use Rattle.bindings.proofs.own.next_binding.Goals as goal
 
 pub loop-k-init : goal.loop-k-init
@@ -13,6 +13,3 @@ returns-then-not-turn_slot c = λ i less b. let (p, lt) = c.own.ensures.known in
 
 pub loop-k-preserved : goal.loop-k-preserved
 loop-k-preserved c = (λ lt. c.own.ensures.known, λ i stands less b. walk_turns _ _ (i + 1) (its_limits stands.0) stands.1 (omega arith) (omega arith) c.own.ensures.is (c.loop-k.invariant.1 i stands less b) refl c.turn_slot.ensures c.if-not-turn_slot.false)
-
-pub returns : goal.returns
-returns c = λ i less b. let stands = c.loop-k.invariant.0 (omega arith) in walk_ends _ _ (i + 1) (its_form stands.0) stands.1 less (omega arith) (c.loop-k.invariant.1 i stands less b)

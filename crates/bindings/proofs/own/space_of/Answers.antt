@@ -1,7 +1,7 @@
 use native.Mathlib.Omega.{arith}
 use Prim.Native.Nat.{◌≤◌, ◌+◌}
 use Rattle.prepared.proofs.Known.{its_limits}
-use Rattle.bindings.proofs.Owning.{small_space, fits_space, space_goes, space_ends}
+use Rattle.bindings.proofs.Owning.{small_space, fits_space, space_goes}
 use Rattle.bindings.proofs.own.space_of.Goals as goal
 
 pub overflow_mul-space : goal.overflow_mul-space
@@ -9,6 +9,3 @@ overflow_mul-space c = omega (arith, fits_space (c.loop-k.k + 1) (small_space _ 
 
 pub loop-k-preserved : goal.loop-k-preserved
 loop-k-preserved c = let (p, lt) = c.own.ensures.known in (small_space _ c.loop-k.invariant.0 c.colours_of-space.ensures.small.1, space_goes (its_limits p) lt _ _ (omega arith) c.own.ensures.is c.colours_of-space.ensures.is c.loop-k.invariant.1, λ some. c.own.ensures.known)
-
-pub returns : goal.returns
-returns c = record { is = let (p, lt) = c.loop-k.invariant.2 (omega arith) in space_ends (its_limits p) lt c.loop-k.k (omega arith) c.loop-k.invariant.1; small = fits_space _ c.loop-k.invariant.0 (omega arith) }
