@@ -4,9 +4,8 @@ use mathlib.Core.Path.{◌≡◌, refl, sym, ap, subst, ◌∙◌}
 use mathlib.Core.List.{append-nil}
 use Prim.Native.Nat.{◌≤◌, ◌<◌}
 use native.Mathlib.Omega.{arith}
-use borrow.Author.Tests.{ltb-true, ltb-false}
 use lib.ListN.{length-map}
-use Rattle.reading.specs.Basics.{ℕ, zero, suc, Bool, true, false, List, [], map, flat_map, Option, none, some, option_map, length, get_or, take, sum, ltb, numbers_from}
+use Rattle.reading.specs.Basics.{ℕ, zero, suc, List, [], map, flat_map, Option, none, some, option_map, length, get_or, take, sum, numbers_from}
 use Rattle.net.specs.Net as net
 use Rattle.net.specs.Net.{Net, net, place_at, arc_on, no_transition, scope, transition_at}
 use Rattle.net.specs.Reader.{read_expression}
@@ -91,16 +90,6 @@ module _ {d : DrawnTransition} {k total : ℕ} {left : Left} (u : Upto d k left 
 -- so many are enough for the first so many transitions
 abbrev pub Enough : Net → ℕ → ℕ → Type 0
 Enough n most t = (u : ℕ) → u < t → RowSlotted n u most
-
-pub enough_more : (n : Net) {most slots r t : ℕ} → Enough n most t → RowSlotted n t slots → most ≤ r → slots ≤ r → Enough n r (t + 1)
-enough_more n {most} {slots} {r} {t} before here a b u h = go (ltb u t) refl
-  where
-    go : (q : Bool) → ltb u t ≡ q → row_slots n (transition_at n u) ≤ r
-    go true e = omega (arith, before u (ltb-true u t e))
-    go false e =
-        let f = ltb-false u t e in
-        let j : u ≡ t = omega arith in
-        omega (arith, subst (λ x. RowSlotted n x slots) (sym j) here)
 
 pub all_enough : (n : Net) {most : ℕ} → Enough n most (length n.transitions) → NetSlotted n most
 all_enough n {most} enough =

@@ -4,16 +4,12 @@ use mathlib.Core.Path.{◌≡◌, refl, sym, ap, ap₂, subst, ◌∙◌}
 use Prim.Native.Nat.{◌≤◌, ◌<◌}
 use native.Mathlib.Omega.{arith}
 use native.Mathlib.Numerals.{add-one}
-use native.Mathlib.Nat.{mul-le-mul}
-use borrow.Author.Tests.{ltb-true}
 use lib.ListN.{length-append, length-map}
-use Rattle.reading.specs.Basics.{ℕ, zero, suc, Bool, true, false, List, [], map, flat_map, none, length, get_elem?, ltb, given, keep, numbers_from, below, product, every}
+use Rattle.reading.specs.Basics.{ℕ, zero, suc, Bool, true, false, List, [], map, flat_map, none, length, get_elem?, ltb, given, keep, numbers_from, below}
 use Rattle.reading.proofs.Lists.{map_same, map_from, length_from, flat_more}
-use Rattle.reading.proofs.Gives.{both_first, both_second}
 use Rattle.firing.specs.declared.Arc.{Arc}
 use Rattle.firing.specs.Arcs.{arcs_of}
-use Rattle.net.specs.Net.{Transition, Net, size_of, sets_of, colours_of, place_at, flat_place_count, arc_on}
-use Rattle.net_file.specs.Limits.{Limits}
+use Rattle.net.specs.Net.{Transition, Net, colours_of, place_at, flat_place_count, arc_on}
 use Rattle.sums.specs.internal.Loaded.{ranks_from, rank_arcs}
 use Rattle.multiset.proofs.Ranks.{ranks_none, ranks_few}
 use Rattle.bindings.specs.Effect.{FlatPlace, flat_places, arc_weight}
@@ -73,18 +69,6 @@ module _ (w : FlatPlace → ℕ) where
 
       many : length ranks ≡ count p
       many = length-map {B = FlatPlace} (below (count p)) (λ r. record { place = p; rank = r }) ∙ length_from 0 (count p)
-
--- ---- where places begin
--- each place has a colour
-sized : (n : Net) → Limits n → (sets : List ℕ) → every (λ set. ltb set (length n.sets)) sets ≡ true → 1 ≤ product (map (size_of n) sets)
-unfolding every
-sized n limits [] e = omega arith
-sized n limits (a ∷ sets) e =
-    let first : 1 ≤ size_of n a = (limits.sizes a (ltb-true a (length n.sets) (both_first _ _ e))).0 in
-    mul-le-mul first (sized n limits sets (both_second (ltb a (length n.sets)) _ e))
-
-pub colours_some : (n : Net) → Limits n → (p : ℕ) → p < length n.places → 1 ≤ colours_of n (place_at n p)
-colours_some n limits p h = sized n limits (sets_of (place_at n p)) (limits.place_sets p h)
 
 -- ---- all places of a kind
 module _ (n : Net) (t : Transition) (env : ℕ → ℕ) (kind : ℕ) where
