@@ -9,12 +9,10 @@ use Rattle.reading.proofs.Permits.{done, holds, fails, behind}
 use Rattle.firing.specs.internal.Loops.{Ran}
 use Rattle.firing.proofs.Running as running
 use Rattle.firing.proofs.Running.{called, length-items}
-use Rattle.net.specs.Net.{Net}
+use Rattle.net.specs.Net.{Net, flat_place_count}
 use Rattle.net_file.specs.NetFile.{read_net}
 use Rattle.bindings.specs.Orders.{fire_order, fire_orders}
-use Rattle.plan.specs.internal.Layout.{flat_places_in}
 use Rattle.prepared.specs.internal.Prepared.{Prepared}
-use Rattle.rows.proofs.Fires.{wrong, fitting}
 
 -- ---- refused files
 pub no_fire : (s : List ℕ) {number place : ℕ} → read_net s ≡ refused number place → (m orders answers : List ℕ) → called (refused number place) m answers ≡ fire_orders s m orders answers
@@ -24,21 +22,21 @@ no_fire s is m orders answers = running.call_refused _ _ _ m _ answers is
 -- ---- files that are read
 module _ {s plan : List ℕ} {n : Net} (ready : Prepared s n plan) (m : List ℕ) where
   -- a marking of another length
-  pub fire_12 : (orders answers : List ℕ) → (length m ≡ flat_places_in plan → ⊥) → called (refused 12 0) m answers ≡ fire_orders s m orders answers
+  pub fire_12 : (orders answers : List ℕ) → (length m ≡ flat_place_count n → ⊥) → called (refused 12 0) m answers ≡ fire_orders s m orders answers
   unfolding fire_orders
-  fire_12 orders answers h = running.call_stops _ _ _ m _ answers ready.read (fails (ne_eqb _ _ (wrong ready m h)))
+  fire_12 orders answers h = running.call_stops _ _ _ m _ answers ready.read (fails (ne_eqb _ _ h))
 
-  module _ (fits : length m ≡ flat_places_in plan) (orders answers : List ℕ) where
+  module _ (fits : length m ≡ flat_place_count n) (orders answers : List ℕ) where
     pub fire_13 : (length orders % 6 ≡ 0 → ⊥) → called (refused 13 0) m answers ≡ fire_orders s m orders answers
     unfolding fire_orders
-    fire_13 h = running.call_stops _ _ _ m _ answers ready.read (behind (eq-eqb _ _ (fitting ready m fits)) (fails (ne_eqb _ _ h)))
+    fire_13 h = running.call_stops _ _ _ m _ answers ready.read (behind (eq-eqb _ _ fits) (fails (ne_eqb _ _ h)))
 
     pub fire_14 : length orders % 6 ≡ 0 → length answers < length orders / 6 → called (refused 14 0) m answers ≡ fire_orders s m orders answers
     unfolding fire_orders
-    fire_14 e h = running.call_stops _ _ _ m _ answers ready.read (behind (eq-eqb _ _ (fitting ready m fits)) (behind (eq-eqb _ _ e) (fails (lt-leb _ _ h))))
+    fire_14 e h = running.call_stops _ _ _ m _ answers ready.read (behind (eq-eqb _ _ fits) (behind (eq-eqb _ _ e) (fails (lt-leb _ _ h))))
 
     pub fire_done : {m' answers' : List ℕ} → length orders % 6 ≡ 0 → length orders / 6 ≤ length answers → Ran (fire_order n) (items 6 orders) m answers m' answers'
         → called (accepted (length orders / 6)) m' answers' ≡ fire_orders s m orders answers
     unfolding fire_orders
     fire_done e h ran =
-        running.call_done _ _ _ m _ answers ready.read (holds (eq-eqb _ _ (fitting ready m fits)) (holds (eq-eqb _ _ e) (holds (le-leb _ _ h) done))) (length-items 6 orders) ran
+        running.call_done _ _ _ m _ answers ready.read (holds (eq-eqb _ _ fits) (holds (eq-eqb _ _ e) (holds (le-leb _ _ h) done))) (length-items 6 orders) ran

@@ -4,33 +4,29 @@
 mod engine;
 
 ghost use Rattle.std.specs.Prelude.{◌≡◌, ◌≤◌, length};
-ghost use Rattle.net.specs.Net.{Net};
 ghost use Rattle.rows.specs.internal.Effects.{room};
-ghost use Rattle.prepared.specs.internal.Prepared.{Prepared};
+ghost use Rattle.prepared.specs.internal.Drawn.{net_of};
 ghost use Rattle.bindings.specs.Orders.{fire_orders};
 ghost use Rattle.coloured.specs.Replies.{fire_called};
 
 use engine::fire_list;
 use firing::Arc;
-use plan::flat_places_of;
-use prepared::prepare;
+use prepared::Drawing;
 use reading::{Reason, Refusal, once_more, refused};
 use rows::{is_small, most_slots};
 
 // Fires a list of orders on a net that has been read, with a list lent for a row's arcs: how many were answered, or the refusal.
 fn fire_with(
-    file: &[u8],
-    plan: &[u32; 3584],
+    drawing: &Drawing,
     marking: &mut [u16],
     orders: &[u8],
     answers: &mut [u8],
     arcs: &mut [Arc],
 ) -> Result<usize, Refusal>
-    ensures { (n : Net) → Prepared file.now n plan.now
-        → room file.now n ≤ length arcs.old
-        → fire_called result marking.new answers.new ≡ fire_orders file.now marking.old orders.now answers.old }
+    requires { room drawing.now.file (net_of drawing.now) ≤ length arcs.old }
+    ensures { fire_called result marking.new answers.new ≡ fire_orders drawing.now.file marking.old orders.now answers.old }
 {
-    if marking.len() != flat_places_of(plan) {
+    if marking.len() != drawing.flat_places() {
         return refused(Reason::WrongMarking, 0);
     }
     if orders.len() % 6 != 0 {
@@ -39,50 +35,44 @@ fn fire_with(
     if answers.len() < orders.len() / 6 {
         return refused(Reason::NoSpace, 0);
     }
-    fire_list(file, plan, marking, orders, answers, arcs);
+    fire_list(drawing, marking, orders, answers, arcs);
     Ok(orders.len() / 6)
 }
 
 // With a list of so many arcs, where the rows have room in it. Kept apart (once_more).
 #[inline(never)]
 fn fire_in<const ARCS: usize>(
-    file: &[u8],
-    plan: &[u32; 3584],
+    drawing: &Drawing,
     marking: &mut [u16],
     orders: &[u8],
     answers: &mut [u8],
     again: bool,
 ) -> Result<usize, Refusal>
-    requires { ARCS ≤ 20480 }
-    ensures { (n : Net) → Prepared file.now n plan.now
-        → room file.now n ≤ ARCS
-        → fire_called result marking.new answers.new ≡ fire_orders file.now marking.old orders.now answers.old }
+    requires few { ARCS ≤ 20480 }
+    requires roomy { room drawing.now.file (net_of drawing.now) ≤ ARCS }
+    ensures { fire_called result marking.new answers.new ≡ fire_orders drawing.now.file marking.old orders.now answers.old }
 {
-    if once_more(file, again) {
-        return fire_in::<ARCS>(file, plan, marking, orders, answers, false);
+    if once_more(drawing.file(), again) {
+        return fire_in::<ARCS>(drawing, marking, orders, answers, false);
     }
-    let mut arcs = [Arc {
-        place: 0,
-        weight: 0,
-    }; ARCS];
-    fire_with(file, plan, marking, orders, answers, &mut arcs)
+    let mut arcs = [Arc::default(); ARCS];
+    fire_with(drawing, marking, orders, answers, &mut arcs)
 }
 
 // Fires a list of orders on a net that has been read. The larger list has room for every net.
 fn fire_on(
-    file: &[u8],
-    plan: &[u32; 3584],
+    drawing: &Drawing,
     marking: &mut [u16],
     orders: &[u8],
     answers: &mut [u8],
 ) -> Result<usize, Refusal>
-    ensures { (n : Net) → Prepared file.now n plan.now
-        → fire_called result marking.new answers.new ≡ fire_orders file.now marking.old orders.now answers.old }
+    ensures { fire_called result marking.new answers.new ≡ fire_orders drawing.now.file marking.old orders.now answers.old }
 {
-    if is_small(most_slots(file, plan), file.len()) {
-        return fire_in::<1024>(file, plan, marking, orders, answers, true);
+    let file = drawing.file();
+    if is_small(most_slots(drawing), file.len()) {
+        return fire_in::<1024>(drawing, marking, orders, answers, true);
     }
-    fire_in::<20480>(file, plan, marking, orders, answers, true)
+    fire_in::<20480>(drawing, marking, orders, answers, true)
 }
 
 // Fires a list of orders, 6 bytes each, on a net file and a marking, an answer each: how many were answered. A refusal changes neither list.
@@ -96,6 +86,6 @@ pub fn fire_orders(
         ≡ fire_orders net.now marking.old orders.now answers.old }
 {
     let mut plan = [0u32; 3584];
-    prepare(net, &mut plan, &mut [])?;
-    fire_on(net, &plan, marking, orders, answers)
+    let drawing = Drawing::read(net, &mut plan, &mut [])?;
+    fire_on(&drawing, marking, orders, answers)
 }

@@ -13,11 +13,9 @@ use Rattle.net.specs.Net.{Net, sizes_of, transition_at}
 use Rattle.bindings.specs.Effect.{bindings}
 use Rattle.bindings.specs.Orders.{order_of, fire_order}
 use Rattle.bindings.specs.internal.Numbers.{before}
-use Rattle.plan.specs.internal.Layout.{transitions_in}
 use Rattle.prepared.proofs.Known.{its_limits}
 use Rattle.prepared.specs.internal.Prepared.{Prepared}
-use Rattle.bindings.specs.internal.Bindings.{fire_binding}
-use Rattle.bindings.specs.internal.Bindings.{numbered}
+use Rattle.bindings.specs.internal.Bindings.{fire_binding, numbered}
 use Rattle.bindings.proofs.NamedOrders.{order_names}
 use Rattle.bindings.proofs.Digits.{bindings_at, before_next, before_all}
 use Rattle.rows.proofs.Fires.{names}
@@ -31,10 +29,7 @@ pub seek_begin : (n : Net) (m : List ℕ) → Seeking n m 0 0
 seek_begin n m = record { none = search_begin _ _; at = refl }
 
 module _ {s plan : List ℕ} {n : Net} (ready : Prepared s n plan) (m : List ℕ) where
-  module _ (t tried many : ℕ) (lt : t < transitions_in plan) (here : Seeking n m tried t) (counted : many ≡ product (sizes_of n (transition_at n t))) where
-    inside : t < length n.transitions
-    inside = omega (arith, ready.transitions_are)
-
+  module _ (t tried many : ℕ) (inside : t < length n.transitions) (here : Seeking n m tried t) (counted : many ≡ product (sizes_of n (transition_at n t))) where
     -- each of them is an order among all, answered as the binding is
     abbrev test : List ℕ → Bool
     test order = eqb (fire_order n order m).answer 0
@@ -55,9 +50,8 @@ module _ {s plan : List ℕ} {n : Net} (ready : Prepared s n plan) (m : List ℕ
     whole = stretch test (map order_of (bindings n)) tried (λ j. order_of (numbered n t j)) probe many 0 (rw add-zero here.none) tries
 
     -- one of them fires
-    pub seek_found : (i : ℕ) → first probe (below many) ≡ found i (i + 1) → i < many
-        → (first test (map order_of (bindings n)) ≡ found (order_of (numbered n t i)) (tried + i + 1)) × (t < length n.transitions) × (i < product (sizes_of n (transition_at n t)))
-    seek_found i is few = (subst (Stretch test (map order_of (bindings n)) tried (λ j. order_of (numbered n t j)) probe (0 + many)) is whole, inside, omega (arith, counted))
+    pub seek_found : (i : ℕ) → first probe (below many) ≡ found i (i + 1) → first test (map order_of (bindings n)) ≡ found (order_of (numbered n t i)) (tried + i + 1)
+    seek_found i is = subst (Stretch test (map order_of (bindings n)) tried (λ j. order_of (numbered n t j)) probe (0 + many)) is whole
 
     -- none does: the next transition
     pub seek_next : first probe (below many) ≡ nothing many → Seeking n m (tried + many) (t + 1)
@@ -68,8 +62,8 @@ module _ {s plan : List ℕ} {n : Net} (ready : Prepared s n plan) (m : List ℕ
           at = omega (arith, before_next n t inside, counted, here.at);
         }
 
-  -- no transition is left
-  pub seek_none : (t tried : ℕ) → Seeking n m tried t → t ≡ transitions_in plan → first (λ order. eqb (fire_order n order m).answer 0) (map order_of (bindings n)) ≡ nothing tried
-  seek_none t tried here e =
-      let all : length (map order_of (bindings n)) ≡ tried = length-map (bindings n) order_of ∙ sym (before_all n) ∙ ap (before n) (ready.transitions_are ∙ sym e) ∙ sym here.at in
-      search_none _ _ here.none (omega arith) ∙ ap nothing all
+-- no transition is left
+pub seek_none : (n : Net) (m : List ℕ) (t tried : ℕ) → Seeking n m tried t → t ≡ length n.transitions → first (λ order. eqb (fire_order n order m).answer 0) (map order_of (bindings n)) ≡ nothing tried
+seek_none n m t tried here e =
+    let all : length (map order_of (bindings n)) ≡ tried = length-map (bindings n) order_of ∙ sym (before_all n) ∙ ap (before n) (sym e) ∙ sym here.at in
+    search_none _ _ here.none (omega arith) ∙ ap nothing all

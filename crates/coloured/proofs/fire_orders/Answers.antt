@@ -1,9 +1,8 @@
 use Rattle.std.proofs.lemmas.Result.{err_from_is_err_and}
-use Rattle.prepared.proofs.Known.{the_refusal}
 use Rattle.coloured.proofs.Calling.{no_fire}
 use Rattle.coloured.proofs.fire_orders.Goals as goal
 
-pub returns-in_err-prepare : goal.returns-in_err-prepare
-returns-in_err-prepare c =
+pub returns-in_err-drawing : goal.returns-in_err-drawing
+returns-in_err-drawing c =
     let p = err_from_is_err_and c.from_residual.result c.from_residual.ensures.1 in
-    rw (p.1, p.2) (no_fire _ (the_refusal _ _ _ c.in_err-prepare.was c.prepare.ensures) _ _ _)
+    rw (p.1, p.2) (no_fire _ c.in_err-drawing.ensures _ _ _)
