@@ -1,6 +1,6 @@
 -- The bytes of the rows, where no row of a transition has more arcs than so many; and the loop that adds the bounds up. Assumes nothing.
 use Rattle.std.specs.Prelude.{◌+◌, ◌*◌, ◌∷◌, ◌++◌, if◌then◌else◌}
-use mathlib.Core.Path.{◌≡◌, refl, sym, ◌∙◌}
+use mathlib.Core.Path.{◌≡◌, refl}
 use Prim.Native.Nat.{◌≤◌, ◌<◌}
 use native.Mathlib.Omega.{arith}
 use native.Mathlib.Nat.{zero-mul, suc-mul, mul-le-mul}
@@ -9,15 +9,15 @@ use Rattle.reading.specs.Basics.{ℕ, zero, suc, Bool, true, false, List, [], fl
 use Rattle.firing.specs.Firing.{Weights}
 use Rattle.flat_file.specs.Flat.{row_bytes}
 use Rattle.flat_file.proofs.Written.{length-row}
-use Rattle.net.specs.Net.{Net, sizes_of, transition_at, flat_place_count}
-use Rattle.plan.specs.internal.Layout.{flat_places_in}
+use Rattle.net.specs.Net.{Net, sizes_of, transition_at}
+use Rattle.prepared.specs.internal.Drawn.{Drawn, net_of, IsDrawn}
 use Rattle.bindings.specs.Effect.{effect, flat_row}
 use Rattle.bindings.specs.internal.Bindings.{numbered}
 use Rattle.row_lengths.specs.internal.MostRows.{MostRow}
 use Rattle.row_bytes.specs.internal.RowBytes.{binding_bytes, transition_bytes, Ruled}
 use Rattle.row_numbers.specs.internal.Walked.{takes_effect, entries}
-use Rattle.row_numbers.specs.internal.Marks.{RowsCounted}
-use Rattle.row_numbers.proofs.Marking.{marks_few, effects-most}
+use Rattle.row_numbers.proofs.Effects.{effects-most}
+use Rattle.row_numbers.proofs.Marking.{marks_few}
 use Rattle.row_bytes.proofs.RowBytes.{Measuring, measure_begins, measure_goes, measure_ends}
 
 -- ---- rows of no more bytes than so many
@@ -52,28 +52,23 @@ pieces_most f p row a (suc m) e = go (p a) (e a (omega arith) (omega arith)) (pi
 pub product-most : (rows row : ℕ) → rows ≤ 65536 → row ≤ 31456801 → rows * row ≤ 2100000000000
 product-most rows row h k = omega (arith, mul-le-mul h k)
 
--- ---- what the table tells
--- how many flat places there are
-pub front_is : {s plan marks : List ℕ} (ruled : Ruled s plan marks) {count : ℕ} → count ≡ flat_places_in plan → count ≡ flat_place_count ruled.net
-front_is ruled e = e ∙ sym ruled.ready.flat_places_are
+-- ---- what is known of the net
+module _ {drawing : Drawn} {marks counts : List ℕ} (ready : IsDrawn drawing.file drawing.plan) (ruled : Ruled drawing marks counts) {t : ℕ} (lt : t < length (net_of drawing).transitions) where
+  abbrev many : ℕ
+  many = product (sizes_of (net_of drawing) (transition_at (net_of drawing) t))
 
-module _ {s plan marks rows : List ℕ} (ruled : Ruled s plan marks) (counted : RowsCounted ruled.net rows (length ruled.net.transitions))
-    {t : ℕ} (lt : t < length ruled.net.transitions) where
   -- a transition has few rows
-  pub rows_few : get_or rows t 0 ≤ 65536
-  rows_few =
-      let many = product (sizes_of ruled.net (transition_at ruled.net t)) in
-      omega (arith, counted.row t lt, effects-most ruled.net t many, marks_few ruled.ready {many = many} {base = entries ruled.net plan t} lt refl refl)
+  pub rows_few : get_or counts t 0 ≤ 65536
+  rows_few = omega (arith, ruled.counted.row t lt, effects-most (net_of drawing) t many, marks_few ready {many = many} {base = entries (net_of drawing) drawing.plan t} lt refl refl)
 
   -- and they take no more bytes than so many of the longest
-  pub transition_most : {most : ℕ} → MostRow s plan t most → length (transition_bytes ruled.net t) ≤ get_or rows t 0 * (1 + 5 * most)
+  pub transition_most : {most : ℕ} → MostRow (net_of drawing) t most → length (transition_bytes (net_of drawing) t) ≤ get_or counts t 0 * (1 + 5 * most)
   unfolding transition_bytes
   transition_most told =
-      let many = product (sizes_of ruled.net (transition_at ruled.net t)) in
-      rw (counted.row t lt) (pieces_most (binding_bytes ruled.net t) (takes_effect ruled.net t) _ 0 many (λ i a b. bytes_if ruled.net t i _ (λ w e. omega (
+      rw (ruled.counted.row t lt) (pieces_most (binding_bytes (net_of drawing) t) (takes_effect (net_of drawing) t) _ 0 many (λ i a b. bytes_if (net_of drawing) t i _ (λ w e. omega (
         arith,
-        length-row (flat_row ruled.net w),
-        told ruled.net ruled.ready lt i w (omega arith) e,
+        length-row (flat_row (net_of drawing) w),
+        told i w (omega arith) e,
       ))))
 
 -- ---- all of them

@@ -15,26 +15,26 @@ use Rattle.flat_file.specs.Flat.{row_bytes}
 use Rattle.net.specs.Net.{Net, sizes_of, transition_at}
 use Rattle.bindings.specs.Effect.{Binding, choices, bindings, effect, flat_row}
 use Rattle.bindings.specs.internal.Numbers.{digits}
-use Rattle.bindings.specs.internal.Bindings.{Binds, numbered}
+use Rattle.bindings.specs.internal.Bindings.{numbered, its_sizes, its_binding, BindsIts}
 use Rattle.bindings.specs.internal.Legal.{every_row}
 use Rattle.rows.specs.internal.Effects.{RowLoaded}
 use Rattle.rows.specs.internal.Loading.{LoadsRow}
-use Rattle.prepared.specs.internal.Prepared.{Prepared}
+use Rattle.prepared.specs.internal.Drawn.{Drawn, net_of, DrawnTransition, drawn_transition, its_net, IsDrawn}
+use Rattle.net_file.specs.Limits.{Limits}
 use Rattle.prepared.proofs.Known.{its_limits}
 use Rattle.bindings.proofs.Bindings.{bound, bindings_of, choices-length}
 use Rattle.bindings.proofs.Digits.{choices_at}
 use Rattle.reading.proofs.Lists.{flat_flat}
 use Rattle.row_numbers.specs.Unfolding.{Rowed, rows, unfolded}
-use Rattle.row_numbers.specs.internal.Walked.{takes_effect, entries_at, entries}
+use Rattle.row_numbers.specs.internal.Walked.{takes_effect, its_every_row, it_takes, entries_at, entries}
 use Rattle.row_numbers.specs.internal.Marks.{mark_at, has_row}
-use Rattle.row_bytes.specs.internal.RowBytes.{binding_bytes, transition_bytes, Ruled, Known, Bound, Here, Roomy}
+use Rattle.row_bytes.specs.internal.RowBytes.{binding_bytes, transition_bytes, bytes_at, its_bytes, Ruled, Known, Bound, Roomy}
+use Rattle.row_bytes.specs.internal.StretchSteps.{Told}
+use Rattle.row_bytes.specs.declared.stretch.Stretch.{Stretch}
+use Rattle.std.specs.Prelude.{Some, None}
 use Rattle.flat_file.proofs.Appending.{length_row_in, Going, go_begin}
 use Rattle.row_numbers.proofs.Rows.{rowed_if}
-use Rattle.row_numbers.proofs.Tabled.{entries_next, entries_begin, in_net}
-use Rattle.row_bytes.specs.internal.StretchSteps.{Next, Told}
-use Rattle.row_bytes.specs.declared.stretch.Stretch.{Stretch}
-use Rattle.row_bytes.specs.declared.stretch.Stretches.{Stretches as Left}
-use Rattle.std.specs.Prelude.{Some, None}
+use Rattle.row_numbers.proofs.Tabled.{entries_next}
 use Rattle.row_numbers.proofs.Marking.{marks_few, marks_told}
 
 -- ---- lists
@@ -114,38 +114,24 @@ no_effect n t i e = go (effect n (numbered n t i)) e
     go (some w) q = let z : ◌≡◌ {A = ℕ} 0 1 = cc in absurd (omega arith)
 
 -- its row was loaded
-module _ {s plan env : List ℕ} {t : ℕ} (it : Bound s plan env t) (list list' : List Arc) {r : Ends} (told : LoadsRow s plan env t list list' r) (p : Roomy s list) where
-  pub row_here : RowLoaded it.net (numbered it.net t it.index) list' r.takes r.puts r.hinders
-  row_here = told it.net (digits (sizes_of it.net (transition_at it.net t)) it.index) it.ready it.stands it.binds (p it.net it.ready.read)
+module _ {transition : DrawnTransition} (limits : Limits (its_net transition)) {env : List ℕ} (it : Bound transition env) (list list' : List Arc) {r : Ends}
+    (told : LoadsRow transition.drawing.file (its_net transition) env transition.number list list' r) (p : Roomy transition.drawing list) where
+  pub row_here : RowLoaded (its_net transition) (its_binding transition it.index) list' r.takes r.puts r.hinders
+  row_here = told (digits (its_sizes transition) it.index) it.binds p
 
   pub row_fits : r.hinders ≤ 12288
-  row_fits = omega (arith, row_here.fits, (its_limits it.ready).flat_places_lem)
+  row_fits = omega (arith, row_here.fits, limits.flat_places_lem)
 
-  pub gives_row : binding_bytes it.net t it.index ≡ row_bytes (row_in list' r.takes r.puts r.hinders)
+  pub gives_row : bytes_at transition it.index ≡ row_bytes (row_in list' r.takes r.puts r.hinders)
   unfolding binding_bytes
-  gives_row = by_effect it.net t it.index it.takes_effect_lem (λ w q. rw q (ap row_bytes (sym (row_here.row w q))))
+  gives_row = by_effect (its_net transition) transition.number it.index it.takes_effect_lem (λ w q. rw q (ap row_bytes (sym (row_here.row w q))))
 
   -- as it is held
-  pub gives_held : {held : Row} → held ≡ row_in list' r.takes r.puts r.hinders → binding_bytes it.net t it.index ≡ row_bytes held
+  pub gives_held : {held : Row} → held ≡ row_in list' r.takes r.puts r.hinders → bytes_at transition it.index ≡ row_bytes held
   gives_held e = gives_row ∙ ap row_bytes (sym e)
 
-  pub gives_length : EndsWithin list' r.takes r.puts r.hinders → length (binding_bytes it.net t it.index) ≡ 1 + 5 * r.hinders
+  pub gives_length : EndsWithin list' r.takes r.puts r.hinders → length (bytes_at transition it.index) ≡ 1 + 5 * r.hinders
   gives_length within = ap length gives_row ∙ length_row_in list' r.takes r.puts r.hinders within
-
--- whether it has one is told
-module _ {s plan env marks : List ℕ} {t k : ℕ} (here : Here s plan env marks t k) {b : Bool} (e : k < 65536 → b ≡ has_row (every_row plan t) marks k) where
-  pub gives_nothing : b ≡ false → binding_bytes here.net t here.index ≡ []
-  gives_nothing q = no_effect here.net t here.index (sym here.told ∙ sym (e here.few) ∙ q)
-
-  abbrev pub bound_here : b ≡ true → Bound s plan env t
-  bound_here q = record {
-    net = here.net;
-    index = here.index;
-    ready = here.ready;
-    stands = here.stands;
-    binds = here.binds;
-    takes_effect_lem = sym here.told ∙ sym (e here.few) ∙ q;
-  }
 
 -- ---- the loops
 -- the numbers that are left
@@ -196,122 +182,59 @@ module _ (f : ℕ → List ℕ) (many start : ℕ) where
 pub write_begins : (f : ℕ → List ℕ) (many : ℕ) (out : List ℕ) (at : ℕ) → Going f (below many) (numbers_from 0 (many - 0)) out out at at
 write_begins f many out at = let e : many - 0 ≡ many = omega arith in rw e (go_begin f (below many) out at)
 
--- ---- from bindings to a transition, and from transitions to all
--- a binding in the walk over a transition
-module _ {s plan marks : List ℕ} {t many base : ℕ} (known : Known s plan marks t many base) where
-  abbrev pub here_of : {env : List ℕ} {i : ℕ} → i < many → Binds known.net (numbered known.net t i) env → Here s plan env marks t (base + i)
-  here_of {i = i} lt binds = record {
-    net = known.net;
-    index = i;
-    ready = known.ready;
-    stands = known.stands;
-    binds = binds;
-    few = omega (arith, known.few);
-    told = known.told i lt;
-  }
+-- ---- the bindings of a transition
+module _ {transition : DrawnTransition} {marks : List ℕ} {many base : ℕ} (known : Known transition marks many base) where
+  -- one that has a row, or none, as is told
+  module _ {i : ℕ} (lt : i < many) {b : Bool} (e : base + i < 65536 → b ≡ has_row (its_every_row transition) marks (base + i)) where
+    pub takes_it : b ≡ it_takes transition i
+    takes_it = e (omega (arith, known.few)) ∙ known.told i lt
+
+    pub gives_nothing : b ≡ false → bytes_at transition i ≡ []
+    gives_nothing q = no_effect (its_net transition) transition.number i (sym takes_it ∙ q)
+
+    abbrev pub bound_here : {env : List ℕ} → BindsIts transition i env → b ≡ true → Bound transition env
+    bound_here binds q = record { index = i; binds = binds; takes_effect_lem = sym takes_it ∙ q }
+
+    -- then it is passed over
+    pub known_past : b ≡ false → flat_map (bytes_at transition) (numbers_from i (many - i)) ≡ flat_map (bytes_at transition) (numbers_from (i + 1) (many - (i + 1)))
+    known_past q = left_over (bytes_at transition) many i 1 (omega arith) (λ j less. let z : i + j ≡ i = omega arith in rw z (gives_nothing q))
 
   -- where a word of marks is 0, 32 bindings give nothing
-  pub known_over : (i : ℕ) → i + 32 ≤ many → every_row plan t ≡ false → ((j : ℕ) → j < 32 → mark_at marks (base + i + j) ≡ false)
-      → flat_map (binding_bytes known.net t) (numbers_from i (many - i)) ≡ flat_map (binding_bytes known.net t) (numbers_from (i + 32) (many - (i + 32)))
+  pub known_over : (i : ℕ) → i + 32 ≤ many → its_every_row transition ≡ false → ((j : ℕ) → j < 32 → mark_at marks (base + i + j) ≡ false)
+      → flat_map (bytes_at transition) (numbers_from i (many - i)) ≡ flat_map (bytes_at transition) (numbers_from (i + 32) (many - (i + 32)))
   known_over i le marked blank =
-      left_over (binding_bytes known.net t) many i 32 le (λ j lt.
+      left_over (bytes_at transition) many i 32 le (λ j lt.
       let e : base + (i + j) ≡ base + i + j = omega arith in
-      no_effect known.net t (i + j) (sym (known.told (i + j) (omega arith)) ∙ rw (marked, e) (blank j lt)))
+      no_effect (its_net transition) transition.number (i + j) (sym (known.told (i + j) (omega arith)) ∙ rw (marked, e) (blank j lt)))
 
-  -- and where one has no row, it alone
-  pub known_past : (i : ℕ) → i < many → {b : Bool} → (base + i < 65536 → b ≡ has_row (every_row plan t) marks (base + i)) → b ≡ false
-      → flat_map (binding_bytes known.net t) (numbers_from i (many - i)) ≡ flat_map (binding_bytes known.net t) (numbers_from (i + 1) (many - (i + 1)))
-  known_past i lt e q =
-      left_over (binding_bytes known.net t) many i 1 (omega arith) (λ j less.
-      let z : i + j ≡ i = omega arith in
-      rw z (no_effect known.net t i (sym (known.told i lt) ∙ sym (e (omega (arith, known.few))) ∙ q)))
-
-  -- the colours of the next, or so many on
-  pub binds_on : (env after : List ℕ) (i step : ℕ)
-      → ((s : List ℕ) (n : Net) (i : ℕ) → Prepared s n plan → t < length n.transitions → i + step < product (sizes_of n (transition_at n t))
-      → Binds n (numbered n t i) env → Binds n (numbered n t (i + step)) after)
-      → Binds known.net (numbered known.net t i) env → i + step < many → Binds known.net (numbered known.net t (i + step)) after
-  binds_on env after i step next binds lt = next s known.net i known.ready known.stands (omega (arith, known.size)) binds
-
--- a transition in the walk over all
-module _ {s plan marks : List ℕ} (ruled : Ruled s plan marks) {t many : ℕ} (lt : t < length ruled.net.transitions)
-    (told : (s : List ℕ) (n : Net) → Prepared s n plan → t < length n.transitions → many ≡ product (sizes_of n (transition_at n t))) where
-  pub all_many : many ≡ product (sizes_of ruled.net (transition_at ruled.net t))
-  all_many = told s ruled.net ruled.ready lt
-
-  pub all_given : flat_map (binding_bytes ruled.net t) (below many) ≡ transition_bytes ruled.net t
+  -- what all of them give
+  pub all_given : flat_map (bytes_at transition) (below many) ≡ its_bytes transition
   unfolding transition_bytes
-  all_given = ap (λ k. flat_map (binding_bytes ruled.net t) (below k)) all_many
+  all_given = ap (λ k. flat_map (bytes_at transition) (below k)) known.size
 
-  abbrev pub known_of : {base : ℕ} → base ≡ entries ruled.net plan t → Known s plan marks t many base
-  known_of from = record {
-    net = ruled.net;
-    ready = ruled.ready;
-    stands = lt;
-    size = all_many;
-    few = marks_few ruled.ready lt all_many from;
-    told = marks_told ruled.ready lt all_many from ruled.marked;
-  }
+-- ---- from one transition to the next
+module _ {drawing : Drawn} {marks counts : List ℕ} (ready : IsDrawn drawing.file drawing.plan) (ruled : Ruled drawing marks counts) {t base : ℕ} (lt : t < length (net_of drawing).transitions)
+    (from : base ≡ entries (net_of drawing) drawing.plan t) {transition : DrawnTransition} (is : transition ≡ drawn_transition drawing t) {many : ℕ} (size : many ≡ product (its_sizes transition)) where
+  -- what is known of it
+  pub known_of : Known transition marks many base
+  known_of =
+      let e : many ≡ product (sizes_of (net_of drawing) (transition_at (net_of drawing) t)) = rw is at size in
+      rw is (record { limits = its_limits ready; size = e; few = marks_few ready lt e from; told = marks_told ready lt e from ruled.marked })
 
   -- where the next one's marks stand
-  pub entries_then : {base more : ℕ} → base ≡ entries ruled.net plan t → more ≡ entries_at (every_row plan t) many → base + more ≡ entries ruled.net plan (t + 1)
-  entries_then {base} {more} from e =
-      let q : more ≡ entries_at (every_row plan t) (product (sizes_of ruled.net (transition_at ruled.net t))) = e ∙ ap (entries_at (every_row plan t)) all_many in
-      omega (arith, entries_next ruled.net plan t)
+  pub entries_then : {more : ℕ} → more ≡ entries_at (its_every_row transition) (product (its_sizes transition)) → base + more ≡ entries (net_of drawing) drawing.plan (t + 1)
+  entries_then {more} e =
+      let q : more ≡ entries_at (every_row drawing.plan t) (product (sizes_of (net_of drawing) (transition_at (net_of drawing) t))) = rw is at e in
+      omega (arith, from, entries_next (net_of drawing) drawing.plan t)
 
--- ---- going over the transitions
--- it has come to one, the marks of whose bindings begin there
-pub record Upto (s plan marks : List ℕ) (left : Left) : Type 0 where
-  pub plan_is : left.plan.now ≡ plan
-  pub few : left.t ≤ 32
-  pub begins : (k : Ruled s plan marks) → left.base ≡ entries k.net plan left.t
+-- going over them: one was told, or none is left
+module _ {drawing left : Drawn} (same : left ≡ drawing) {t : ℕ} {left' : Drawn} {t' : ℕ} where
+  module _ {those : Stretch} (told : Told left t (Some those) left' t') where
+    pub those_here : t < length (net_of drawing).transitions
+    those_here = rw same at told.stretch.0
 
--- to the first
-pub first_is : {plan : List ℕ} {all left : Left} → left ≡ all → (all.plan.now ≡ plan) × (all.t ≡ 0) × (all.base ≡ 0) → left.t ≡ 0
-first_is e is = rw e is.1
+    pub those_given : its_bytes those.transition ≡ transition_bytes (net_of drawing) t
+    those_given = rw (told.stretch.1, same)
 
-pub upto_begins : {s plan marks : List ℕ} {all left : Left} → left ≡ all → (all.plan.now ≡ plan) × (all.t ≡ 0) × (all.base ≡ 0) → Upto s plan marks left
-upto_begins {plan = plan} e is = rw e (record { plan_is = is.0; few = omega (arith, is.1); begins = λ k. rw (is.1, is.2) (entries_begin k.net plan) })
-
--- to the next one
-module _ {s plan marks : List ℕ} {left : Left} (u : Upto s plan marks left) {those : Stretch} {plan' : List ℕ} {t' base' : ℕ} (told : Told left.plan.now left.t left.base (Some those) plan' t' base') where
-  next : Next plan left.t left.base those t' base'
-  next = rw u.plan_is at told.stretch
-
-  pub next_is : t' ≡ left.t + 1
-  next_is = next.next_t
-
-  pub those_here : (k : Ruled s plan marks) → left.t < length k.net.transitions
-  those_here k = in_net k.ready refl next.stands
-
-  pub those_given : (k : Ruled s plan marks) → flat_map (binding_bytes k.net those.t) (below those.many) ≡ transition_bytes k.net left.t
-  those_given k = rw next.t_is (all_given k (those_here k) next.many_is)
-
-  pub known_next : (k : Ruled s plan marks) → (i : ℕ) → i < those.many → has_row (every_row plan those.t) marks (those.base + i) ≡ takes_effect k.net those.t i
-  known_next k = rw (next.t_is, next.base_is) (known_of k (those_here k) next.many_is (u.begins k)).told
-
-  pub size_next : (k : Ruled s plan marks) → those.many ≡ product (sizes_of k.net (transition_at k.net those.t))
-  size_next k = rw next.t_is (all_many k (those_here k) next.many_is)
-
-  pub few_next : (k : Ruled s plan marks) → those.base + those.many ≤ 65536
-  few_next k = rw next.base_is (known_of k (those_here k) next.many_is (u.begins k)).few
-
-  pub stands_next : (k : Ruled s plan marks) → those.t < length k.net.transitions
-  stands_next k = rw next.t_is (those_here k)
-
-  next_few : t' ≤ 32
-  next_few = omega (arith, those.few, next.t_is, next.next_t)
-
-  next_begins : (k : Ruled s plan marks) → base' ≡ entries k.net plan t'
-  next_begins k = rw (next.next_t, next.next_base) (entries_then k (those_here k) next.many_is (u.begins k) refl)
-
-pub upto_goes : {s plan marks : List ℕ} {left : Left} (u : Upto s plan marks left) {those : Stretch} {left' : Left} → Told left.plan.now left.t left.base (Some those) left'.plan.now left'.t left'.base → Upto s plan marks left'
-upto_goes u told = record { plan_is = told.same ∙ u.plan_is; few = next_few u told; begins = next_begins u told }
-
-abbrev pub those_known : {s plan marks : List ℕ} {left : Left} (u : Upto s plan marks left) {those : Stretch} {plan' : List ℕ} {t' base' : ℕ} → Told left.plan.now left.t left.base (Some those) plan' t' base'
-    → (k : Ruled s plan marks) → Known s plan marks those.t those.many those.base
-those_known u told k = record { net = k.net; ready = k.ready; stands = stands_next u told k; size = size_next u told k; few = few_next u told k; told = known_next u told k }
-
--- none is left
-pub upto_ends : {s plan marks : List ℕ} {left : Left} → Upto s plan marks left → {plan' : List ℕ} {t' base' : ℕ} → Told left.plan.now left.t left.base None plan' t' base' → (k : Ruled s plan marks) → length k.net.transitions ≤ left.t
-upto_ends u told k = omega (arith, k.ready.transitions_are, rw u.plan_is at told.stretch)
+  pub none_left : Told left t None left' t' → length (net_of drawing).transitions ≤ t
+  none_left told = rw same at told.stretch

@@ -1,49 +1,41 @@
 // Whether the flat file fits into a lent list: by a bound on each transition's rows, and measured only where the bound does not tell.
-ghost use Rattle.std.specs.Prelude.{◌≡◌, List, ℕ, ◌+◌, ◌*◌, ◌≤◌, ◌<◌, length, get_or, leb};
+ghost use Rattle.std.specs.Prelude.{◌≡◌, ◌+◌, ◌*◌, ◌≤◌, length, leb};
 ghost use Rattle.net.specs.Net.{flat_place_count};
-ghost use Rattle.plan.specs.internal.Layout.{transitions_in};
-ghost use Rattle.row_bytes.specs.internal.RowBytes.{all_bytes, Ruled, Roomy};
-ghost use Rattle.row_numbers.specs.internal.Marks.{RowsCounted};
+ghost use Rattle.prepared.specs.internal.Drawn.{net_of};
+ghost use Rattle.row_bytes.specs.internal.RowBytes.{all_bytes, Roomy};
 
-use crate::flat_rows::Marked;
+use crate::marked::Marked;
 use firing::Arc;
-use plan::{flat_places_of, transitions_of};
 use row_lengths::most_row;
 
-// How many bytes the rows of all transitions take at most. No row is loaded for it.
-fn bound_all(file: &[u8], plan: &[u32; 3584], rows: &[usize; 32]) -> usize
-    requires { (t : ℕ) → t < transitions_in plan.now → get_or rows.now t 0 ≤ 65536 }
-    ensures is { (marks : List ℕ) (k : Ruled file.now plan.now marks)
-        → RowsCounted k.net rows.now (length k.net.transitions) → length (all_bytes k.net) ≤ result }
-    ensures small { result ≤ 67200000000000 }
-{
-    let mut total: usize = 0;
-    for t in 0..transitions_of(plan) {
-        let most = most_row(file, plan, t);
-        total += rows[t] * (1 + 5 * most);
+impl Marked<'_> {
+    // How many bytes the rows of all transitions take at most. No row is loaded for it.
+    fn bound_all(&self) -> usize
+        ensures is { length (all_bytes (net_of self.now.drawing.now)) ≤ result }
+        ensures small { result ≤ 67200000000000 }
+    {
+        let Marked {
+            drawing,
+            counts,
+            ..
+        } = *self;
+        let mut total: usize = 0;
+        for t in 0..drawing.transitions() {
+            let most = most_row(&drawing.transition(t));
+            total += counts[t] * (1 + 5 * most);
+        }
+        total
     }
-    total
-}
 
-// Whether a flat file with these rows fits into so many bytes.
-pub fn fits(
-    file: &[u8],
-    plan: &[u32; 3584],
-    marks: &[u32; 2048],
-    rows: &[usize; 32],
-    arcs: &mut [Arc],
-    size: usize,
-) -> bool
-    requires roomy { Roomy file.now arcs.old }
-    requires rows_counted { (k : Ruled file.now plan.now marks.now) × RowsCounted k.net rows.now (length k.net.transitions) }
-    ensures { (k : Ruled file.now plan.now marks.now)
-        → RowsCounted k.net rows.now (length k.net.transitions)
-        → result ≡ leb (3 + 3 * flat_place_count k.net + length (all_bytes k.net)) size }
-{
-    let front = 3 + 3 * flat_places_of(plan);
-    if front + bound_all(file, plan, rows) <= size {
-        return true;
+    // Whether a flat file with its rows fits into so many bytes.
+    pub fn fits(&self, arcs: &mut [Arc], size: usize) -> bool
+        requires { Roomy self.now.drawing.now arcs.old }
+        ensures { result ≡ leb (3 + 3 * flat_place_count (net_of self.now.drawing.now) + length (all_bytes (net_of self.now.drawing.now))) size }
+    {
+        let front = 3 + 3 * self.drawing.flat_places();
+        if front + self.bound_all() <= size {
+            return true;
+        }
+        front + self.measure_all(arcs) <= size
     }
-    let net = Marked { file, plan, marks };
-    front + net.measure_all(arcs) <= size
 }

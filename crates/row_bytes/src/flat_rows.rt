@@ -1,150 +1,116 @@
-// The rows of a flat file, from a prepared net: how many bytes they take, and the bytes themselves, binding by binding.
-ghost use Rattle.std.specs.Prelude.{◌≡◌, ◌+◌, ◌*◌, ◌≤◌, ◌<◌, length};
-ghost use Rattle.reading.specs.Basics.{flat_map, below};
+// The rows of a flat file, from a net with its marks: how many bytes they take, and the bytes themselves, binding by binding.
+ghost use Rattle.std.specs.Prelude.{◌≡◌, ◌+◌, ◌≤◌, ◌<◌, length};
+ghost use Rattle.prepared.specs.internal.Drawn.{net_of};
+ghost use Rattle.bindings.specs.internal.Bindings.{BindsIts};
 ghost use Rattle.flat_file.specs.internal.Output.{Appended};
-ghost use Rattle.row_bytes.specs.internal.RowBytes.{binding_bytes, all_bytes, Ruled, Known, Bound, Here, Roomy};
+ghost use Rattle.row_bytes.specs.internal.RowBytes.{bytes_at, its_bytes, all_bytes, Bound, Roomy};
 
-use crate::stretch::{Stretch, all_stretches};
+use crate::marked::Marked;
+use crate::stretch::Stretch;
 use bindings::{next_binding, skip_bindings};
 use firing::{Arc, row_arcs};
 use flat_file::write_row;
 use row_numbers::{has_none, has_row};
 use rows::load_row;
 
-// A prepared net, and which of its bindings have rows.
-#[derive(Clone, Copy)]
-pub struct Marked<'a> {
-    pub file: &'a [u8],
-    pub plan: &'a [u32; 3584],
-    pub marks: &'a [u32; 2048],
-}
-
-impl Marked<'_> {
-    // How many bytes a binding gives: those of its row, if it has one. Its mark is number k.
-    fn measure_one(&self, env: &[u8; 32], t: usize, k: usize, arcs: &mut [Arc]) -> usize
-        requires t_bound { t < 32 }
-        requires roomy { Roomy self.now.file.now arcs.old }
-        requires here { Here self.now.file.now self.now.plan.now env.now self.now.marks.now t k }
-        ensures is { (h : Here self.now.file.now self.now.plan.now env.now self.now.marks.now t k) → result ≡ length (binding_bytes h.net t h.index) }
+impl Stretch<'_> {
+    // How many bytes binding number i gives: those of its row, if it has one.
+    fn measure_one(&self, env: &[u8; 32], i: usize, arcs: &mut [Arc]) -> usize
+        requires inside { i < self.now.many }
+        requires binds { BindsIts self.now.transition i env.now }
+        requires roomy { Roomy self.now.transition.drawing arcs.old }
+        ensures is { result ≡ length (bytes_at self.now.transition i) }
         ensures small { result ≤ 61441 }
     {
-        if has_row(self.plan, t, self.marks, k) {
-            let ends = load_row(self.file, self.plan, env, t, arcs);
+        if has_row(&self.transition, self.marks, self.base + i) {
+            let ends = load_row(&self.transition, env, arcs);
             return 1 + 5 * ends.hinders;
         }
         0
     }
 
-    // How many bytes all bindings of a transition give.
-    fn measure_bindings(&self, those: Stretch, arcs: &mut [Arc]) -> usize
-        requires roomy { Roomy self.now.file.now arcs.old }
-        requires known { Known self.now.file.now self.now.plan.now self.now.marks.now those.t those.many those.base }
-        ensures is { (k : Known self.now.file.now self.now.plan.now self.now.marks.now those.t those.many those.base)
-            → result ≡ length (flat_map (binding_bytes k.net those.t) (below those.many)) }
+    // How many bytes all of them give.
+    fn measure_bindings(&self, arcs: &mut [Arc]) -> usize
+        requires roomy { Roomy self.now.transition.drawing arcs.old }
+        ensures is { result ≡ length (its_bytes self.now.transition) }
         ensures small { result ≤ 4026597376 }
     {
-        let plan = self.plan;
-        let Stretch { t, many, base } = those;
         let mut env = [0u8; 32];
         let mut total: usize = 0;
-        for i in 0..many {
-            total += self.measure_one(&env, t, base + i, arcs);
-            next_binding(plan, t, &mut env);
-        }
-        total
-    }
-
-    // How many bytes the rows of all transitions take.
-    pub fn measure_all(&self, arcs: &mut [Arc]) -> usize
-        requires roomy { Roomy self.now.file.now arcs.old }
-        requires ruled { Ruled self.now.file.now self.now.plan.now self.now.marks.now }
-        ensures is { (k : Ruled self.now.file.now self.now.plan.now self.now.marks.now) → result ≡ length (all_bytes k.net) }
-        ensures small { result ≤ 128851116032 }
-    {
-        let mut total: usize = 0;
-        for those in all_stretches(self.plan) {
-            total += self.measure_bindings(those, arcs);
+        for i in 0..self.many {
+            total += self.measure_one(&env, i, arcs);
+            next_binding(&self.transition, &mut env);
         }
         total
     }
 
     // Writes the row of a binding that has one.
-    fn write_bound(
-        &self,
-        env: &[u8; 32],
-        t: usize,
-        arcs: &mut [Arc],
-        out: &mut [u8],
-        at: usize,
-    ) -> usize
-        requires t_bound { t < 32 }
-        requires roomy { Roomy self.now.file.now arcs.old }
-        requires index_in_bounds { (h : Bound self.now.file.now self.now.plan.now env.now t) × (at + length (binding_bytes h.net t h.index) ≤ length out.old) }
-        ensures { (h : Bound self.now.file.now self.now.plan.now env.now t)
-            → Appended out.old out.new at result (binding_bytes h.net t h.index) }
+    fn write_bound(&self, env: &[u8; 32], arcs: &mut [Arc], out: &mut [u8], at: usize) -> usize
+        requires roomy { Roomy self.now.transition.drawing arcs.old }
+        requires index_in_bounds { (h : Bound self.now.transition env.now) × (at + length (bytes_at self.now.transition h.index) ≤ length out.old) }
+        ensures { (h : Bound self.now.transition env.now) → Appended out.old out.new at result (bytes_at self.now.transition h.index) }
     {
-        let ends = load_row(self.file, self.plan, env, t, arcs);
+        let ends = load_row(&self.transition, env, arcs);
         write_row(row_arcs(arcs, ends), out, at)
     }
 
-    // Writes the rows of all bindings of a transition. Where a word of their marks is 0, it passes over 32 at once:
+    // Writes the rows of all of them. Where a word of their marks is 0, it passes over 32 at once:
     // a while, since it goes on by 32 or by one.
-    fn write_bindings(&self, those: Stretch, arcs: &mut [Arc], out: &mut [u8], at: usize) -> usize
-        requires roomy { Roomy self.now.file.now arcs.old }
-        requires many_in_bounds { (k : Known self.now.file.now self.now.plan.now self.now.marks.now those.t those.many those.base)
-            × (at + length (flat_map (binding_bytes k.net those.t) (below those.many)) ≤ length out.old) }
-        ensures { (k : Known self.now.file.now self.now.plan.now self.now.marks.now those.t those.many those.base)
-            → Appended out.old out.new at result (flat_map (binding_bytes k.net those.t) (below those.many)) }
+    fn write_bindings(&self, arcs: &mut [Arc], out: &mut [u8], at: usize) -> usize
+        requires roomy { Roomy self.now.transition.drawing arcs.old }
+        requires many_in_bounds { at + length (its_bytes self.now.transition) ≤ length out.old }
+        ensures { Appended out.old out.new at result (its_bytes self.now.transition) }
     {
-        let Marked { plan, marks, .. } = *self;
-        let Stretch { t, many, base } = those;
+        let Stretch {
+            many,
+            base,
+            marks,
+            ..
+        } = *self;
         let mut env = [0u8; 32];
         let mut next = at;
         let mut i: usize = 0;
         while i < many {
-            if has_none(plan, t, marks, base + i, many - i) {
-                skip_bindings(plan, t, 32, &mut env);
+            if has_none(&self.transition, marks, base + i, many - i) {
+                skip_bindings(&self.transition, 32, &mut env);
                 i += 32;
-            } else if has_row(plan, t, marks, base + i) {
-                next = self.write_bound(&env, t, arcs, out, next);
-                next_binding(plan, t, &mut env);
+            } else if has_row(&self.transition, marks, base + i) {
+                next = self.write_bound(&env, arcs, out, next);
+                next_binding(&self.transition, &mut env);
                 i += 1;
             } else {
-                next_binding(plan, t, &mut env);
+                next_binding(&self.transition, &mut env);
                 i += 1;
             }
         }
         next
     }
+}
+
+impl Marked<'_> {
+    // How many bytes the rows of all transitions take.
+    pub fn measure_all(&self, arcs: &mut [Arc]) -> usize
+        requires { Roomy self.now.drawing.now arcs.old }
+        ensures is { result ≡ length (all_bytes (net_of self.now.drawing.now)) }
+        ensures small { result ≤ 128851116032 }
+    {
+        let mut total: usize = 0;
+        for those in self.stretches() {
+            total += those.measure_bindings(arcs);
+        }
+        total
+    }
 
     // Writes the rows of all transitions.
-    fn write_rows(&self, arcs: &mut [Arc], out: &mut [u8], at: usize) -> usize
-        requires roomy { Roomy self.now.file.now arcs.old }
-        requires net_in_bounds { (k : Ruled self.now.file.now self.now.plan.now self.now.marks.now) × (at + length (all_bytes k.net) ≤ length out.old) }
-        ensures { (k : Ruled self.now.file.now self.now.plan.now self.now.marks.now)
-            → Appended out.old out.new at result (all_bytes k.net) }
+    pub fn write_all(&self, arcs: &mut [Arc], out: &mut [u8], at: usize) -> usize
+        requires roomy { Roomy self.now.drawing.now arcs.old }
+        requires net_in_bounds { at + length (all_bytes (net_of self.now.drawing.now)) ≤ length out.old }
+        ensures { Appended out.old out.new at result (all_bytes (net_of self.now.drawing.now)) }
     {
         let mut next = at;
-        for those in all_stretches(self.plan) {
-            next = self.write_bindings(those, arcs, out, next);
+        for those in self.stretches() {
+            next = those.write_bindings(arcs, out, next);
         }
         next
     }
-}
-
-// Writes the rows of all transitions.
-pub fn write_all(
-    file: &[u8],
-    plan: &[u32; 3584],
-    marks: &[u32; 2048],
-    arcs: &mut [Arc],
-    out: &mut [u8],
-    at: usize,
-) -> usize
-    requires roomy { Roomy file.now arcs.old }
-    requires net_in_bounds { (k : Ruled file.now plan.now marks.now) × (at + length (all_bytes k.net) ≤ length out.old) }
-    ensures { (k : Ruled file.now plan.now marks.now)
-        → Appended out.old out.new at result (all_bytes k.net) }
-{
-    Marked { file, plan, marks }.write_rows(arcs, out, at)
 }

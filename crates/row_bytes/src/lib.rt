@@ -3,7 +3,7 @@
 
 mod fit;
 mod flat_rows;
+mod marked;
 mod stretch;
 
-pub use fit::fits;
-pub use flat_rows::write_all;
+pub use marked::Marked;

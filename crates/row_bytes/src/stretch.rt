@@ -1,58 +1,73 @@
 // The bindings of each transition, one transition after the other.
-ghost use Rattle.std.specs.Prelude.{◌≡◌, ◌≤◌, ◌<◌, ◌-◌, ◌*◌};
+ghost use Rattle.std.specs.Prelude.{◌≡◌, ◌≤◌, ◌-◌, length};
 ghost use Rattle.std.specs.Iterator.{at_most};
+ghost use Rattle.prepared.specs.internal.Drawn.{net_of};
+ghost use Rattle.row_numbers.specs.internal.Walked.{entries};
+ghost use Rattle.row_bytes.specs.internal.RowBytes.{Known};
 
+use crate::marked::Marked;
 use bindings::space_of;
-use plan::transitions_of;
+use prepared::Transition;
 use row_numbers::entries_of;
 
 // The bindings of a transition: how many there are, and where their marks begin.
-#[derive(Clone, Copy)]
-pub struct Stretch {
-    pub t: usize,
+#[derive(Drop)]
+pub struct Stretch<'a> {
+    pub transition: Transition<'a>,
+    pub marks: &'a [u32; 2048],
     pub many: usize,
     pub base: usize,
-    ghost few: { t < 32 },
+    ghost known: { Known transition marks.now many base },
 }
 
 // Those of the transitions that are still to come, from number t on.
 #[derive(Drop)]
 pub struct Stretches<'a> {
-    pub plan: &'a [u32; 3584],
+    pub net: Marked<'a>,
     pub t: usize,
     pub base: usize,
-    ghost low: { base ≤ 4228250625 * t },
+    ghost few: { t ≤ 32 },
+    ghost begins: { base ≡ entries (net_of net.drawing.now) net.drawing.now.plan t },
 }
 
-impl Iterator for Stretches<'_> {
+impl<'a> Iterator for Stretches<'a> {
     ghost use Rattle.row_bytes.specs.internal.StretchSteps.{Told};
 
-    type Item = Stretch;
+    type Item = Stretch<'a>;
 
-    ghost next_gives = { λ s r t. Told s.plan.now s.t s.base r t.plan.now t.t t.base };
+    ghost next_gives = { λ s r t. Told s.net.drawing.now s.t r t.net.drawing.now t.t };
 
     ghost remaining = { λ s. at_most (32 - s.t) };
 
-    fn next(&mut self) -> Option<Stretch> {
+    fn next(&mut self) -> Option<Stretch<'a>> {
+        let Marked { drawing, marks, .. } = self.net;
         let t = self.t;
-        if transitions_of(self.plan) <= t {
+        if drawing.transitions() <= t {
             return None;
         }
-        let many = space_of(self.plan, t);
+        let transition = drawing.transition(t);
+        let many = space_of(&transition);
         let base = self.base;
         self.t += 1;
-        self.base += entries_of(self.plan, t, many);
-        Some(Stretch { t, many, base })
+        self.base += entries_of(&transition);
+        Some(Stretch {
+            transition,
+            marks,
+            many,
+            base,
+        })
     }
 }
 
-// Those of all transitions.
-pub fn all_stretches(plan: &[u32; 3584]) -> Stretches<'_>
-    ensures { (result.plan.now ≡ plan.now) × (result.t ≡ 0) × (result.base ≡ 0) }
-{
-    Stretches {
-        plan,
-        t: 0,
-        base: 0,
+impl<'a> Marked<'a> {
+    // The bindings of all its transitions.
+    pub fn stretches(self) -> Stretches<'a>
+        ensures { (result.net.drawing.now ≡ self.entry.drawing.now) × (result.t ≡ 0) }
+    {
+        Stretches {
+            net: self,
+            t: 0,
+            base: 0,
+        }
     }
 }

@@ -1,19 +1,16 @@
 -- The bytes of the rows, binding by binding; and what the code that measures and writes them knows of the net.
 use Rattle.std.specs.Prelude.{◌≡◌, ◌≤◌, ◌<◌, ◌+◌}
-use Rattle.reading.specs.Basics.{ℕ, true, List, [], flat_map, length, take, given, below, product}
-use Rattle.reading.specs.Reading.{accepted}
+use Rattle.reading.specs.Basics.{ℕ, true, List, [], flat_map, length, given, below, product}
 use Rattle.firing.specs.declared.Arc.{Arc}
 use Rattle.flat_file.specs.Flat.{row_bytes}
-use Rattle.net.specs.Net.{Net, sizes_of, flat_place_count, transition_at}
+use Rattle.net.specs.Net.{Net, sizes_of, transition_at}
 use Rattle.bindings.specs.Effect.{effect, flat_row}
-use Rattle.net_file.specs.NetFile.{read_net}
+use Rattle.net_file.specs.Limits.{Limits}
 use Rattle.rows.specs.internal.Effects.{room}
-use Rattle.bindings.specs.internal.Bindings.{Binds, numbered}
-use Rattle.bindings.specs.internal.Legal.{every_row}
-use Rattle.prepared.specs.internal.Prepared.{Prepared}
-use Rattle.row_numbers.specs.Unfolding.{unfolded}
-use Rattle.row_numbers.specs.internal.Walked.{takes_effect}
-use Rattle.row_numbers.specs.internal.Marks.{has_row, Marked}
+use Rattle.bindings.specs.internal.Bindings.{numbered, its_sizes, BindsIts}
+use Rattle.prepared.specs.internal.Drawn.{Drawn, net_of, DrawnTransition, its_net}
+use Rattle.row_numbers.specs.internal.Walked.{its_every_row, it_takes}
+use Rattle.row_numbers.specs.internal.Marks.{has_row, Marked, RowsCounted}
 
 -- what binding number i of a transition gives the flat file: its row's bytes, none where it has no effect
 unfoldable pub binding_bytes : Net → ℕ → ℕ → List ℕ
@@ -27,50 +24,31 @@ transition_bytes n t = flat_map (binding_bytes n t) (below (product (sizes_of n 
 abbrev pub all_bytes : Net → List ℕ
 all_bytes n = flat_map (transition_bytes n) (below (length n.transitions))
 
--- the table is that of a net, and of each transition's bindings the marks tell which have an effect
-pub record Ruled (s plan marks : List ℕ) : Type 0 where
-  pub net : Net
-  pub ready : Prepared s net plan
-  pub marked : Marked net plan marks (length net.transitions)
+-- of each transition's bindings the marks tell which have an effect, and another table tells how many
+pub record Ruled (drawing : Drawn) (marks counts : List ℕ) : Type 0 where
+  pub marked : Marked (net_of drawing) drawing.plan marks (length (net_of drawing).transitions)
+  pub counted : RowsCounted (net_of drawing) counts (length (net_of drawing).transitions)
 
--- of one transition, which has so many bindings: its marks, if it has some, stand from base on
-pub record Known (s plan marks : List ℕ) (t many base : ℕ) : Type 0 where
-  pub net : Net
-  pub ready : Prepared s net plan
-  pub stands : t < length net.transitions
-  pub size : many ≡ product (sizes_of net (transition_at net t))
+-- a transition has so many bindings, and their marks, if it has some, stand from base on
+pub record Known (transition : DrawnTransition) (marks : List ℕ) (many base : ℕ) : Type 0 where
+  pub limits : Limits (its_net transition)
+  pub size : many ≡ product (its_sizes transition)
   pub few : base + many ≤ 65536
-  pub told : (i : ℕ) → i < many → has_row (every_row plan t) marks (base + i) ≡ takes_effect net t i
+  pub told : (i : ℕ) → i < many → has_row (its_every_row transition) marks (base + i) ≡ it_takes transition i
 
 -- one binding of a transition, by its colours, that has an effect
-pub record Bound (s plan env : List ℕ) (t : ℕ) : Type 0 where
-  pub net : Net
+pub record Bound (transition : DrawnTransition) (env : List ℕ) : Type 0 where
   pub index : ℕ
-  pub ready : Prepared s net plan
-  pub stands : t < length net.transitions
-  pub binds : Binds net (numbered net t index) env
-  pub takes_effect_lem : takes_effect net t index ≡ true
+  pub binds : BindsIts transition index env
+  pub takes_effect_lem : it_takes transition index ≡ true
 
--- one binding, and whether it has an effect
-pub record Here (s plan env marks : List ℕ) (t k : ℕ) : Type 0 where
-  pub net : Net
-  pub index : ℕ
-  pub ready : Prepared s net plan
-  pub stands : t < length net.transitions
-  pub binds : Binds net (numbered net t index) env
-  pub few : k < 65536
-  pub told : has_row (every_row plan t) marks k ≡ takes_effect net t index
+-- what one of a transition's bindings gives, and what all of them give
+abbrev pub bytes_at : DrawnTransition → ℕ → List ℕ
+bytes_at transition i = binding_bytes (its_net transition) transition.number i
+
+abbrev pub its_bytes : DrawnTransition → List ℕ
+its_bytes transition = transition_bytes (its_net transition) transition.number
 
 -- a lent list has the room that loading the net's rows needs
-abbrev pub Roomy : List ℕ → List Arc → Type 0
-Roomy s l = (n : Net) → read_net s ≡ accepted n → room s n ≤ length l
-
--- a list of 1,024 slots has it
-abbrev pub FewSlots : List ℕ → Type 0
-FewSlots s = (n : Net) → read_net s ≡ accepted n → room s n ≤ 1024
-
--- the table is that of a net, with its initial counts
-pub record Tabled (s plan initial : List ℕ) : Type 0 where
-  pub net : Net
-  pub ready : Prepared s net plan
-  pub counts : take (flat_place_count net) initial ≡ (unfolded net).initial
+abbrev pub Roomy : Drawn → List Arc → Type 0
+Roomy d l = room d.file (net_of d) ≤ length l

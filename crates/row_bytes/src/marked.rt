@@ -1,0 +1,13 @@
+// A net and the marks of its bindings.
+ghost use Rattle.row_bytes.specs.internal.RowBytes.{Ruled};
+
+use prepared::Drawing;
+
+// A net that was read, which of its bindings have rows, and how many rows each transition has.
+#[derive(Clone, Copy)]
+pub struct Marked<'a> {
+    pub drawing: &'a Drawing<'a>,
+    pub marks: &'a [u32; 2048],
+    pub counts: &'a [usize; 32],
+    ghost ruled: { Ruled drawing.now marks.now counts.now },
+}
