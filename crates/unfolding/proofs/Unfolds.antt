@@ -1,5 +1,5 @@
 -- What the call that unfolds gives, from what was read, measured and written. Assumes nothing.
-use Rattle.std.specs.Prelude.{◌+◌, ◌*◌, ◌/◌, ◌∷◌, ◌++◌}
+use Rattle.std.specs.Prelude.{◌+◌, ◌*◌, ◌∷◌, ◌++◌}
 use mathlib.Core.Path.{◌≡◌, refl, sym, ap, subst, ◌∙◌}
 use Prim.Native.Nat.{◌≤◌, ◌<◌}
 use native.Mathlib.Omega.{arith}
@@ -12,9 +12,7 @@ use Rattle.flat_file.proofs.Written.{place_bytes, length_places}
 use Rattle.net.specs.Net.{Net, flat_place_count}
 use Rattle.net_file.specs.NetFile.{read_net}
 use Rattle.prepared.specs.internal.Prepared.{Prepared, InitialCounts}
-use Rattle.prepared.specs.internal.Drawn.{Drawn, IsDrawn, net_of}
-use Rattle.rows.specs.internal.Slots.{NetSlotted}
-use Rattle.rows.proofs.Fires.{small_room}
+use Rattle.prepared.specs.internal.Drawn.{Drawn, net_of}
 use Rattle.rows.proofs.FlatPlaces.{flat_places_lem}
 use Rattle.bindings.specs.Effect.{flat_places}
 use Rattle.row_numbers.specs.Unfolding.{initial_at, unfolded, flat_file, WriteCall, unfold_call, line, program}
@@ -24,7 +22,6 @@ use Rattle.flat_file.specs.internal.Output.{Appended}
 use Rattle.flat_file.proofs.Appending.{append_then, append_all, append_count}
 use Rattle.row_numbers.proofs.Marking.{blank_words}
 use Rattle.row_bytes.proofs.RowBytes.{rows_bytes}
-use Rattle.unfolding.specs.internal.Room.{Slots}
 use Rattle.unfolding.proofs.Initial.{initial_counted}
 
 -- ---- the call
@@ -46,23 +43,12 @@ module _ (s out : List ℕ) where
     unfold_whole h = rw (read, le-leb (length (flat_file n)) (length out) h)
 
 -- ---- the file by its pieces
--- the table of a net that was read, by its file and table
-pub its_table : {d : Drawn} {s plan : List ℕ} → s ≡ d.file → plan ≡ d.plan → IsDrawn d.file d.plan → Prepared s (net_of d) plan
-its_table e f known = rw (e, f) known
-
 -- the counts of its flat places stand at the front of a list of 4,096
 pub front_counts : {n : Net} {initial : List ℕ} {places : ℕ} → InitialCounts n initial → length initial ≡ 4096 → places ≡ flat_place_count n → places ≤ 4096
     → take places initial ≡ (unfolded n).initial
 front_counts {n} {initial} held h e few = rw e (initial_counted n initial held (omega arith))
 
 module _ {s plan : List ℕ} {n : Net} (ready : Prepared s n plan) where
-  -- lists of 1,024 slots have the room for its rows, where these need few
-  pub is_small : {slots : ℕ} → NetSlotted s plan slots → leb (slots + length s / 2) 1024 ≡ true → Slots s 1024
-  is_small enough few m read =
-      let both : accepted m ≡ accepted n = sym read ∙ ready.read in
-      let same : m ≡ n = cc in
-      rw same (small_room s n (enough n ready) few)
-
   module _ {initial : List ℕ} (counts : initial ≡ (unfolded n).initial) where
     file_is : (0x02 ∷ 1 ∷ []) ++ flat_map place_bytes initial ++ all_bytes n ++ (0x5F ∷ []) ≡ flat_file n
     unfolding write_flat
@@ -84,31 +70,24 @@ module _ {s plan : List ℕ} {n : Net} (ready : Prepared s n plan) where
         → Appended o2 o3 n2 n3 (all_bytes n) → Appended o3 o4 n3 n4 (0x5F ∷ []) → Appended o o4 0 n4 (flat_file n)
     file_written {o} {o4 = o4} {n4 = n4} head places rows end = subst (Appended o o4 0 n4) file_is (append_then (append_then (append_then head places) rows) end)
 
--- ---- what the code tells: the marks, the number of each transition's rows, and whether there is space
-module _ {s plan : List ℕ} {n : Net} (ready : Prepared s n plan) {marks rows : List ℕ}
-    (marked : (n : Net) → Prepared s n plan → Blank (replicate 2048 0) 0 → Marked n plan marks (length n.transitions) × RowsCounted n rows (length n.transitions)) where
-  abbrev pub ruled : Ruled s plan marks
-  ruled = record { net = n; ready = ready; marked = (marked n ready (blank_words 2048)).0 }
+-- ---- what the code tells: the marks, and whether there is space
+pub ruled : {d : Drawn} {marks counts : List ℕ} → (Blank (replicate 2048 0) 0 → Marked (net_of d) d.plan marks (length (net_of d).transitions) × RowsCounted (net_of d) counts (length (net_of d).transitions))
+    → Ruled d marks counts
+ruled told = let (marked, counted) = told (blank_words 2048) in record { marked = marked; counted = counted }
 
-  pub counted : RowsCounted n rows (length n.transitions)
-  counted = (marked n ready (blank_words 2048)).1
+module _ {s plan : List ℕ} {n : Net} (ready : Prepared s n plan) {initial : List ℕ} (counts : initial ≡ (unfolded n).initial) (out : List ℕ) {fits : Bool}
+    (told : fits ≡ leb (3 + 3 * flat_place_count n + length (all_bytes n)) (length out)) where
+  pub has_space : fits ≡ true → 3 + 3 * length initial + length (all_bytes n) ≤ length out
+  has_space e = let le = leb-true (3 + 3 * flat_place_count n + length (all_bytes n)) (length out) (sym told ∙ e) in omega (arith, sized ready counts)
 
-  module _ {initial : List ℕ} (counts : initial ≡ (unfolded n).initial) (out : List ℕ) {fits : Bool}
-      (told : (k : Ruled s plan marks) → RowsCounted k.net rows (length k.net.transitions) → fits ≡ leb (3 + 3 * flat_place_count k.net + length (all_bytes k.net)) (length out)) where
-    is_told : fits ≡ leb (3 + 3 * flat_place_count n + length (all_bytes n)) (length out)
-    is_told = told ruled counted
+  -- the call's result
+  pub call_short : fits ≡ false → record { result = refused 14 0; out = out } ≡ unfold_call s out
+  call_short e =
+      let lt = leb-false (3 + 3 * flat_place_count n + length (all_bytes n)) (length out) (sym told ∙ e) in
+      unfold_short s out ready.read (omega (arith, file-length ready counts))
 
-    pub has_space : fits ≡ true → 3 + 3 * length initial + length (all_bytes n) ≤ length out
-    has_space e = let le = leb-true (3 + 3 * flat_place_count n + length (all_bytes n)) (length out) (sym is_told ∙ e) in omega (arith, sized ready counts)
-
-    -- the call's result
-    pub call_short : fits ≡ false → record { result = refused 14 0; out = out } ≡ unfold_call s out
-    call_short e =
-        let lt = leb-false (3 + 3 * flat_place_count n + length (all_bytes n)) (length out) (sym is_told ∙ e) in
-        unfold_short s out ready.read (omega (arith, file-length ready counts))
-
-    pub call_whole : fits ≡ true → {exit : List ℕ} {size : ℕ} → Appended out exit 0 size (flat_file n) → record { result = accepted size; out = exit } ≡ unfold_call s out
-    call_whole e w = rw (append_count w, append_all w) (unfold_whole s out ready.read (omega (arith, file-length ready counts, sized ready counts, has_space e)))
+  pub call_whole : fits ≡ true → {exit : List ℕ} {size : ℕ} → Appended out exit 0 size (flat_file n) → record { result = accepted size; out = exit } ≡ unfold_call s out
+  call_whole e w = rw (append_count w, append_all w) (unfold_whole s out ready.read (omega (arith, file-length ready counts, sized ready counts, has_space e)))
 
 -- ---- the program
 -- what the call gives over 65,536 bytes, and the program with it

@@ -1,2 +1,0 @@
--- What contracts inside the crate cite.
-pub mod Room
