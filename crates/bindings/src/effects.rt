@@ -1,6 +1,6 @@
 // Whether a binding has an effect.
 ghost use Rattle.std.specs.Prelude.{◌≡◌, List, ℕ};
-ghost use Rattle.prepared.specs.internal.Drawn.{its_net};
+ghost use Rattle.prepared.specs.internal.Drawn.{its_net, Stands};
 ghost use Rattle.bindings.specs.Effect.{legal};
 ghost use Rattle.bindings.specs.internal.Bindings.{Binds, binding};
 ghost use Rattle.bindings.specs.internal.Legal.{every_row};
@@ -21,7 +21,8 @@ pub fn has_effect(transition: &Transition, env: &[u8; 32]) -> bool
 
 // Whether each of a transition's bindings has an effect, whatever its colours: it has no guard.
 pub fn every_binding_has_row(transition: &Transition) -> bool
-    ensures { result ≡ every_row transition.now.drawing.plan transition.now.number }
+    ensures is { result ≡ every_row transition.now.drawing.plan transition.now.number }
+    ensures known { Stands transition.now }
 {
     transition.guard().is_none()
 }

@@ -2,28 +2,26 @@
 use Rattle.std.specs.Prelude.{◌+◌, ◌/◌, ◌%◌, ◌||◌, ◌&&◌, if◌then◌else◌}
 use mathlib.Core.Path.{◌≡◌, refl, sym, ap, ◌∙◌, subst}
 use mathlib.Core.Bool.{or-false, and-true, and-false}
-use native.Mathlib.Numerals.{add-one}
 use mathlib.Core.Logic.{⊎_elim}
 use Prim.Native.Nat.{◌-◌, ◌^◌, ◌<◌, ◌≤◌, max}
 use native.Mathlib.Nat.{one-mul, mod-lt, div-eq_of_lt, eq-or-lt_of_le}
 use native.Mathlib.Decide.{dec_lt}
 use native.Mathlib.Omega.{arith}
-use borrow.Author.Tests.{eq-eqb, ne_eqb, eqb-true, eqb-false, ltb-true, ltb-false}
+use borrow.Author.Tests.{eq-eqb, ne_eqb, eqb-true, eqb-false}
 use lib.Bits.{bit_or, or_step, or_shr, shifted_even}
 use lib.Dec.{lit<}
 use lib.ListN.{set}
 use lib.Pow.{low, shl-shr, pow-lt, pow-add, pow_pos}
 use lib.Seq.{get_or-set_same, get_or-set_other}
-use Rattle.reading.specs.Basics.{ℕ, zero, suc, Bool, true, false, eqb, ltb, List, length, get_or, replicate, keep, numbers_from, product}
+use Rattle.reading.specs.Basics.{ℕ, zero, suc, Bool, true, false, eqb, List, length, get_or, replicate, product}
 use Rattle.net.specs.Net.{Net, sizes_of, transition_at}
 use Rattle.net.specs.internal.ReaderEnums.{member}
 use Rattle.reading.proofs.Clash.{clash}
 use Rattle.prepared.specs.internal.Prepared.{Prepared}
-use Rattle.prepared.proofs.Known.{its_limits}
 use Rattle.bindings.specs.internal.Legal.{every_row}
 use Rattle.row_numbers.specs.internal.Walked.{takes_effect, effects, entries}
 use Rattle.row_numbers.specs.internal.Marks.{mark_at, has_row, Blank, BindingsMarked, Marked, RowsCounted}
-use Rattle.row_numbers.proofs.Tabled.{every_takes, effects-every, before_fit, entries_begin, entries_next, entries-rise, entries-most, entries_without, entries_with}
+use Rattle.row_numbers.proofs.Tabled.{every_takes, effects-every, entries_begin, entries_next, entries-rise, entries_fit, entries_without, entries_with}
 
 -- ---- bits
 or_low : (a b : ℕ) → bit_or a b % 2 ≡ max (a % 2) (b % 2)
@@ -144,19 +142,19 @@ module _ (n : Net) (t : ℕ) where
 
 -- ---- one transition after another
 -- so many transitions are marked and counted, with so many marks
-pub record Reached (n : Net) (plan marks rows : List ℕ) (t base : ℕ) : Type 0 where
+pub record Reached (n : Net) (plan was marks rows : List ℕ) (t base : ℕ) : Type 0 where
   pub used : base ≡ entries n plan t
-  pub marked : Marked n plan marks t
+  pub marked : Blank was 0 → Marked n plan marks t
   pub counted : RowsCounted n rows t
-  pub blank : Blank marks base
+  pub blank : Blank was 0 → Blank marks base
 
 module _ (n : Net) (plan : List ℕ) where
-  pub reach_begins : {marks : List ℕ} (rows : List ℕ) → Blank marks 0 → Reached n plan marks rows 0 0
-  reach_begins rows blank = record {
+  pub reach_begins : (marks rows : List ℕ) → Reached n plan marks marks rows 0 0
+  reach_begins marks rows = record {
     used = entries_begin n plan;
-    marked = record { told = λ t i lt. absurd (omega arith) };
+    marked = λ none. record { told = λ t i lt. absurd (omega arith) };
     counted = record { row = λ t lt. absurd (omega arith) };
-    blank = blank;
+    blank = λ none. none;
   }
 
   -- one row count more
@@ -168,15 +166,15 @@ module _ (n : Net) (plan : List ℕ) where
         (eq-or-lt_of_le (let le : u ≤ t = omega arith in le));
   }
 
-  module _ {marks rows : List ℕ} {t base many : ℕ} (was : Reached n plan marks rows t base) (room : t < length rows) (is : many ≡ product (sizes_of n (transition_at n t))) where
+  module _ {before marks rows : List ℕ} {t base many : ℕ} (was : Reached n plan before marks rows t base) (room : t < length rows) (is : many ≡ product (sizes_of n (transition_at n t))) where
     -- one more of which every binding has a row
-    pub reach_follows : {s : List ℕ} → Prepared s n plan → t < length n.transitions → every_row plan t ≡ true → Reached n plan marks (set rows t many) (t + 1) base
+    pub reach_follows : {s : List ℕ} → Prepared s n plan → t < length n.transitions → every_row plan t ≡ true → Reached n plan before marks (set rows t many) (t + 1) base
     reach_follows p less without = record {
       used = omega (arith, was.used, entries_next n plan t, entries_without (every_row plan t) (product (sizes_of n (transition_at n t))) without);
-      marked = record {
+      marked = λ none. record {
         told = λ u i lt guarded inside. ⊎_elim
             (λ e. clash (ap (every_row plan) (sym e)) without guarded)
-            (λ less. was.marked.told u i less guarded inside)
+            (λ less. (was.marked none).told u i less guarded inside)
             (eq-or-lt_of_le (let le : u ≤ t = omega arith in le));
       };
       counted = counted_more was.counted room (effects-every p less without many ∙ ap (effects n t) is);
@@ -184,38 +182,34 @@ module _ (n : Net) (plan : List ℕ) where
     }
 
     -- one more with marks
-    pub reach_goes : {after : List ℕ} {count : ℕ} → every_row plan t ≡ false → count ≡ effects n t many → BindingsMarked n t marks after base many
-        → Reached n plan after (set rows t count) (t + 1) (base + many)
+    pub reach_goes : {after : List ℕ} {count : ℕ} → every_row plan t ≡ false → count ≡ effects n t many → (Blank marks base → BindingsMarked n t marks after base many)
+        → Reached n plan before after (set rows t count) (t + 1) (base + many)
     reach_goes {after} guarded counts marking = record {
       used = omega (arith, was.used, entries_next n plan t, entries_with (every_row plan t) (product (sizes_of n (transition_at n t))) guarded);
-      marked = record {
+      marked = λ none. record {
         told = λ u i lt g inside. ⊎_elim
-            (λ e. here u i e inside)
+            (λ e. here (marking (was.blank none)) u i e inside)
             (λ less.
             let k : t ≡ u + 1 + (t - (u + 1)) = omega arith in
             let rise = rw (← k) at (entries-rise n plan (u + 1) (t - (u + 1))) in
-            marking.same (entries n plan u + i) (omega (arith, was.used, entries_next n plan u, entries_with (every_row plan u) (product (sizes_of n (transition_at n u))) g))
-            ∙ was.marked.told u i less g inside)
+            (marking (was.blank none)).same (entries n plan u + i) (omega (arith, was.used, entries_next n plan u, entries_with (every_row plan u) (product (sizes_of n (transition_at n u))) g))
+            ∙ (was.marked none).told u i less g inside)
             (eq-or-lt_of_le (let le : u ≤ t = omega arith in le));
       };
       counted = counted_more was.counted room (counts ∙ ap (effects n t) is);
-      blank = marking.blank;
+      blank = λ none. (marking (was.blank none)).blank;
     }
       where
-        here : (u i : ℕ) → u ≡ t → i < product (sizes_of n (transition_at n u)) → mark_at after (entries n plan u + i) ≡ takes_effect n u i
-        here u i e inside = subst (λ v. i < product (sizes_of n (transition_at n v)) → mark_at after (entries n plan v + i) ≡ takes_effect n v i) (sym e)
-            (λ less. let q : entries n plan t + i ≡ base + i = omega (arith, was.used) in ap (mark_at after) q ∙ marking.told i (omega arith)) inside
-
-  -- all of them
-  pub reach_ends : {marks rows : List ℕ} {t base transitions : ℕ} → Reached n plan marks rows t base → t ≡ transitions → Marked n plan marks transitions × RowsCounted n rows transitions
-  reach_ends {marks} {rows} was e = subst (λ k. Marked n plan marks k × RowsCounted n rows k) e (was.marked, was.counted)
+        here : BindingsMarked n t marks after base many → (u i : ℕ) → u ≡ t → i < product (sizes_of n (transition_at n u)) → mark_at after (entries n plan u + i) ≡ takes_effect n u i
+        here told u i e inside = subst (λ v. i < product (sizes_of n (transition_at n v)) → mark_at after (entries n plan v + i) ≡ takes_effect n v i) (sym e)
+            (λ less. let q : entries n plan t + i ≡ base + i = omega (arith, was.used) in ap (mark_at after) q ∙ told.told i (omega arith)) inside
 
 -- ---- reading the marks of a transition
 module _ {s plan : List ℕ} {n : Net} (p : Prepared s n plan) {t many base : ℕ} (lt : t < length n.transitions)
     (is : many ≡ product (sizes_of n (transition_at n t))) (from : base ≡ entries n plan t) where
   -- its bindings stand below 65,536
   pub marks_few : base + many ≤ 65536
-  marks_few = omega (arith, entries-most n plan t (omega arith), before_fit n t (its_limits p) lt)
+  marks_few = omega (arith, entries_fit p lt from)
 
   -- what they tell
   pub marks_told : {marks : List ℕ} → Marked n plan marks (length n.transitions) → (i : ℕ) → i < many → has_row (every_row plan t) marks (base + i) ≡ takes_effect n t i

@@ -5,7 +5,7 @@ use Prim.Native.Nat.{◌≤◌, ◌<◌, ◌-◌}
 use native.Mathlib.Omega.{arith}
 use Rattle.reading.specs.Basics.{ℕ, Bool, true, false, none, some, length, product}
 use Rattle.net.specs.Net.{Net, sizes_of, transition_at}
-use Rattle.prepared.specs.internal.Drawn.{DrawnTransition, its_net}
+use Rattle.prepared.specs.internal.Drawn.{DrawnTransition}
 use Rattle.bindings.specs.Effect.{bindings}
 use Rattle.bindings.specs.internal.Numbers.{before}
 use Rattle.bindings.specs.internal.Bindings.{its_sizes}

@@ -2,23 +2,21 @@
 use Rattle.std.specs.Prelude.{◌+◌, if◌then◌else◌}
 use mathlib.Core.Path.{◌≡◌, refl, sym, ap, ◌∙◌, subst}
 use mathlib.Core.Logic.{⊎_elim}
+use mir.Val.{bool_byte}
 use Prim.Native.Nat.{◌≤◌, ◌<◌, ◌-◌}
 use native.Mathlib.Omega.{arith}
 use native.Mathlib.Nat.{add-zero, eq-or-lt_of_le}
 use native.Mathlib.Numerals.{add-one}
-use borrow.Author.Tests.{ltb-true, ltb-false}
 use lib.ListN.{set}
 use lib.Seq.{get_or-set_same, get_or-set_other}
-use Rattle.reading.specs.Basics.{ℕ, zero, suc, Bool, true, false, ltb, List, some, length, get_or, get_elem?, product}
-use Rattle.reading.proofs.Lists.{below_at}
+use Rattle.reading.specs.Basics.{ℕ, zero, suc, Bool, true, false, List, length, get_or, product}
 use Rattle.net.specs.Net.{Net, sizes_of, transition_at}
 use Rattle.plan.specs.internal.Layout.{transitions_in}
 use Rattle.net_file.specs.Limits.{Limits}
 use Rattle.reading.proofs.Clash.{clash}
 use Rattle.prepared.specs.internal.Prepared.{Prepared}
 use Rattle.prepared.proofs.Known.{its_limits}
-use Rattle.bindings.specs.Effect.{Binding, bindings, legal}
-use Rattle.bindings.specs.Orders.{order_of}
+use Rattle.bindings.specs.Effect.{legal}
 use Rattle.bindings.specs.internal.Bindings.{numbered}
 use Rattle.bindings.specs.internal.Legal.{every_row}
 use Rattle.bindings.specs.internal.Numbers.{digits, before}
@@ -27,7 +25,7 @@ use Rattle.bindings.proofs.Digits.{bindings_at, before_next, before_all}
 use Rattle.row_numbers.specs.Unfolding.{row_number}
 use Rattle.row_numbers.specs.internal.Walked.{passed, takes_effect, effects, order_at, entries_at, entries, Numbers, NumbersFrom, Follows, Starts}
 use Rattle.row_numbers.proofs.Walking.{passed_none, passed-most, effect_passes, effect_fails, number_passes, number_fails}
-use Rattle.row_numbers.proofs.Effects.{effects_all, effects-most, passed_here}
+use Rattle.row_numbers.proofs.Effects.{effects_all, passed_here}
 use Rattle.bindings.proofs.Legal.{legal-told, every-legal}
 
 -- ---- transitions by their count in the table
@@ -42,6 +40,11 @@ module _ {s plan : List ℕ} {n : Net} (p : Prepared s n plan) {count : ℕ} (is
 -- it has one where it is legal
 pub effect-told : (n : Net) (t i : ℕ) {b : Bool} → b ≡ legal n (numbered n t i) → b ≡ takes_effect n t i
 effect-told n t i e = e ∙ legal-told n (numbered n t i) refl
+
+-- which counts as one
+pub one_if : (b : Bool) → bool_byte b ≡ (if b then 1 else 0)
+one_if true = refl
+one_if false = refl
 
 -- where every binding has a row, it has one
 pub every_takes : {s plan : List ℕ} {n : Net} {t : ℕ} → Prepared s n plan → t < length n.transitions → every_row plan t ≡ true → (i : ℕ) → true ≡ takes_effect n t i
@@ -63,7 +66,7 @@ before_few n t limits le =
     omega (arith, rw e at (before-rise n t (length n.transitions - t) (omega arith)), before_all n, bindings-length n, limits.space)
 
 -- with its own too
-pub before_fit : (n : Net) (t : ℕ) → Limits n → t < length n.transitions → before n t + product (sizes_of n (transition_at n t)) ≤ 65536
+before_fit : (n : Net) (t : ℕ) → Limits n → t < length n.transitions → before n t + product (sizes_of n (transition_at n t)) ≤ 65536
 before_fit n t limits lt = omega (arith, before_next n t lt, before_few n (t + 1) limits (omega arith))
 
 -- with all of them: those before the next transition
@@ -157,28 +160,35 @@ module _ (n : Net) (plan : List ℕ) where
       rw (← add-one t)
       (omega (arith, entries-most t (omega arith), entries_next t, at_most (every_row plan t) (product (sizes_of n (transition_at n t))), before_next n t (omega arith)))
 
+-- at most 65,536 entries, and so rows, with a transition's own
+pub entries_fit : {s plan : List ℕ} {n : Net} {t base : ℕ} → Prepared s n plan → t < length n.transitions → base ≡ entries n plan t → base + product (sizes_of n (transition_at n t)) ≤ 65536
+entries_fit {plan = plan} {n = n} {t = t} p lt e = omega (arith, entries-most n plan t (omega arith), before_fit n t (its_limits p) lt)
+
+pub rows_fit : {s plan : List ℕ} {n : Net} {t count : ℕ} → Prepared s n plan → t < length n.transitions → count ≡ passed n (before n t) → count + product (sizes_of n (transition_at n t)) ≤ 65536
+rows_fit {n = n} {t = t} p lt e = omega (arith, passed-most n (before n t), before_fit n t (its_limits p) lt)
+
 -- so 65,536 are enough
 pub entries_few : {s plan : List ℕ} {n : Net} → Prepared s n plan → entries n plan (length n.transitions) ≤ 65536
 entries_few {plan = plan} {n = n} p = omega (arith, entries-most n plan (length n.transitions) (omega arith), before_few n (length n.transitions) (its_limits p) (omega arith))
 
 -- ---- one transition after another
--- so many transitions are numbered, with so many entries and rows
-pub record Numbered (n : Net) (plan starts numbers : List ℕ) (t base count : ℕ) : Type 0 where
+-- so many transitions are numbered, with so many entries and rows; the table has so much room
+pub record Numbered (n : Net) (plan : List ℕ) (room : ℕ) (starts numbers : List ℕ) (t base count : ℕ) : Type 0 where
   pub rows : count ≡ passed n (before n t)
   pub used : base ≡ entries n plan t
-  pub told : Starts n plan starts numbers t
+  pub told : entries n plan (length n.transitions) ≤ room → Starts n plan starts numbers t
   pub below : (u : ℕ) → u < t → every_row plan u ≡ false → get_or starts u 0 + product (sizes_of n (transition_at n u)) ≤ base
 
-module _ (n : Net) (plan : List ℕ) where
-  pub number_begins : (starts numbers : List ℕ) → Numbered n plan starts numbers 0 0 0
+module _ (n : Net) (plan : List ℕ) (len : ℕ) where
+  pub number_begins : (starts numbers : List ℕ) → Numbered n plan len starts numbers 0 0 0
   number_begins starts numbers = record {
     rows = sym (passed_none n);
     used = entries_begin n plan;
-    told = record { rows = λ u lt. absurd (omega arith); held = λ u lt. absurd (omega arith) };
+    told = λ enough. record { rows = λ u lt. absurd (omega arith); held = λ u lt. absurd (omega arith) };
     below = λ u lt. absurd (omega arith);
   }
 
-  module _ {starts numbers : List ℕ} {t base count : ℕ} (start : ℕ) (was : Numbered n plan starts numbers t base count) (room : t < length starts) where
+  module _ {starts numbers : List ℕ} {t base count : ℕ} (start : ℕ) (was : Numbered n plan len starts numbers t base count) (room : t < length starts) where
     -- the last, or one before it
     by_last : (P : ℕ → ℕ → Type 0) → P t start → ((u : ℕ) → u < t → P u (get_or starts u 0)) → (u : ℕ) → u < t + 1 → P u (get_or (set starts t start) u 0)
     by_last P last those u lt = ⊎_elim
@@ -187,14 +197,14 @@ module _ (n : Net) (plan : List ℕ) where
         (eq-or-lt_of_le (let le : u ≤ t = omega arith in le))
 
     -- one start more
-    starts_more : (after : List ℕ) → ((j : ℕ) → j < base → get_or after j 0 ≡ get_or numbers j 0)
+    starts_more : entries n plan (length n.transitions) ≤ len → (after : List ℕ) → ((j : ℕ) → j < base → get_or after j 0 ≡ get_or numbers j 0)
         → (every_row plan t ≡ true → Follows n t start (product (sizes_of n (transition_at n t))))
         → (every_row plan t ≡ false → Numbers n t after start (product (sizes_of n (transition_at n t)))) → Starts n plan (set starts t start) after (t + 1)
-    starts_more after same follow number = record {
-      rows = by_last (λ u x. every_row plan u ≡ true → Follows n u x (product (sizes_of n (transition_at n u)))) follow was.told.rows;
+    starts_more enough after same follow number = record {
+      rows = by_last (λ u x. every_row plan u ≡ true → Follows n u x (product (sizes_of n (transition_at n u)))) follow (was.told enough).rows;
       held = by_last (λ u x. every_row plan u ≡ false → Numbers n u after x (product (sizes_of n (transition_at n u)))) number
           (λ u less guarded. record {
-            number = λ i inside. same (get_or starts u 0 + i) (omega (arith, was.below u less guarded)) ∙ (was.told.held u less guarded).number i inside;
+            number = λ i inside. same (get_or starts u 0 + i) (omega (arith, was.below u less guarded)) ∙ ((was.told enough).held u less guarded).number i inside;
           });
     }
 
@@ -204,34 +214,31 @@ module _ (n : Net) (plan : List ℕ) where
         by_last (λ u x. every_row plan u ≡ false → x + product (sizes_of n (transition_at n u)) ≤ end) last (λ u less guarded. omega (arith, was.below u less guarded))
 
   -- one more of which every binding has a row
-  pub number_follows : {s starts numbers : List ℕ} {t base count size : ℕ} → Numbered n plan starts numbers t base count
+  pub number_follows : {s starts numbers : List ℕ} {t base count size : ℕ} → Numbered n plan len starts numbers t base count
       → t < length starts → Prepared s n plan → t < length n.transitions → every_row plan t ≡ true
-      → size ≡ product (sizes_of n (transition_at n t)) → Numbered n plan (set starts t count) numbers (t + 1) base (count + size)
+      → size ≡ product (sizes_of n (transition_at n t)) → Numbered n plan len (set starts t count) numbers (t + 1) base (count + size)
   number_follows {numbers = numbers} {t = t} {base = base} {count = count} {size = size} was room p lt every is = record {
     rows = rw was.rows (passed_then n lt is (effects-every p lt every size));
     used = omega (arith, was.used, entries_next n plan t, entries_without (every_row plan t) (product (sizes_of n (transition_at n t))) every);
-    told = starts_more count was room numbers (λ j less. refl) (λ h. rw was.rows (follows p lt every)) (λ h. clash refl every h);
+    told = λ enough. starts_more count was room enough numbers (λ j less. refl) (λ h. rw was.rows (follows p lt every)) (λ h. clash refl every h);
     below = below_more count was room base (omega arith) (λ h. clash refl every h);
   }
 
   -- one more with entries
-  pub number_goes : {starts numbers after : List ℕ} {t base count size total : ℕ} → Numbered n plan starts numbers t base count → t < length n.transitions
-      → t < length starts → every_row plan t ≡ false → size ≡ product (sizes_of n (transition_at n t)) → total ≡ count + effects n t size → Numbers n t after base size
-      → ((j : ℕ) → j < base → get_or after j 0 ≡ get_or numbers j 0) → Numbered n plan (set starts t base) after (t + 1) (base + size) total
+  pub number_goes : {starts numbers after : List ℕ} {t base count size total : ℕ} → Numbered n plan len starts numbers t base count → t < length n.transitions
+      → t < length starts → every_row plan t ≡ false → size ≡ product (sizes_of n (transition_at n t)) → total ≡ count + effects n t size → (base + size ≤ len → Numbers n t after base size)
+      → ((j : ℕ) → j < base → get_or after j 0 ≡ get_or numbers j 0) → Numbered n plan len (set starts t base) after (t + 1) (base + size) total
   number_goes {after = after} {t = t} {base = base} {size = size} was lt room guarded is total held same = record {
     rows = total ∙ rw was.rows (passed_then n lt is refl);
-    used = omega (arith, was.used, entries_next n plan t, entries_with (every_row plan t) (product (sizes_of n (transition_at n t))) guarded);
-    told = starts_more base was room after same (λ h. clash refl h guarded) (λ h. rw (← is) held);
+    used = used;
+    told = λ enough. starts_more base was room enough after same (λ h. clash refl h guarded) (λ h. rw (← is) (held (fits enough)));
     below = below_more base was room (base + size) (omega arith) (λ h. omega arith);
   }
+    where
+      used : base + size ≡ entries n plan (t + 1)
+      used = omega (arith, was.used, entries_next n plan t, entries_with (every_row plan t) (product (sizes_of n (transition_at n t))) guarded)
 
-  -- there is room for its entries
-  pub number-room : {starts numbers : List ℕ} {t base count size k len : ℕ} → Numbered n plan starts numbers t base count → t < k → every_row plan t ≡ false
-      → size ≡ product (sizes_of n (transition_at n t)) → entries n plan k ≤ len → base + size ≤ len
-  number-room {t = t} {size = size} {k = k} was lt guarded is enough =
-      let e : t + 1 + (k - (t + 1)) ≡ k = omega arith in
-      omega (arith, was.used, rw e at (entries-rise n plan (t + 1) (k - (t + 1))), entries_next n plan t, entries_with (every_row plan t) (product (sizes_of n (transition_at n t))) guarded)
-
-  -- all of them
-  pub number_ends : {starts numbers : List ℕ} {t base count transitions : ℕ} → Numbered n plan starts numbers t base count → t ≡ transitions → Starts n plan starts numbers transitions
-  number_ends was e = rw (← e) was.told
+      fits : entries n plan (length n.transitions) ≤ len → base + size ≤ len
+      fits enough =
+          let e : t + 1 + (length n.transitions - (t + 1)) ≡ length n.transitions = omega arith in
+          omega (arith, used, rw e at (entries-rise n plan (t + 1) (length n.transitions - (t + 1))))

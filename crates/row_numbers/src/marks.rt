@@ -60,15 +60,13 @@ fn mark_one(transition: &Transition, env: &[u8; 32], k: usize, marks: &mut [u32;
 // Sets the marks of the bindings of a transition, from base on: how many have an effect.
 fn mark_those(transition: &Transition, base: usize, marks: &mut [u32; 2048]) -> usize
     requires { base + product (its_sizes transition.now) ≤ 65536 }
-    ensures { Blank marks.old base → (result ≡ its_effects transition.now (product (its_sizes transition.now)))
-        × BindingsMarked (its_net transition.now) transition.now.number marks.old marks.new base (product (its_sizes transition.now)) }
+    ensures is { result ≡ its_effects transition.now (product (its_sizes transition.now)) }
+    ensures marked { Blank marks.old base → BindingsMarked (its_net transition.now) transition.now.number marks.old marks.new base (product (its_sizes transition.now)) }
 {
     let mut env = [0u8; 32];
     let mut count: usize = 0;
     for i in 0..space_of(transition) {
-        if mark_one(transition, &env, base + i, marks) {
-            count += 1;
-        }
+        count += usize::from(mark_one(transition, &env, base + i, marks));
         next_binding(transition, &mut env);
     }
     count
