@@ -89,10 +89,6 @@ abbrev pub ArcsUpto : DrawnTransition → ℕ → ℕ → ℕ → List ℕ → T
 ArcsUpto d k total i places = (total ≤ 65535 * i) × ((value : ℕ → ℕ) → Fitting (its_net d) value
     → length (flat_map (place_arcs (its_net d) (transition_at (its_net d) d.number) value (0x16 + k)) places) ≤ total)
 
-pub most_begins : (d : DrawnTransition) (k : ℕ) → ArcsUpto d k 0 0 []
-unfolding flat_map
-most_begins d k = (omega arith, λ value fits. omega arith)
-
 module _ {d : DrawnTransition} {k total : ℕ} {left : Left} (u : Upto d k left (ArcsUpto d k total)) where
   pub most_goes : {left' : Left} {entry more : ℕ} → Told left.plan.now left.at left.end (Some entry) left'.plan.now left'.at left'.end
       → MostArc d.drawing.file d.drawing.plan entry more → more ≤ 65535 → Upto d k left' (ArcsUpto d k (total + more))

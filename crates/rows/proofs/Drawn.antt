@@ -22,7 +22,7 @@ use Rattle.runs.specs.internal.Terms.{ArcsAppended}
 use Rattle.sums.specs.internal.Loaded.{rank_arcs, ArcLoaded}
 use Rattle.sums.specs.internal.Slots.{expression_slots, slots_for}
 use Rattle.multiset.proofs.Slots.{slots_told}
-use Rattle.runs.proofs.Appending.{append_none, append_join}
+use Rattle.runs.proofs.Appending.{append_join}
 use Rattle.plan.specs.internal.Layout.{sets_in, variables_in, guards_in, packed_in}
 use Rattle.prepared.specs.internal.Drawing.{start_of, Drawing}
 use Rattle.prepared.specs.internal.Prepared.{Prepared}
@@ -260,39 +260,38 @@ pub record Upto (d : DrawnTransition) (k : ℕ) (left : Left) (P : ℕ → List 
   pub far : i ≤ length (row_of {d = d} ready k)
   pub holds : P i (take i (row_of {d = d} ready k))
 
-module _ {d : DrawnTransition} {k : ℕ} where
-  -- it begins
-  pub upto_begins : {all left : Left} {P : ℕ → List ℕ → Type 0} → left ≡ all → Begun d k all.plan.now all.at all.end → P 0 [] → Upto d k left P
-  upto_begins e b holds =
-      rw e (record { ready = b.ready; kind = b.kind; i = 0; few = omega arith; plan_is = b.plan_is; at_is = omega (arith, b.at_is); end_is = b.end_is; far = omega arith; holds = holds })
+-- it begins
+pub upto_begins : {d : DrawnTransition} {k : ℕ} {all left : Left} {P : ℕ → List ℕ → Type 0} → left ≡ all → Begun d k all.plan.now all.at all.end → P 0 [] → Upto d k left P
+upto_begins e b holds =
+    rw e (record { ready = b.ready; kind = b.kind; i = 0; few = omega arith; plan_is = b.plan_is; at_is = omega (arith, b.at_is); end_is = b.end_is; far = omega arith; holds = holds })
 
-  module _ {left : Left} {P : ℕ → List ℕ → Type 0} (u : Upto d k left P) where
-    -- an entry more
-    pub upto_goes : {left' : Left} {Q : ℕ → List ℕ → Type 0} {entry : ℕ} → Told left.plan.now left.at left.end (Some entry) left'.plan.now left'.at left'.end
-        → (Entered u.ready.0.drawing u.ready.1 u.kind u.i entry → P u.i (take u.i (row_of {d = d} u.ready k)) → Q (u.i + 1) (take (u.i + 1) (row_of {d = d} u.ready k))) → Upto d k left' Q
-    upto_goes {entry = entry} told step =
-        let (before, is, has, next) = told.entry in
-        let lt : u.i < 32 = omega arith in
-        let en = entered u.ready.0.drawing u.ready.1 u.kind u.i entry lt u.far (rw (u.plan_is, u.at_is) at is) has in
-        record {
-          ready = u.ready;
-          kind = u.kind;
-          i = u.i + 1;
-          few = omega arith;
-          plan_is = told.same ∙ u.plan_is;
-          at_is = omega arith;
-          end_is = told.same_end ∙ u.end_is;
-          far = omega (arith, en.there);
-          holds = step en u.holds;
-        }
+module _ {d : DrawnTransition} {k : ℕ} {left : Left} {P : ℕ → List ℕ → Type 0} (u : Upto d k left P) where
+  -- an entry more
+  pub upto_goes : {left' : Left} {Q : ℕ → List ℕ → Type 0} {entry : ℕ} → Told left.plan.now left.at left.end (Some entry) left'.plan.now left'.at left'.end
+      → (Entered u.ready.0.drawing u.ready.1 u.kind u.i entry → P u.i (take u.i (row_of {d = d} u.ready k)) → Q (u.i + 1) (take (u.i + 1) (row_of {d = d} u.ready k))) → Upto d k left' Q
+  upto_goes {entry = entry} told step =
+      let (before, is, has, next) = told.entry in
+      let lt : u.i < 32 = omega arith in
+      let en = entered u.ready.0.drawing u.ready.1 u.kind u.i entry lt u.far (rw (u.plan_is, u.at_is) at is) has in
+      record {
+        ready = u.ready;
+        kind = u.kind;
+        i = u.i + 1;
+        few = omega arith;
+        plan_is = told.same ∙ u.plan_is;
+        at_is = omega arith;
+        end_is = told.same_end ∙ u.end_is;
+        far = omega (arith, en.there);
+        holds = step en u.holds;
+      }
 
-    -- no entry is left: none behind a 0, nor behind the 32nd
-    pub upto_ends : {plan' : List ℕ} {at' end' : ℕ} → Told left.plan.now left.at left.end None plan' at' end' → P u.i (row_of {d = d} u.ready k)
-    upto_ends told = subst (P u.i) (take_all u.i (row_of {d = d} u.ready k) (go (ltb u.i 32) refl)) u.holds
-      where
-        go : (b : Bool) → ltb u.i 32 ≡ b → length (row_of {d = d} u.ready k) ≤ u.i
-        go true e = let h = ltb-true u.i 32 e in entry_past u.ready.0.drawing u.ready.1 u.kind u.i h u.far (rw (u.plan_is, u.at_is) at (told.entry (omega arith)))
-        go false e = omega (arith, row_few u.ready.0.drawing u.ready.1 u.kind, ltb-false u.i 32 e)
+  -- no entry is left: none behind a 0, nor behind the 32nd
+  pub upto_ends : {plan' : List ℕ} {at' end' : ℕ} → Told left.plan.now left.at left.end None plan' at' end' → P u.i (row_of {d = d} u.ready k)
+  upto_ends told = subst (P u.i) (take_all u.i (row_of {d = d} u.ready k) (go (ltb u.i 32) refl)) u.holds
+    where
+      go : (b : Bool) → ltb u.i 32 ≡ b → length (row_of {d = d} u.ready k) ≤ u.i
+      go true e = let h = ltb-true u.i 32 e in entry_past u.ready.0.drawing u.ready.1 u.kind u.i h u.far (rw (u.plan_is, u.at_is) at (told.entry (omega arith)))
+      go false e = omega (arith, row_few u.ready.0.drawing u.ready.1 u.kind, ltb-false u.i 32 e)
 
 -- ---- one kind loaded, entry after entry
 -- where the list has the room, the arcs of these places were appended
@@ -300,10 +299,6 @@ abbrev pub PlacesLoaded : DrawnTransition → ℕ → List ℕ → List Arc → 
 PlacesLoaded d k env list₀ used list end i places =
     used + kind_slots (its_net d) (transition_at (its_net d) d.number) (0x16 + k) + length d.drawing.file / 2 ≤ length list₀
     → ArcsAppended (flat_map (place_arcs (its_net d) (transition_at (its_net d) d.number) (bound env) (0x16 + k)) places) list₀ used list end
-
-pub kind_begins : (d : DrawnTransition) (k : ℕ) (env : List ℕ) (list₀ : List Arc) (used : ℕ) → PlacesLoaded d k env list₀ used list₀ used 0 []
-unfolding flat_map
-kind_begins d k env list₀ used x = append_none list₀ used
 
 module _ {d : DrawnTransition} {k : ℕ} {left : Left} (env : List ℕ) {list₀ list : List Arc} {used end : ℕ} (u : Upto d k left (PlacesLoaded d k env list₀ used list end)) where
   pub kind_goes : {left' : Left} {list' : List Arc} {entry end' : ℕ} → Told left.plan.now left.at left.end (Some entry) left'.plan.now left'.at left'.end

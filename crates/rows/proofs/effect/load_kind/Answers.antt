@@ -1,9 +1,12 @@
 use native.Mathlib.Omega.{arith}
-use Rattle.rows.proofs.Drawn.{upto_begins, kind_begins, kind_goes, kind_ends}
+use Rattle.reading.specs.Basics.{flat_map}
+use Rattle.runs.proofs.Appending.{append_none}
+use Rattle.rows.proofs.Drawn.{upto_begins, kind_goes, kind_ends}
 use Rattle.rows.proofs.effect.load_kind.Goals as goal
 
 pub loop-entry-init : goal.loop-entry-init
-loop-entry-init c = record { upto = upto_begins c.into_iter-entry-iterator.ensures.into_iter_gives c.entries_of-entry-items.ensures (kind_begins c.args.transition.now _ _ _ _); low = omega arith; within = λ h. h }
+unfolding flat_map
+loop-entry-init c = record { upto = upto_begins c.into_iter-entry-iterator.ensures.into_iter_gives c.entries_of-entry-items.ensures (λ x. append_none c.args.arcs.now c.args.used); low = omega arith; within = λ h. h }
 
 pub loop-entry-preserved : goal.loop-entry-preserved
 loop-entry-preserved c = record {
