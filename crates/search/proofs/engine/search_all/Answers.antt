@@ -8,14 +8,14 @@ loop-t-init c = record { seeking = seek_begin _ _; few = omega arith }
 
 pub returns-in-Some : goal.returns-in-Some
 returns-in-Some c =
-    rw c.transition-transition.ensures (seek_found c.transitions-t-end.ensures.known c.args.m.now c.loop-t.t c.loop-t.tried c.space_of-many.result (omega (arith, c.transitions-t-end.ensures.is)) c.loop-t.invariant.seeking (rw c.transition-transition.ensures at c.space_of-many.ensures.is) _
-    (rw c.transition-transition.ensures at c.in-Some.ensures.told))
+    rw c.transition-transition.ensures (seek_found c.transitions-t-end.ensures.known c.args.m.now c.loop-t.t c.loop-t.tried (omega (arith, c.transitions-t-end.ensures.is)) c.loop-t.invariant.seeking
+    (rw (c.in-Some.is, c.transition-transition.ensures) at c.search_bindings-here.ensures.is))
 
 pub loop-t-preserved : goal.loop-t-preserved
 loop-t-preserved c = record {
-  seeking = seek_next c.transitions-t-end.ensures.known c.args.m.now c.loop-t.t c.loop-t.tried c.space_of-many.result (omega (arith, c.transitions-t-end.ensures.is)) c.loop-t.invariant.seeking (rw c.transition-transition.ensures at c.space_of-many.ensures.is)
-      (rw (c.in_default.is, c.transition-transition.ensures) at c.search_bindings.ensures.told);
-  few = omega (arith, c.space_of-many.ensures.small);
+  seeking = seek_next c.transitions-t-end.ensures.known c.args.m.now c.loop-t.t c.loop-t.tried (omega (arith, c.transitions-t-end.ensures.is)) c.loop-t.invariant.seeking
+      (rw (c.in_default.is, c.transition-transition.ensures) at c.search_bindings-here.ensures.is);
+  few = omega (arith, c.search_bindings-here.ensures.small);
 }
 
 pub returns : goal.returns
