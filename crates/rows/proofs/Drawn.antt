@@ -75,7 +75,7 @@ module _ {s : List ℕ} {n : Net} {sizes vars guards arcs : List ℕ} (d : Drawi
   abbrev row : List ℕ
   row = holding d.slots (t * 96 + k * 32) (length n.places)
 
-  pub row_few : length row ≤ 32
+  row_few : length row ≤ 32
   row_few = omega (arith, holding_few d.slots (t * 96 + k * 32) (length n.places), d.limits.places)
 
   -- the code's entries
@@ -87,7 +87,7 @@ module _ {s : List ℕ} {n : Net} {sizes vars guards arcs : List ℕ} (d : Drawi
   row_at = (d.packed.row t k ht hk).entries
 
   -- it is 0 behind the last, and only there
-  pub entry_past : (i : ℕ) → i < 32 → i ≤ length row → get_or arcs (t * 96 + k * 32 + i) 0 < 1 → length row ≤ i
+  entry_past : (i : ℕ) → i < 32 → i ≤ length row → get_or arcs (t * 96 + k * 32 + i) 0 < 1 → length row ≤ i
   entry_past i h far free = go (ltb i (length row)) refl
     where
       go : (b : Bool) → ltb i (length row) ≡ b → length row ≤ i
@@ -120,7 +120,7 @@ module _ {s : List ℕ} {n : Net} {sizes vars guards arcs : List ℕ} (d : Drawi
     pub below : take i row ≡ holding d.slots (t * 96 + k * 32) place
     pub upto : take (i + 1) row ≡ holding d.slots (t * 96 + k * 32) (place + 1)
 
-  pub entered : (i entry : ℕ) → i < 32 → i ≤ length row → entry ≡ get_or arcs (t * 96 + k * 32 + i) 0 → 1 ≤ entry → Entered i entry
+  entered : (i entry : ℕ) → i < 32 → i ≤ length row → entry ≡ get_or arcs (t * 96 + k * 32 + i) 0 → 1 ≤ entry → Entered i entry
   entered i entry h far e has =
       record {
         place = at.place;

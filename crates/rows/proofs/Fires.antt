@@ -5,7 +5,6 @@ use Prim.Native.Nat.{◌≤◌, ◌<◌}
 use native.Mathlib.Omega.{arith}
 use borrow.Author.Tests.{leb-true}
 use Rattle.reading.specs.Basics.{ℕ, Bool, true, false, not, List, [], none, some, map, length, take, leb, any}
-use Rattle.reading.specs.Reading.{accepted}
 use Rattle.reading.proofs.Clash.{not_true, not_false}
 use Rattle.firing.specs.Firing.{fired}
 use Rattle.firing.specs.internal.RowLists.{arcs_in}
@@ -14,13 +13,11 @@ use Rattle.firing.specs.declared.Arc.{Arc}
 use Rattle.firing.proofs.Rows.{arcs_first}
 use Rattle.firing.specs.declared.Ends.{Ends}
 use Rattle.net.specs.Net.{Net, flat_place_count, variables_of, transition_at}
-use Rattle.net_file.specs.NetFile.{read_net}
 use Rattle.net_file.proofs.Limits.{limits, short}
 use Rattle.bindings.specs.Effect.{legal, Binding, stands_for, weights_of, effect}
 use Rattle.bindings.specs.Orders.{named, fire_order}
 use Rattle.bindings.specs.internal.Bindings.{Binds, binding, fire_binding}
 use Rattle.bindings.proofs.Legal.{effect-legal, effect_none}
-use Rattle.plan.specs.internal.Layout.{flat_places_in}
 use Rattle.prepared.specs.internal.Prepared.{Prepared}
 use Rattle.rows.specs.internal.Effects.{row_slots, greatest, room, TakesLoaded}
 use Rattle.rows.specs.internal.Loading.{KindLoaded, LoadsRest, RowReady}
@@ -28,23 +25,12 @@ use Rattle.rows.proofs.Needing.{room-low}
 use Rattle.rows.proofs.Effects.{takes_loaded, loaded_proper, loaded_fires, takes_lack, none_lacks}
 
 -- lists of 20,480 slots have the room for every net
-pub most-room : (s : List ℕ) (n : Net) → read_net s ≡ accepted n → room s n ≤ 20480
-most-room s n read = omega (arith, room-low s n, (limits s n read).flat_places_lem, short s n read)
+pub roomy : {s plan : List ℕ} {n : Net} → Prepared s n plan → room s n ≤ 20480
+roomy {s} {n = n} p = omega (arith, room-low s n, (limits s n p.read).flat_places_lem, short s n p.read)
 
 -- lists of 1,024 slots have it for a net that is small
 pub small_room : (s : List ℕ) (n : Net) {slots : ℕ} → greatest (map (row_slots n) n.transitions) ≤ slots → leb (slots + length s / 2) 1024 ≡ true → room s n ≤ 1024
 small_room s n {slots} enough e = omega (arith, leb-true (slots + length s / 2) 1024 e)
-
-pub roomy : {s plan : List ℕ} {n : Net} → Prepared s n plan → room s n ≤ 20480
-roomy {s} {n = n} p = most-room s n p.read
-
--- a marking of the net's length, and of another
-module _ {s plan : List ℕ} {n : Net} (p : Prepared s n plan) (m : List ℕ) where
-  pub fitting : length m ≡ flat_places_in plan → length m ≡ flat_place_count n
-  fitting fits = fits ∙ sym p.flat_places_are
-
-  pub wrong : (length m ≡ flat_places_in plan → ⊥) → length m ≡ flat_place_count n → ⊥
-  wrong h e = h (e ∙ p.flat_places_are)
 
 -- ---- a binding's row loaded as far as firing it needs; whether the binding has an effect is told
 -- it has none
