@@ -89,7 +89,7 @@ impl Stretch<'_> {
 
 impl Marked<'_> {
     // How many bytes the rows of all transitions take.
-    pub fn measure_all(&self, arcs: &mut [Arc]) -> usize
+    pub(crate) fn measure_all(&self, arcs: &mut [Arc]) -> usize
         requires { Roomy self.now.drawing.now arcs.old }
         ensures is { result ≡ length (all_bytes (net_of self.now.drawing.now)) }
         ensures small { result ≤ 128851116032 }

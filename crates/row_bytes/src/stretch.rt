@@ -61,7 +61,7 @@ impl<'a> Iterator for Stretches<'a> {
 
 impl<'a> Marked<'a> {
     // The bindings of all its transitions.
-    pub fn stretches(self) -> Stretches<'a>
+    pub(crate) fn stretches(self) -> Stretches<'a>
         ensures { (result.net.drawing.now ≡ self.entry.drawing.now) × (result.t ≡ 0) }
     {
         Stretches {
