@@ -1,9 +1,9 @@
 // The call that unfolds a net file into a flat file.
 ghost use Rattle.std.specs.Prelude.{◌≡◌, ◌≤◌, length};
-ghost use Rattle.prepared.specs.internal.Drawn.{net_of};
+ghost use Rattle.prepared.specs.internal.Drawn.{net_of, IsDrawn};
 ghost use Rattle.prepared.specs.internal.Prepared.{InitialCounts};
 ghost use Rattle.rows.specs.internal.Effects.{room};
-ghost use Rattle.row_numbers.specs.Unfolding.{unfold_call};
+ghost use Rattle.row_numbers.specs.Unfolding.{unfolded, unfold_call};
 ghost use Rattle.row_bytes.specs.internal.RowBytes.{Roomy};
 ghost use Rattle.unfolding.specs.Replies.{unfold_called};
 
@@ -24,14 +24,22 @@ struct Counted<'a> {
     ghost counts: { InitialCounts (net_of drawing.now) initial.now },
 }
 
-impl Counted<'_> {
+impl<'a> Counted<'a> {
+    // The initial counts of its flat places.
+    fn initial_counts(&self) -> &'a [u16]
+        ensures is { result.now ≡ (unfolded (net_of self.now.drawing.now)).initial }
+        ensures known { IsDrawn self.now.drawing.now.file self.now.drawing.now.plan }
+    {
+        &self.initial[..self.drawing.flat_places()]
+    }
+
     // Writes its flat file, if there is space for it, with a list lent for a row's arcs.
     fn write_with(self, arcs: &mut [Arc], out: &mut [u8]) -> Result<usize, Refusal>
         requires { Roomy self.drawing.now arcs.old }
         ensures { unfold_called result out.new ≡ unfold_call self.entry.drawing.now.file out.old }
     {
         let drawing = self.drawing;
-        let initial = &self.initial[..drawing.flat_places()];
+        let initial = self.initial_counts();
         let mut marks = [0u32; 2048];
         let mut counts = [0usize; 32];
         mark_all(drawing, &mut marks, &mut counts);
