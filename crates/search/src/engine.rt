@@ -1,20 +1,20 @@
 // The search for the first binding that fires, on a net that has been read.
-ghost use Rattle.std.specs.Prelude.{◌≡◌, ℕ, ◌≤◌, List, map, length, eqb};
+ghost use Rattle.std.specs.Prelude.{◌≡◌, ℕ, ◌≤◌, List, length, eqb};
 ghost use Rattle.reading.specs.Basics.{product, below};
 ghost use Rattle.firing.specs.Firing.{first};
 ghost use Rattle.firing.specs.Replies.{searched};
 ghost use Rattle.net.specs.Net.{flat_place_count};
-ghost use Rattle.bindings.specs.Effect.{bindings};
-ghost use Rattle.bindings.specs.Orders.{fire_order, order_of};
+ghost use Rattle.bindings.specs.Replies.{bytes_of};
 ghost use Rattle.bindings.specs.internal.Bindings.{Binds, binding, fire_binding, its_binding, its_sizes};
 ghost use Rattle.prepared.specs.internal.Drawn.{net_of, its_net};
 ghost use Rattle.rows.specs.internal.Effects.{room};
-ghost use Rattle.search.specs.internal.Searched.{search_told};
+ghost use Rattle.search.specs.internal.Searched.{first_fires, search_told};
 
-use bindings::{Numbered, next_binding, space_of};
+use bindings::{Numbered, Order, next_binding, order_at, space_of};
 use firing::{Answer, Arc, Searched, rest_answer, row_arcs};
 use prepared::{Drawing, Transition};
-use rows::load_bound;
+use reading::once_more;
+use rows::{is_small, load_bound, most_slots};
 
 // Whether a binding of a transition, whose colours env has, would fire.
 fn fires_bound(transition: &Transition, env: &[u8; 32], m: &[u16], arcs: &mut [Arc]) -> bool
@@ -54,23 +54,72 @@ fn search_bindings(transition: &Transition, m: &[u16], arcs: &mut [Arc]) -> Sear
     }
 }
 
-// The first binding that would fire.
-pub fn search_all<'a>(drawing: &Drawing<'a>, m: &[u16], arcs: &mut [Arc]) -> Searched<Numbered<'a>>
-    requires roomy { room drawing.now.file (net_of drawing.now) ≤ length arcs.old }
-    requires sized { length m.now ≡ flat_place_count (net_of drawing.now) }
-    ensures { first (λ order. eqb (fire_order (net_of drawing.now) order m.now).answer 0) (map order_of (bindings (net_of drawing.now))) ≡ search_told result }
-{
-    let mut tried = 0;
-    for t in 0..drawing.transitions() {
-        let transition = drawing.transition(t);
-        let here = search_bindings(&transition, m, arcs);
-        tried += here.tried;
-        if let Some(index) = here.found {
-            return Searched {
-                found: Some(Numbered { transition, index }),
-                tried,
-            };
+// A net that was read, and a marking of its flat places.
+#[derive(Clone, Copy)]
+pub struct Marked<'a> {
+    pub drawing: &'a Drawing<'a>,
+    pub marking: &'a [u16],
+    ghost sized: { length marking.now ≡ flat_place_count (net_of drawing.now) },
+}
+
+impl<'a> Marked<'a> {
+    // The first binding that would fire.
+    fn search_all(self, arcs: &mut [Arc]) -> Searched<Numbered<'a>>
+        requires { room self.drawing.now.file (net_of self.drawing.now) ≤ length arcs.old }
+        ensures { first_fires (net_of self.entry.drawing.now) self.entry.marking.now ≡ search_told result }
+    {
+        let mut tried = 0;
+        for t in 0..self.drawing.transitions() {
+            let transition = self.drawing.transition(t);
+            let here = search_bindings(&transition, self.marking, arcs);
+            tried += here.tried;
+            if let Some(index) = here.found {
+                return Searched {
+                    found: Some(Numbered { transition, index }),
+                    tried,
+                };
+            }
+        }
+        Searched { found: None, tried }
+    }
+
+    // Its order.
+    fn first_with(self, arcs: &mut [Arc]) -> Searched<Order>
+        requires { room self.drawing.now.file (net_of self.drawing.now) ≤ length arcs.old }
+        ensures { first_fires (net_of self.entry.drawing.now) self.entry.marking.now ≡ searched bytes_of result }
+    {
+        let Searched { found, tried } = self.search_all(arcs);
+        let Some(b) = found else {
+            return Searched { found: None, tried };
+        };
+        Searched {
+            found: Some(order_at(&b.transition, b.index)),
+            tried,
         }
     }
-    Searched { found: None, tried }
+
+    // With a list of so many arcs, where the rows have room in it. Kept apart (once_more).
+    #[inline(never)]
+    fn first_in<const ARCS: usize>(self, again: bool) -> Searched<Order>
+        requires few { ARCS ≤ 20480 }
+        requires roomy { room self.drawing.now.file (net_of self.drawing.now) ≤ ARCS }
+        ensures { first_fires (net_of self.entry.drawing.now) self.entry.marking.now ≡ searched bytes_of result }
+    {
+        if once_more(self.drawing.file(), again) {
+            return self.first_in::<ARCS>(false);
+        }
+        let mut arcs = [Arc::default(); ARCS];
+        self.first_with(&mut arcs)
+    }
+
+    // The larger list has room for every net.
+    pub fn first_on(self) -> Searched<Order>
+        ensures { first_fires (net_of self.entry.drawing.now) self.entry.marking.now ≡ searched bytes_of result }
+    {
+        let file = self.drawing.file();
+        if is_small(most_slots(self.drawing), file.len()) {
+            return self.first_in::<1024>(true);
+        }
+        self.first_in::<20480>(true)
+    }
 }

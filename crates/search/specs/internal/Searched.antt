@@ -1,12 +1,18 @@
 -- What the search among all orders tells.
-use Rattle.reading.specs.Basics.{ℕ, List}
-use Rattle.firing.specs.Firing.{First}
+use Rattle.reading.specs.Basics.{ℕ, List, map, eqb}
+use Rattle.firing.specs.Firing.{First, first}
 use Rattle.firing.specs.Replies.{searched}
 use Rattle.firing.specs.declared.replies.Searched.{Searched}
-use Rattle.bindings.specs.Orders.{order_of}
+use Rattle.net.specs.Net.{Net}
+use Rattle.bindings.specs.Effect.{bindings}
+use Rattle.bindings.specs.Orders.{order_of, fire_order}
 use Rattle.bindings.specs.internal.Bindings.{its_binding}
 use Rattle.bindings.specs.declared.binding.Numbered.{Numbered}
 
--- what it found, by its order
+-- the first order of a net that would fire on a marking
+abbrev pub first_fires : Net → List ℕ → First (List ℕ)
+first_fires n m = first (λ order. eqb (fire_order n order m).answer 0) (map order_of (bindings n))
+
+-- what was found, by its order
 abbrev pub search_told : Searched Numbered → First (List ℕ)
 search_told s = searched (λ b. order_of (its_binding b.transition b.index)) s

@@ -2,10 +2,10 @@ use Rattle.std.specs.Prelude.{◌*◌}
 use Prim.Native.Nat.{◌≤◌}
 use Rattle.prepared.specs.internal.Drawn.{net_of}
 use Rattle.search.proofs.Searching.{Seeking}
-use Rattle.search.proofs.engine.search_all.Given as goal
+use Rattle.search.proofs.engine.Marked.search_all.Given as goal
 
 abbrev pub invariant-loop-t : goal.invariant-loop-t
 invariant-loop-t l = record {
-  seeking : Seeking (net_of l.drawing) l.m l.tried l.t;
+  seeking : Seeking (net_of l.self.drawing.now) l.self.marking.now l.tried l.t;
   few : l.tried ≤ l.t * 4228250625;
 }

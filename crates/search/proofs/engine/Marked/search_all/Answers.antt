@@ -1,22 +1,22 @@
 use native.Mathlib.Omega.{arith}
 use Rattle.prepared.specs.internal.Drawn.{net_of}
 use Rattle.search.proofs.Searching.{seek_begin, seek_found, seek_next, seek_none}
-use Rattle.search.proofs.engine.search_all.Goals as goal
+use Rattle.search.proofs.engine.Marked.search_all.Goals as goal
 
 pub loop-t-init : goal.loop-t-init
 loop-t-init c = record { seeking = seek_begin _ _; few = omega arith }
 
 pub returns-in-Some : goal.returns-in-Some
 returns-in-Some c =
-    rw c.transition-transition.ensures (seek_found c.transitions-t-end.ensures.known c.args.m.now c.loop-t.t c.loop-t.tried (omega (arith, c.transitions-t-end.ensures.is)) c.loop-t.invariant.seeking
+    rw c.transition-transition.ensures (seek_found c.transitions-t-end.ensures.known c.args.self.marking.now c.loop-t.t c.loop-t.tried (omega (arith, c.transitions-t-end.ensures.is)) c.loop-t.invariant.seeking
     (rw (c.in-Some.is, c.transition-transition.ensures) at c.search_bindings-here.ensures.is))
 
 pub loop-t-preserved : goal.loop-t-preserved
 loop-t-preserved c = record {
-  seeking = seek_next c.transitions-t-end.ensures.known c.args.m.now c.loop-t.t c.loop-t.tried (omega (arith, c.transitions-t-end.ensures.is)) c.loop-t.invariant.seeking
+  seeking = seek_next c.transitions-t-end.ensures.known c.args.self.marking.now c.loop-t.t c.loop-t.tried (omega (arith, c.transitions-t-end.ensures.is)) c.loop-t.invariant.seeking
       (rw (c.in_default.is, c.transition-transition.ensures) at c.search_bindings-here.ensures.is);
   few = omega (arith, c.search_bindings-here.ensures.small);
 }
 
 pub returns : goal.returns
-returns c = seek_none (net_of c.args.drawing.now) c.args.m.now c.loop-t.t c.loop-t.tried c.loop-t.invariant.seeking (omega (arith, c.transitions-t-end.ensures.is))
+returns c = seek_none (net_of c.args.self.drawing.now) c.args.self.marking.now c.loop-t.t c.loop-t.tried c.loop-t.invariant.seeking (omega (arith, c.transitions-t-end.ensures.is))
