@@ -6,44 +6,34 @@ use native.Mathlib.Omega.{arith}
 use native.Mathlib.Numerals.{add-one}
 use lib.ListN.{length-drop}
 use lib.Seq.{drop-cons, length-take-le}
-use Rattle.reading.specs.Basics.{ℕ, zero, suc, Bool, true, false, List, [], none, length, take, drop, get_or, items, over}
+use Rattle.reading.specs.Basics.{ℕ, zero, suc, List, [], none, length, take, drop, items, over}
 use Rattle.reading.proofs.Lists.{get_d_at}
 use Rattle.firing.proofs.Running.{item_at, length-items}
 use Rattle.net.specs.Net.{Net}
-use Rattle.prepared.specs.internal.Prepared.{Prepared}
-use Rattle.prepared.proofs.Known.{its_limits}
-use Rattle.bindings.specs.internal.Legal.{every_row}
+use Rattle.net_file.specs.Limits.{Limits}
 use Rattle.bindings.specs.Orders.{named}
 use Rattle.bindings.specs.internal.Naming.{Names}
 use Rattle.row_numbers.specs.Unfolding.{row_number, image, images}
-use Rattle.row_numbers.specs.internal.Walked.{order_at, Starts}
+use Rattle.row_numbers.specs.internal.Walked.{order_at}
 use Rattle.flat_file.specs.internal.Output.{Appended}
 use Rattle.row_numbers.proofs.Rows.{no_row}
 use Rattle.row_numbers.proofs.Walking.{unnamed_number, named-number}
 use Rattle.flat_file.proofs.Appending.{Going, go_on, go_end, append_all}
 
 -- ---- one order
-module _ {s plan : List ℕ} {n : Net} (p : Prepared s n plan) (orders : List ℕ) (i : ℕ) where
+module _ {n : Net} (limits : Limits n) (orders : List ℕ) (i : ℕ) where
   abbrev order : List ℕ
   order = take 6 (drop (i * 6) orders)
 
   -- it names no binding
   pub no_binding : named n order ≡ none → no_row ≡ row_number n order
-  no_binding e = unnamed_number n (its_limits p) order e
+  no_binding e = unnamed_number n limits order e
 
   -- the number of the binding that it names
-  pub the_number : {starts numbers env : List ℕ} {t index x start : ℕ} → i * 6 + 6 ≤ length orders → Names n order t index env
-      → Starts n plan starts numbers (length n.transitions) → start ≡ get_or starts t 0
-      → (every_row plan t ≡ true → start + index < 65536 → x ≡ start + index) → (every_row plan t ≡ false → x ≡ get_or numbers (start + index) 0) → x ≡ row_number n order
-  the_number {starts} {numbers} {env} {t} {index} {x} {start} room it held at follows stands =
+  pub the_number : {env : List ℕ} {t index x : ℕ} → i * 6 + 6 ≤ length orders → Names n order t index env → x ≡ row_number n (order_at n t index) → x ≡ row_number n order
+  the_number room it e =
       let six : length order ≡ 6 = length-take-le 6 (drop (i * 6) orders) (omega (arith, length-drop (i * 6) orders)) in
-      by_rows (every_row plan t) refl ∙ named-number n (its_limits p) order six it.is
-    where
-      by_rows : (b : Bool) → every_row plan t ≡ b → x ≡ row_number n (order_at n t index)
-      by_rows true q =
-          let rows = held.rows t it.stands q in
-          follows q (rw at (rows.few index it.inside)) ∙ rw at (rows.number index it.inside)
-      by_rows false q = stands q ∙ rw at ((held.held t it.stands q).number index it.inside)
+      e ∙ named-number n limits order six it.is
 
 -- ---- order after order
 drop_past : {A : Type 0} (l : List A) (i : ℕ) → length l ≤ i → drop i l ≡ []

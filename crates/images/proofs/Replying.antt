@@ -6,12 +6,14 @@ use Prim.Native.Nat.{◌≤◌, ◌<◌}
 use borrow.Author.Tests.{le-leb, lt-leb, eq-eqb, ne_eqb}
 use Rattle.reading.specs.Basics.{ℕ, List, none, some, length, over}
 use Rattle.reading.specs.Reading.{Outcome, accepted, refused, refusing}
-use Rattle.net.specs.Net.{Net, sizes_of, transition_at}
+use Rattle.net.specs.Net.{Net}
+use Rattle.prepared.specs.internal.Drawn.{Drawn, net_of}
+use Rattle.bindings.specs.internal.Bindings.{its_sizes}
 use Rattle.net_file.specs.NetFile.{read_net}
 use Rattle.bindings.specs.Orders.{order_of}
 use Rattle.bindings.specs.internal.Numbers.{digits}
 use Rattle.row_numbers.specs.Unfolding.{WriteCall, images, images_call, order_call}
-use Rattle.row_numbers.specs.internal.Walked.{LocatedTold, LocatedRoom}
+use Rattle.row_numbers.specs.internal.Walked.{LocatedTold}
 use Rattle.bindings.specs.Replies.{bytes_of}
 use Rattle.bindings.specs.declared.order.Order.{Order}
 use Rattle.bindings.specs.declared.binding.Numbered.{Numbered}
@@ -46,19 +48,13 @@ module _ (s : List ℕ) {n : Net} (is : read_net s ≡ accepted n) where
     unfolding images_call refusing
     images_done after h e = rw (is, eq-eqb (length orders % 6) 0 whole, le-leb (length orders / 6 * 5) (length out) h, e)
 
-  -- no such row, and the order of a row
-  pub order_none : (row : ℕ) {r : reply.Option Numbered} → r ≡ reply.None → LocatedTold n row r → accepted none ≡ order_call s row
+-- no such row, and the order of a row
+module _ (s : List ℕ) (row : ℕ) (d : Drawn) (is : read_net s ≡ accepted (net_of d)) where
+  pub order_none : {r : reply.Option Numbered} → r ≡ reply.None → LocatedTold d row r → accepted none ≡ order_call s row
   unfolding order_call
-  order_none row e h = rw (is, subst (LocatedTold n row) e h)
+  order_none e h = rw (is, subst (LocatedTold d row) e h)
 
-  pub order_found : (row : ℕ) {b : Numbered} {r : reply.Option Numbered} (o : Order) → r ≡ reply.Some b → LocatedTold n row r
-      → bytes_of o ≡ order_of (record { transition = b.t; colours = digits (sizes_of n (transition_at n b.t)) b.index }) → accepted (some (bytes_of o)) ≡ order_call s row
+  pub order_found : {b : Numbered} {r : reply.Option Numbered} (o : Order) → r ≡ reply.Some b → LocatedTold d row r
+      → bytes_of o ≡ order_of (record { transition = b.transition.number; colours = digits (its_sizes b.transition) b.index }) → accepted (some (bytes_of o)) ≡ order_call s row
   unfolding order_call
-  order_found row o e h f = rw (is, (subst (LocatedTold n row) e h).1) (ap (λ l. accepted (some l)) f)
-
--- its transition is there
-pub located_in : {b : Numbered} {r : reply.Option Numbered} → r ≡ reply.Some b → LocatedRoom r → b.t < 32
-located_in e h = subst LocatedRoom e h
-
-pub located_of : (n : Net) (row : ℕ) {b : Numbered} {r : reply.Option Numbered} → r ≡ reply.Some b → LocatedTold n row r → b.t < length n.transitions
-located_of n row e h = (subst (LocatedTold n row) e h).0
+  order_found o e h f = let (here, w) = subst (LocatedTold d row) e h in rw (is, w) (ap (λ l. accepted (some l)) (rw here at f))

@@ -5,83 +5,63 @@ mod image;
 
 ghost use Rattle.std.specs.Prelude.{◌≡◌, ◌≤◌, ◌*◌, ◌/◌, length};
 ghost use Rattle.reading.specs.Basics.{over};
-ghost use Rattle.net.specs.Net.{Net};
-ghost use Rattle.prepared.specs.internal.Prepared.{Prepared};
+ghost use Rattle.prepared.specs.internal.Drawn.{net_of};
 ghost use Rattle.row_numbers.specs.Unfolding as meant;
 ghost use Rattle.row_numbers.specs.Unfolding.{images_call, order_call};
 ghost use Rattle.row_numbers.specs.internal.Walked.{entries};
 ghost use Rattle.images.specs.Replies.{images_called, order_reply};
 
 pub use bindings::Order;
-use bindings::{Numbered, order_at};
-use image::write_images;
-use prepared::prepare;
+use bindings::order_at;
+use image::RowTable;
+use prepared::Drawing;
 use reading::{Reason, Refusal, once_more, refused};
 use row_numbers::{count_entries, number_all, seek_row};
 
-// Writes the images of orders on a prepared net, by a table of so many entries for the row numbers.
-fn images_by<const N: usize>(file: &[u8], plan: &[u32; 3584], orders: &[u8], out: &mut [u8])
+// Writes the images of orders, by a table of so many entries for the row numbers.
+fn images_by<const N: usize>(drawing: &Drawing, orders: &[u8], out: &mut [u8])
     requires few { N ≤ 65536 }
+    requires enough { entries (net_of drawing.now) drawing.now.plan (length (net_of drawing.now).transitions) ≤ N }
     requires room { length orders.now / 6 * 5 ≤ length out.old }
-    ensures { (n : Net) → Prepared file.now n plan.now
-        → entries n plan.now (length n.transitions) ≤ N
-        → out.new ≡ over (meant.images n orders.now) out.old }
+    ensures { out.new ≡ over (meant.images (net_of drawing.now) orders.now) out.old }
 {
     let mut starts = [0usize; 32];
     let mut numbers = [0u32; N];
-    number_all(file, plan, &mut starts, &mut numbers);
-    write_images(plan, &starts, &numbers, orders, out);
+    number_all(drawing, &mut starts, &mut numbers);
+    RowTable {
+        drawing,
+        starts: &starts,
+        numbers: &numbers,
+    }
+    .write_images(orders, out);
 }
 
 // On any net. Kept apart (once_more).
 #[inline(never)]
-fn images_long(file: &[u8], plan: &[u32; 3584], orders: &[u8], out: &mut [u8], again: bool)
+fn images_long(drawing: &Drawing, orders: &[u8], out: &mut [u8], again: bool)
     requires { length orders.now / 6 * 5 ≤ length out.old }
-    ensures { (n : Net) → Prepared file.now n plan.now
-        → out.new ≡ over (meant.images n orders.now) out.old }
+    ensures { out.new ≡ over (meant.images (net_of drawing.now) orders.now) out.old }
 {
-    if once_more(file, again) {
-        images_long(file, plan, orders, out, false);
+    if once_more(drawing.file(), again) {
+        images_long(drawing, orders, out, false);
     } else {
-        images_by::<65536>(file, plan, orders, out);
+        images_by::<65536>(drawing, orders, out);
     }
 }
 
-// The images of orders on a prepared net, by the smallest table that is enough.
-fn images_on(file: &[u8], plan: &[u32; 3584], orders: &[u8], out: &mut [u8])
+// By the smallest table that is enough.
+fn images_on(drawing: &Drawing, orders: &[u8], out: &mut [u8])
     requires { length orders.now / 6 * 5 ≤ length out.old }
-    ensures { (n : Net) → Prepared file.now n plan.now
-        → out.new ≡ over (meant.images n orders.now) out.old }
+    ensures { out.new ≡ over (meant.images (net_of drawing.now) orders.now) out.old }
 {
-    let entries = count_entries(plan);
+    let entries = count_entries(drawing);
     if entries <= 64 {
-        images_by::<64>(file, plan, orders, out);
+        images_by::<64>(drawing, orders, out);
     } else if entries <= 1024 {
-        images_by::<1024>(file, plan, orders, out);
+        images_by::<1024>(drawing, orders, out);
     } else {
-        images_long(file, plan, orders, out, true);
+        images_long(drawing, orders, out, true);
     }
-}
-
-// How many images of orders were written on a prepared net, or the refusal.
-fn images_of(
-    file: &[u8],
-    plan: &[u32; 3584],
-    orders: &[u8],
-    out: &mut [u8],
-) -> Result<usize, Refusal>
-    ensures { (n : Net) → Prepared file.now n plan.now
-        → images_called result out.new ≡ images_call file.now orders.now out.old }
-{
-    if orders.len() % 6 != 0 {
-        return refused(Reason::RaggedList, 0);
-    }
-    let count = orders.len() / 6;
-    if out.len() < count * 5 {
-        return refused(Reason::NoSpace, 0);
-    }
-    images_on(file, plan, orders, out);
-    Ok(count)
 }
 
 // Writes the image of each order of a list, 6 bytes each, on a net file, and tells how many. A refusal writes nothing.
@@ -90,18 +70,16 @@ pub fn images(net: &[u8], orders: &[u8], out: &mut [u8]) -> Result<usize, Refusa
 {
     let mut plan = [0u32; 3584];
     let mut initial = [0u16; 0];
-    prepare(net, &mut plan, &mut initial)?;
-    images_of(net, &plan, orders, out)
-}
-
-// The order of a row of a prepared net, if there is such a row.
-fn order_of(file: &[u8], plan: &[u32; 3584], row: u32) -> Option<Order>
-    ensures { (n : Net) → Prepared file.now n plan.now → order_reply (Ok result) ≡ order_call file.now row }
-{
-    match seek_row(file, plan, row as usize) {
-        Some(Numbered { t, index }) => Some(order_at(plan, t, index)),
-        None => None,
+    let drawing = Drawing::read(net, &mut plan, &mut initial)?;
+    if orders.len() % 6 != 0 {
+        return refused(Reason::RaggedList, 0);
     }
+    let count = orders.len() / 6;
+    if out.len() < count * 5 {
+        return refused(Reason::NoSpace, 0);
+    }
+    images_on(&drawing, orders, out);
+    Ok(count)
 }
 
 // The order of a row of a net file's flat net, if there is such a row.
@@ -110,6 +88,10 @@ pub fn row_order(net: &[u8], row: u32) -> Result<Option<Order>, Refusal>
 {
     let mut plan = [0u32; 3584];
     let mut initial = [0u16; 0];
-    prepare(net, &mut plan, &mut initial)?;
-    Ok(order_of(net, &plan, row))
+    let drawing = Drawing::read(net, &mut plan, &mut initial)?;
+    // A match in the place of `map`, whose closure would need its own clauses.
+    match seek_row(&drawing, row as usize) {
+        Some(binding) => Ok(Some(order_at(&binding.transition, binding.index))),
+        None => Ok(None),
+    }
 }

@@ -81,11 +81,12 @@ pub fn mark_all(drawing: &Drawing, marks: &mut [u32; 2048], counts: &mut [usize;
     let mut base: usize = 0;
     for t in 0..drawing.transitions() {
         let transition = drawing.transition(t);
+        let many = space_of(&transition);
         if every_binding_has_row(&transition) {
-            counts[t] = space_of(&transition);
+            counts[t] = many;
         } else {
             counts[t] = mark_those(&transition, base, marks);
-            base += space_of(&transition);
+            base += many;
         }
     }
 }

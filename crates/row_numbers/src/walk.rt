@@ -1,7 +1,7 @@
 // The walk over all bindings in order, which gives each its row number.
 ghost use Rattle.std.specs.Prelude.{◌≡◌, ℕ, ◌≤◌, ◌<◌, ◌+◌, length, get_or, if◌then◌else◌};
 ghost use Rattle.reading.specs.Basics.{product};
-ghost use Rattle.prepared.specs.internal.Drawn.{net_of, its_net};
+ghost use Rattle.prepared.specs.internal.Drawn.{net_of, its_net, IsDrawn};
 ghost use Rattle.bindings.specs.internal.Bindings.{its_sizes, BindsIts};
 ghost use Rattle.row_numbers.specs.internal.Walked.{its_every_row, it_takes, its_effects, entries_at, entries, NumbersFrom, Starts};
 
@@ -72,20 +72,22 @@ pub fn count_entries(drawing: &Drawing) -> usize
 
 // Numbers the bindings of all transitions that have entries, and tells where each transition starts: in the table, or where every binding has a row its first row.
 pub fn number_all(drawing: &Drawing, starts: &mut [usize; 32], numbers: &mut [u32])
-    ensures { entries (net_of drawing.now) drawing.now.plan (length (net_of drawing.now).transitions) ≤ length numbers.old
+    ensures is { entries (net_of drawing.now) drawing.now.plan (length (net_of drawing.now).transitions) ≤ length numbers.old
         → Starts (net_of drawing.now) drawing.now.plan starts.new numbers.new (length (net_of drawing.now).transitions) }
+    ensures known { IsDrawn drawing.now.file drawing.now.plan }
 {
     let mut base: usize = 0;
     let mut count: usize = 0;
     for t in 0..drawing.transitions() {
         let transition = drawing.transition(t);
+        let size = space_of(&transition);
         if every_binding_has_row(&transition) {
             starts[t] = count;
-            count += space_of(&transition);
+            count += size;
         } else {
             starts[t] = base;
             count = number_those(&transition, base, count, numbers);
-            base += space_of(&transition);
+            base += size;
         }
     }
 }

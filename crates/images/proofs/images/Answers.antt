@@ -1,6 +1,15 @@
 use Rattle.std.proofs.lemmas.Result.{err_from_is_err_and}
-use Rattle.images.proofs.Replying.{no_images}
+use Rattle.images.proofs.Replying.{no_images, images_13, images_14, images_done}
 use Rattle.images.proofs.images.Goals as goal
 
-pub returns-in_err-prepare : goal.returns-in_err-prepare
-returns-in_err-prepare c = let p = err_from_is_err_and c.from_residual.result c.from_residual.ensures.1 in rw (p.1, p.2) (no_images _ c.in_err-prepare.ensures _ _)
+pub returns-in_err-drawing : goal.returns-in_err-drawing
+returns-in_err-drawing c = let p = err_from_is_err_and c.from_residual.result c.from_residual.ensures.1 in rw (p.1, p.2) (no_images _ c.in_err-drawing.ensures _ _)
+
+pub returns-then-orders-ne0 : goal.returns-then-orders-ne0
+returns-then-orders-ne0 c = rw c.refused.ensures (images_13 _ c.in_ok-drawing.ensures.1 c.args.orders.now c.args.out.now c.if-orders-ne0.true)
+
+pub returns-then-out-count : goal.returns-then-out-count
+returns-then-out-count c = rw c.refused-then-out-count.ensures (images_14 _ c.in_ok-drawing.ensures.1 c.args.orders.now c.args.out.now c.if-orders-ne0.false c.if-out-count.true)
+
+pub returns : goal.returns
+returns c = images_done _ c.in_ok-drawing.ensures.1 c.args.orders.now c.args.out.now c.if-orders-ne0.false _ c.if-out-count.false c.images_on.ensures

@@ -9,7 +9,7 @@ pub loop-t-init : goal.loop-t-init
 loop-t-init c = number_begins _ _ _ _ _
 
 pub overflow_add-count : goal.overflow_add-count
-overflow_add-count c = omega (arith, c.space_of-count.ensures.small, rows_fit c.transitions-t-end.ensures.known (omega (arith, c.transitions-t-end.ensures.is)) c.loop-t.invariant.rows)
+overflow_add-count c = omega (arith, c.space_of-size.ensures.small, rows_fit c.transitions-t-end.ensures.known (omega (arith, c.transitions-t-end.ensures.is)) c.loop-t.invariant.rows)
 
 pub number_those-count-requires-clause-few : goal.number_those-count-requires-clause-few
 number_those-count-requires-clause-few c = rw c.transition-transition.ensures (rows_fit c.transitions-t-end.ensures.known (omega (arith, c.transitions-t-end.ensures.is)) c.loop-t.invariant.rows)
@@ -18,7 +18,7 @@ pub number_those-count-requires-clause-inside : goal.number_those-count-requires
 number_those-count-requires-clause-inside c = rw c.transition-transition.ensures (entries_fit c.transitions-t-end.ensures.known (omega (arith, c.transitions-t-end.ensures.is)) c.loop-t.invariant.used)
 
 pub overflow_add-base : goal.overflow_add-base
-overflow_add-base c = omega (arith, c.space_of-base.ensures.small, entries_fit c.transitions-t-end.ensures.known (omega (arith, c.transitions-t-end.ensures.is)) c.loop-t.invariant.used)
+overflow_add-base c = omega (arith, c.space_of-size.ensures.small, entries_fit c.transitions-t-end.ensures.known (omega (arith, c.transitions-t-end.ensures.is)) c.loop-t.invariant.used)
 
 pub loop-t-preserved : goal.loop-t-preserved
-loop-t-preserved c = elim c.if-every_binding_has_row.branch [ then-every_binding_has_row w ↦ rw (w.numbers-is, w.starts-is, w.count-is, w.base-is) (let (p, lt) = rw c.transition-transition.ensures at c.every_binding_has_row.ensures.known in let every = rw c.transition-transition.ensures at (sym c.every_binding_has_row.ensures.is ∙ w.if-every_binding_has_row.true) in number_follows _ _ _ c.loop-t.invariant (omega (arith, c.transitions-t-end.ensures.small)) p lt every (rw c.transition-transition.ensures at w.space_of-count.ensures.is)) | else-every_binding_has_row w ↦ rw (w.numbers-is, w.starts-is, w.count-is, w.base-is) (let (p, lt) = rw c.transition-transition.ensures at c.every_binding_has_row.ensures.known in let guarded = rw c.transition-transition.ensures at (sym c.every_binding_has_row.ensures.is ∙ w.if-every_binding_has_row.false) in let is = rw c.transition-transition.ensures at w.space_of-base.ensures.is in let held = rw c.transition-transition.ensures at w.number_those-count.ensures.held in number_goes _ _ _ c.loop-t.invariant lt (omega (arith, c.transitions-t-end.ensures.small)) guarded is (rw (← is) at (rw c.transition-transition.ensures at w.number_those-count.ensures.is)) (λ room. rw is (numbers_are _ _ (its_limits p) lt c.loop-t.invariant.rows (held (omega (arith, c.loop-t.auto.numbers))))) w.number_those-count.ensures.same) ]
+loop-t-preserved c = elim c.if-every_binding_has_row.branch [ then-every_binding_has_row w ↦ rw (w.numbers-is, w.starts-is, w.count-is, w.base-is) (let (p, lt) = rw c.transition-transition.ensures at c.every_binding_has_row.ensures.known in let every = rw c.transition-transition.ensures at (sym c.every_binding_has_row.ensures.is ∙ w.if-every_binding_has_row.true) in number_follows _ _ _ c.loop-t.invariant (omega (arith, c.transitions-t-end.ensures.small)) p lt every (rw c.transition-transition.ensures at c.space_of-size.ensures.is)) | else-every_binding_has_row w ↦ rw (w.numbers-is, w.starts-is, w.count-is, w.base-is) (let (p, lt) = rw c.transition-transition.ensures at c.every_binding_has_row.ensures.known in let guarded = rw c.transition-transition.ensures at (sym c.every_binding_has_row.ensures.is ∙ w.if-every_binding_has_row.false) in let is = rw c.transition-transition.ensures at c.space_of-size.ensures.is in let held = rw c.transition-transition.ensures at w.number_those-count.ensures.held in number_goes _ _ _ c.loop-t.invariant lt (omega (arith, c.transitions-t-end.ensures.small)) guarded is (rw (← is) at (rw c.transition-transition.ensures at w.number_those-count.ensures.is)) (λ room. rw is (numbers_are _ _ (its_limits p) lt c.loop-t.invariant.rows (held (omega (arith, c.loop-t.auto.numbers))))) w.number_those-count.ensures.same) ]
