@@ -1,14 +1,14 @@
 // The search for the first binding that fires, on a net that has been read.
-ghost use Rattle.std.specs.Prelude.{◌≡◌, ℕ, ◌≤◌, List, length, eqb};
+ghost use Rattle.std.specs.Prelude.{◌≡◌, ℕ, ◌≤◌, length};
 ghost use Rattle.reading.specs.Basics.{product, below};
 ghost use Rattle.firing.specs.Firing.{first};
 ghost use Rattle.firing.specs.Replies.{searched};
 ghost use Rattle.net.specs.Net.{flat_place_count};
 ghost use Rattle.bindings.specs.Replies.{bytes_of};
-ghost use Rattle.bindings.specs.internal.Bindings.{Binds, binding, fire_binding, its_binding, its_sizes};
+ghost use Rattle.bindings.specs.internal.Bindings.{BindsIts, its_sizes};
 ghost use Rattle.prepared.specs.internal.Drawn.{net_of, its_net};
 ghost use Rattle.rows.specs.internal.Effects.{room};
-ghost use Rattle.search.specs.internal.Searched.{first_fires, search_told};
+ghost use Rattle.search.specs.internal.Searched.{fires_its, first_fires, search_told};
 
 use bindings::{Numbered, Order, next_binding, order_at, space_of};
 use firing::{Answer, Arc, Searched, rest_answer, row_arcs};
@@ -20,8 +20,7 @@ use rows::{is_small, load_bound, most_slots};
 fn fires_bound(transition: &Transition, env: &[u8; 32], m: &[u16], arcs: &mut [Arc]) -> bool
     requires roomy { room transition.now.drawing.file (its_net transition.now) ≤ length arcs.old }
     requires sized { length m.now ≡ flat_place_count (its_net transition.now) }
-    ensures { (colours : List ℕ) → Binds (its_net transition.now) (binding transition.now.number colours) env.now
-        → result ≡ eqb (fire_binding (its_net transition.now) (binding transition.now.number colours) m.now).answer 0 }
+    ensures { (i : ℕ) → BindsIts transition.now i env.now → result ≡ fires_its transition.now m.now i }
 {
     match load_bound(transition, env, m, arcs) {
         Ok(ends) => rest_answer(row_arcs(arcs, ends), m) == Answer::Fired,
@@ -33,8 +32,7 @@ fn fires_bound(transition: &Transition, env: &[u8; 32], m: &[u16], arcs: &mut [A
 fn search_bindings(transition: &Transition, m: &[u16], arcs: &mut [Arc]) -> Searched<usize>
     requires roomy { room transition.now.drawing.file (its_net transition.now) ≤ length arcs.old }
     requires sized { length m.now ≡ flat_place_count (its_net transition.now) }
-    ensures is { first (λ i. eqb (fire_binding (its_net transition.now) (its_binding transition.now i) m.now).answer 0) (below (product (its_sizes transition.now)))
-        ≡ searched (λ i. i) result }
+    ensures is { first (fires_its transition.now m.now) (below (product (its_sizes transition.now))) ≡ searched (λ i. i) result }
     ensures small { result.tried ≤ 4228250625 }
 {
     let many = space_of(transition);

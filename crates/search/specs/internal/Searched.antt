@@ -1,13 +1,18 @@
 -- What the search among all orders tells.
-use Rattle.reading.specs.Basics.{ℕ, List, map, eqb}
+use Rattle.reading.specs.Basics.{ℕ, Bool, List, map, eqb}
 use Rattle.firing.specs.Firing.{First, first}
 use Rattle.firing.specs.Replies.{searched}
 use Rattle.firing.specs.declared.replies.Searched.{Searched}
 use Rattle.net.specs.Net.{Net}
+use Rattle.prepared.specs.internal.Drawn.{DrawnTransition, its_net}
 use Rattle.bindings.specs.Effect.{bindings}
 use Rattle.bindings.specs.Orders.{order_of, fire_order}
-use Rattle.bindings.specs.internal.Bindings.{its_binding}
+use Rattle.bindings.specs.internal.Bindings.{fire_binding, its_binding}
 use Rattle.bindings.specs.declared.binding.Numbered.{Numbered}
+
+-- whether a transition's binding number i would fire on a marking
+abbrev pub fires_its : DrawnTransition → List ℕ → ℕ → Bool
+fires_its t m = λ i. eqb (fire_binding (its_net t) (its_binding t i) m).answer 0
 
 -- the first order of a net that would fire on a marking
 abbrev pub first_fires : Net → List ℕ → First (List ℕ)
