@@ -5,53 +5,104 @@ ghost use Rattle.firing.specs.Firing.{fired};
 ghost use Rattle.firing.specs.Replies.{answer_number};
 ghost use Rattle.firing.specs.internal.Loops.{Ran};
 ghost use Rattle.net.specs.Net.{flat_place_count};
-ghost use Rattle.bindings.specs.Orders.{fire_order};
+ghost use Rattle.bindings.specs.Orders.{fire_order, fire_orders};
 ghost use Rattle.prepared.specs.internal.Drawn.{net_of};
 ghost use Rattle.rows.specs.internal.Effects.{room};
+ghost use Rattle.coloured.specs.Replies.{fire_called};
 
 use bindings::name_order;
 use firing::{Answer, Arc, fire_rest, row_arcs};
 use prepared::Drawing;
-use rows::load_bound;
+use reading::{Reason, Refusal, once_more, refused};
+use rows::{is_small, load_bound, most_slots};
 
-// Fires the order number i; env is lent for the colours of its binding.
-fn fire_nth(
-    drawing: &Drawing,
-    m: &mut [u16],
-    orders: &[u8],
-    i: usize,
-    env: &mut [u8; 32],
-    arcs: &mut [Arc],
-) -> Answer
-    requires whole { i * 6 + 6 ≤ length orders.now }
-    requires roomy { room drawing.now.file (net_of drawing.now) ≤ length arcs.old }
-    requires sized { length m.old ≡ flat_place_count (net_of drawing.now) }
-    ensures { fired (answer_number result) m.new ≡ fire_order (net_of drawing.now) (take 6 (drop (i * 6) orders.now)) m.old }
-{
-    let Some(named) = name_order(drawing, orders, i, env) else {
-        return Answer::NoBinding;
-    };
-    match load_bound(&named.transition, env, m, arcs) {
-        Ok(ends) => fire_rest(row_arcs(arcs, ends), m),
-        Err(answer) => answer,
-    }
+// A net that was read, and a list of orders on it, 6 bytes each.
+#[derive(Clone, Copy)]
+pub struct Orders<'a> {
+    pub drawing: &'a Drawing<'a>,
+    pub list: &'a [u8],
 }
 
-// Fires a list of orders, an answer each.
-pub fn fire_list(
-    drawing: &Drawing,
-    m: &mut [u16],
-    orders: &[u8],
-    answers: &mut [u8],
-    arcs: &mut [Arc],
-)
-    requires space { length orders.now / 6 ≤ length answers.old }
-    requires roomy { room drawing.now.file (net_of drawing.now) ≤ length arcs.old }
-    requires sized { length m.old ≡ flat_place_count (net_of drawing.now) }
-    ensures { Ran (fire_order (net_of drawing.now)) (items 6 orders.now) m.old answers.old m.new answers.new }
-{
-    let mut env = [0u8; 32];
-    for i in 0..orders.len() / 6 {
-        answers[i] = fire_nth(drawing, m, orders, i, &mut env, arcs).number();
+impl Orders<'_> {
+    // Fires the order number i; env is lent for the colours of its binding.
+    fn fire_nth(self, i: usize, m: &mut [u16], env: &mut [u8; 32], arcs: &mut [Arc]) -> Answer
+        requires whole { i * 6 + 6 ≤ length self.list.now }
+        requires roomy { room self.drawing.now.file (net_of self.drawing.now) ≤ length arcs.old }
+        requires sized { length m.old ≡ flat_place_count (net_of self.drawing.now) }
+        ensures { fired (answer_number result) m.new ≡ fire_order (net_of self.entry.drawing.now) (take 6 (drop (i * 6) self.entry.list.now)) m.old }
+    {
+        let Some(named) = name_order(self.drawing, self.list, i, env) else {
+            return Answer::NoBinding;
+        };
+        match load_bound(&named.transition, env, m, arcs) {
+            Ok(ends) => fire_rest(row_arcs(arcs, ends), m),
+            Err(answer) => answer,
+        }
+    }
+
+    // Fires each in turn, an answer each.
+    fn fire_list(self, m: &mut [u16], answers: &mut [u8], arcs: &mut [Arc])
+        requires space { length self.list.now / 6 ≤ length answers.old }
+        requires roomy { room self.drawing.now.file (net_of self.drawing.now) ≤ length arcs.old }
+        requires sized { length m.old ≡ flat_place_count (net_of self.drawing.now) }
+        ensures { Ran (fire_order (net_of self.entry.drawing.now)) (items 6 self.entry.list.now) m.old answers.old m.new answers.new }
+    {
+        let mut env = [0u8; 32];
+        for i in 0..self.list.len() / 6 {
+            answers[i] = self.fire_nth(i, m, &mut env, arcs).number();
+        }
+    }
+
+    // Fires them with a list lent for a row's arcs: how many were answered, or the refusal.
+    fn fire_with(
+        self,
+        marking: &mut [u16],
+        answers: &mut [u8],
+        arcs: &mut [Arc],
+    ) -> Result<usize, Refusal>
+        requires { room self.drawing.now.file (net_of self.drawing.now) ≤ length arcs.old }
+        ensures { fire_called result marking.new answers.new ≡ fire_orders self.entry.drawing.now.file marking.old self.entry.list.now answers.old }
+    {
+        if marking.len() != self.drawing.flat_places() {
+            return refused(Reason::WrongMarking, 0);
+        }
+        if self.list.len() % 6 != 0 {
+            return refused(Reason::RaggedList, 0);
+        }
+        if answers.len() < self.list.len() / 6 {
+            return refused(Reason::NoSpace, 0);
+        }
+        self.fire_list(marking, answers, arcs);
+        Ok(self.list.len() / 6)
+    }
+
+    // With a list of so many arcs, where the rows have room in it. Kept apart (once_more).
+    #[inline(never)]
+    fn fire_in<const ARCS: usize>(
+        self,
+        marking: &mut [u16],
+        answers: &mut [u8],
+        again: bool,
+    ) -> Result<usize, Refusal>
+        requires few { ARCS ≤ 20480 }
+        requires roomy { room self.drawing.now.file (net_of self.drawing.now) ≤ ARCS }
+        ensures { fire_called result marking.new answers.new ≡ fire_orders self.entry.drawing.now.file marking.old self.entry.list.now answers.old }
+    {
+        if once_more(self.drawing.file(), again) {
+            return self.fire_in::<ARCS>(marking, answers, false);
+        }
+        let mut arcs = [Arc::default(); ARCS];
+        self.fire_with(marking, answers, &mut arcs)
+    }
+
+    // The larger list has room for every net.
+    pub fn fire_on(self, marking: &mut [u16], answers: &mut [u8]) -> Result<usize, Refusal>
+        ensures { fire_called result marking.new answers.new ≡ fire_orders self.entry.drawing.now.file marking.old self.entry.list.now answers.old }
+    {
+        let file = self.drawing.file();
+        if is_small(most_slots(self.drawing), file.len()) {
+            return self.fire_in::<1024>(marking, answers, true);
+        }
+        self.fire_in::<20480>(marking, answers, true)
     }
 }

@@ -2,13 +2,13 @@ use native.Mathlib.Omega.{arith}
 use Rattle.firing.proofs.Running.{run_begin, run_item, run_items_end}
 use Rattle.bindings.specs.Orders.{fire_order}
 use Rattle.prepared.specs.internal.Drawn.{net_of}
-use Rattle.coloured.proofs.engine.fire_list.Goals as goal
+use Rattle.coloured.proofs.engine.Orders.fire_list.Goals as goal
 
 pub loop-i-init : goal.loop-i-init
 loop-i-init c = run_begin _ _ _ _
 
 pub loop-i-preserved : goal.loop-i-preserved
-loop-i-preserved c = rw c.number.ensures (run_item (fire_order (net_of c.args.drawing.now)) 6 c.args.orders.now _ _ c.loop-i.invariant _ _ (omega arith) c.requires.space c.fire_nth.ensures c.fire_nth.auto.m)
+loop-i-preserved c = rw c.number.ensures (run_item (fire_order (net_of c.args.self.drawing.now)) 6 c.args.self.list.now _ _ c.loop-i.invariant _ _ (omega arith) c.requires.space c.fire_nth.ensures c.fire_nth.auto.m)
 
 pub returns : goal.returns
-returns c = run_items_end (fire_order (net_of c.args.drawing.now)) 6 c.args.orders.now _ _ c.loop-i.invariant (omega arith)
+returns c = run_items_end (fire_order (net_of c.args.self.drawing.now)) 6 c.args.self.list.now _ _ c.loop-i.invariant (omega arith)
