@@ -18,7 +18,7 @@ use Rattle.row_bytes.specs.internal.RowBytes.{binding_bytes, transition_bytes, R
 use Rattle.row_numbers.specs.internal.Walked.{takes_effect, entries}
 use Rattle.row_numbers.proofs.Effects.{effects-most}
 use Rattle.row_numbers.proofs.Marking.{marks_few}
-use Rattle.row_bytes.proofs.RowBytes.{Measuring, measure_begins, measure_goes, measure_ends}
+use Rattle.row_bytes.proofs.RowBytes.{Measuring, measure_goes, measure_ends}
 
 -- ---- rows of no more bytes than so many
 -- what one binding gives: a row's bytes, or none
@@ -79,9 +79,6 @@ pub record Bounding (f : ℕ → List ℕ) (many total i : ℕ) : Type 0 where
   pub above : exact ≤ total
 
 module _ (f : ℕ → List ℕ) (many : ℕ) where
-  pub bound_begins : Bounding f many 0 0
-  bound_begins = record { exact = 0; measured = measure_begins f many 0; above = omega arith }
-
   module _ {total i : ℕ} (here : Bounding f many total i) where
     pub bound_goes : i < many → {more : ℕ} → length (f i) ≤ more → Bounding f many (total + more) (i + 1)
     bound_goes h le = record {

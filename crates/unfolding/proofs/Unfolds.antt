@@ -5,7 +5,7 @@ use Prim.Native.Nat.{◌≤◌, ◌<◌}
 use native.Mathlib.Omega.{arith}
 use borrow.Author.Tests.{le-leb, lt-leb, leb-true, leb-false}
 use lib.ListN.{length-append, length-map}
-use Rattle.reading.specs.Basics.{ℕ, Bool, true, false, List, [], flat_map, length, take, drop, replicate, leb, over}
+use Rattle.reading.specs.Basics.{ℕ, Bool, true, false, List, [], flat_map, length, take, replicate, leb, over}
 use Rattle.reading.specs.Reading.{Outcome, accepted, refused, refusing}
 use Rattle.flat_file.specs.Flat.{write_flat}
 use Rattle.flat_file.proofs.Written.{place_bytes, length_places}
@@ -144,7 +144,3 @@ module _ (s out exit : List ℕ) (sized : length out ≡ 65536) where
   program-line number place e i j =
       let (kept, p) = program_refuses number place e in
       rw (← p) (i, rw (← kept) j)
-
--- what the program writes has room in the lent list
-pub program_within : (s out : List ℕ) {k : ℕ} {exit : List ℕ} → k ≡ length (program s) → exit ≡ over (program s) out → k ≤ length exit
-program_within s out i j = rw j (omega (arith, length-append (program s) (drop (length (program s)) out)))
