@@ -8,9 +8,6 @@ returns-then-digits-lt1 t c = decimal_none _ _ c.if-digits-lt1.true
 pub returns-then-n-lt10 : goal.returns-then-n-lt10
 returns-then-n-lt10 t c = decimal_last _ _ c.if-digits-lt1.false (omega arith) c.put_digit.ensures
 
-pub put_decimal-next-requires : goal.put_decimal-next-requires
-put_decimal-next-requires t c = (omega arith, omega arith)
-
 pub put_digit-requires-2 : goal.put_digit-requires-2
 put_digit-requires-2 t c = omega (arith, next_decimal _ _ c.put_decimal-next.ensures)
 
