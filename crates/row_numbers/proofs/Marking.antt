@@ -94,10 +94,6 @@ mark_set marks k j room = go (eqb (j / 32) (k / 32)) refl
         ap (λ x. member x (j % 32)) (get_or-set_other marks (k / 32) (j / 32) word 0 apart)
         ∙ sym (ap (λ b. mark_at marks j || b) (ne_eqb j k (λ q. apart (ap (λ x. x / 32) q))) ∙ or-false (mark_at marks j))
 
--- none is set at a number past the end
-pub mark_apart : (marks : List ℕ) (k j : ℕ) → j < k → mark_at marks j ≡ (mark_at marks j || eqb j k)
-mark_apart marks k j lt = sym (ap (λ b. mark_at marks j || b) (ne_eqb j k (λ q. omega arith)) ∙ or-false (mark_at marks j))
-
 -- none is set in words of 0
 zero_at : (n i : ℕ) → ◌≡◌ {A = ℕ} (get_or (replicate n 0) i 0) 0
 zero_at zero i = refl

@@ -1,9 +1,9 @@
 -- The search for the binding of a row. Assumes nothing.
-use Rattle.std.specs.Prelude.{◌+◌, if◌then◌else◌, Result, Ok, Err}
+use Rattle.std.specs.Prelude.{◌+◌, Result, Ok, Err}
 use mathlib.Core.Path.{◌≡◌, refl, ap, ◌∙◌, subst}
 use Prim.Native.Nat.{◌≤◌, ◌<◌, ◌-◌}
 use native.Mathlib.Omega.{arith}
-use Rattle.reading.specs.Basics.{ℕ, Bool, true, false, none, some, length, product}
+use Rattle.reading.specs.Basics.{ℕ, true, none, some, length, product}
 use Rattle.net.specs.Net.{Net, sizes_of, transition_at}
 use Rattle.prepared.specs.internal.Drawn.{DrawnTransition}
 use Rattle.bindings.specs.Effect.{bindings}
@@ -15,15 +15,6 @@ use Rattle.row_numbers.specs.internal.Walked.{passed, takes_effect, effects, it_
 use Rattle.row_numbers.proofs.Walking.{passed_all, order_here, order_past, effect_passes}
 use Rattle.row_numbers.proofs.Effects.{passed_here}
 use Rattle.row_numbers.proofs.Tabled.{passed_then}
-
--- the row that comes after so many is that of the binding with which it is passed
-pub sought_here : (n : Net) (t i : ℕ) {row count one : ℕ} → count ≡ effects n t i → one ≡ (if takes_effect n t i then 1 else 0) → count ≤ row → row < count + one
-    → (takes_effect n t i ≡ true) × (row ≡ effects n t i)
-sought_here n t i {row} {count} {one} is takes le less = go (takes_effect n t i) takes
-  where
-    go : (b : Bool) → one ≡ (if b then 1 else 0) → (b ≡ true) × (row ≡ effects n t i)
-    go true e = (cc, omega arith)
-    go false e = absurd (omega arith)
 
 -- what a transition's search told
 pub the_index : (t : DrawnTransition) (row : ℕ) {index : ℕ} {r : Result ℕ ℕ} → r ≡ Ok index → SoughtTold t row r

@@ -11,7 +11,6 @@ use lib.ListN.{set}
 use lib.Seq.{get_or-set_same, get_or-set_other}
 use Rattle.reading.specs.Basics.{ℕ, zero, suc, Bool, true, false, List, length, get_or, product}
 use Rattle.net.specs.Net.{Net, sizes_of, transition_at}
-use Rattle.plan.specs.internal.Layout.{transitions_in}
 use Rattle.net_file.specs.Limits.{Limits}
 use Rattle.reading.proofs.Clash.{clash}
 use Rattle.prepared.specs.internal.Prepared.{Prepared}
@@ -27,14 +26,6 @@ use Rattle.row_numbers.specs.internal.Walked.{passed, takes_effect, effects, ord
 use Rattle.row_numbers.proofs.Walking.{passed_none, passed-most, effect_passes, effect_fails, number_passes, number_fails}
 use Rattle.row_numbers.proofs.Effects.{effects_all, passed_here}
 use Rattle.bindings.proofs.Legal.{legal-told, every-legal}
-
--- ---- transitions by their count in the table
-module _ {s plan : List ℕ} {n : Net} (p : Prepared s n plan) {count : ℕ} (is : count ≡ transitions_in plan) where
-  pub in_net : {t : ℕ} → t < count → t < length n.transitions
-  in_net lt = omega (arith, p.transitions_are)
-
-  pub all_of_net : {t : ℕ} → t ≤ count → count ≤ t → t ≡ length n.transitions
-  all_of_net most least = omega (arith, p.transitions_are)
 
 -- ---- one binding's effect
 -- it has one where it is legal
