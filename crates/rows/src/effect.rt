@@ -57,7 +57,8 @@ pub fn load_row(transition: &Transition, env: &[u8; 32], arcs: &mut [Arc]) -> En
 }
 
 // Loads a binding's row as far as firing it needs: where each kind ends, or the answer that comes before it is loaded whole.
-// Its takes tell that one is lacking before its puts and hinders are loaded.
+// Its takes tell that one is lacking before its puts and hinders are loaded. Built into its callers: the search goes through it at every binding.
+#[inline]
 pub fn load_bound(
     transition: &Transition,
     env: &[u8; 32],

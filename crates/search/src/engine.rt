@@ -87,6 +87,7 @@ impl<'a> Marked<'a> {
         ensures { first_fires (net_of self.entry.drawing.now) self.entry.marking.now ≡ searched bytes_of result }
     {
         let Searched { found, tried } = self.search_all(arcs);
+        // Taken apart by hand: with `found.map(..)` the proof did not close.
         let Some(b) = found else {
             return Searched { found: None, tried };
         };

@@ -16,7 +16,7 @@ fn put_digit(n: usize, out: &mut [u8], at: usize) -> usize
     put_byte(out, at, (0x30 + n % 10) as u8)
 }
 
-// A number in tens, of at most so many digits.
+// A number in tens, of at most so many digits. A recursion, as its meaning is: a loop is no plainer, since the last digit comes first.
 fn put_decimal(digits: usize, n: usize, out: &mut [u8], at: usize) -> usize
     requires { at + digits ≤ length out.old }
     ensures { Appended out.old out.new at result (decimal digits n) }
