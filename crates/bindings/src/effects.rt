@@ -5,7 +5,6 @@ ghost use Rattle.bindings.specs.Effect.{legal};
 ghost use Rattle.bindings.specs.internal.Bindings.{Binds, binding};
 ghost use Rattle.bindings.specs.internal.Legal.{every_row};
 
-use evaluation::eval_guard;
 use prepared::Transition;
 
 // Whether a transition's binding has an effect: it has no guard, or its guard holds.
@@ -15,7 +14,7 @@ pub fn has_effect(transition: &Transition, env: &[u8; 32]) -> bool
 {
     match transition.guard() {
         None => true,
-        Some(guard) => eval_guard(transition.file(), transition.plan(), env, 16, guard).holds,
+        Some(guard) => transition.bound(env).guard_at(16, guard).holds,
     }
 }
 

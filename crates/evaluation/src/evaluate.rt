@@ -34,10 +34,10 @@ pub struct Ranked {
 
 // A net file, its table, and each variable's colour.
 #[derive(Clone, Copy)]
-struct Bound<'a> {
-    file: &'a [u8],
-    plan: &'a [u32; 3584],
-    env: &'a [u8; 32],
+pub struct Bound<'a> {
+    pub file: &'a [u8],
+    pub plan: &'a [u32; 3584],
+    pub env: &'a [u8; 32],
     ghost short: { length file.now < 2 ^ 63 },
 }
 
@@ -114,8 +114,8 @@ impl Bound<'_> {
         }
     }
 
-    // The guard at a place, with so many levels left.
-    fn guard_at(&self, left: u8, at: usize) -> Tested
+    // Whether the guard at a place holds, with so many levels left.
+    pub fn guard_at(&self, left: u8, at: usize) -> Tested
         ensures { (places : List Place) → GuardHeld (scope_in self.now.plan.now places) self.now.env.now result
             (read_guard self.now.file.now (scope_in self.now.plan.now places) left at) }
     {
@@ -172,8 +172,8 @@ impl Bound<'_> {
         }
     }
 
-    // The one rank that 0x40 gives its count, and the place after its colours, one or two.
-    fn rank_at(&self, paired: bool, left: u8, next: usize) -> Ranked
+    // The one rank that 0x40 gives its count, and the place after its colours: two where the place is a pair, the meaning's own test (place_by), else one.
+    pub fn rank_at(&self, paired: bool, left: u8, next: usize) -> Ranked
         ensures { (places : List Place) (first second count at : ℕ) → Ranks (scope_in self.now.plan.now places) self.now.env.now count result
             (amount (scope_in self.now.plan.now places)
             (read_colour self.now.file.now (scope_in self.now.plan.now places) left) (place_by paired first second) count at next) }
@@ -193,28 +193,4 @@ impl Bound<'_> {
             next: a.next,
         }
     }
-}
-
-// Whether the guard at a place of a file holds, with so many levels left.
-pub fn eval_guard(file: &[u8], plan: &[u32; 3584], env: &[u8; 32], left: u8, at: usize) -> Tested
-    ensures { (places : List Place) → GuardHeld (scope_in plan.now places) env.now result
-        (read_guard file.now (scope_in plan.now places) left at) }
-{
-    Bound { file, plan, env }.guard_at(left, at)
-}
-
-// The rank of a count whose colours stand at a place of a file, one or two.
-pub fn eval_rank(
-    file: &[u8],
-    plan: &[u32; 3584],
-    env: &[u8; 32],
-    paired: bool,
-    left: u8,
-    next: usize,
-) -> Ranked
-    ensures { (places : List Place) (first second count at : ℕ) → Ranks (scope_in plan.now places) env.now count result
-        (amount (scope_in plan.now places)
-        (read_colour file.now (scope_in plan.now places) left) (place_by paired first second) count at next) }
-{
-    Bound { file, plan, env }.rank_at(paired, left, next)
 }

@@ -4,4 +4,4 @@
 mod evaluate;
 mod step;
 
-pub use evaluate::{Ranked, Tested, eval_guard, eval_rank};
+pub use evaluate::{Bound, Ranked, Tested};

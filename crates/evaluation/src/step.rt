@@ -3,8 +3,8 @@ ghost use Rattle.std.specs.Prelude.{◌≡◌, ℕ, ◌≤◌, ◌<◌, ◌+◌}
 ghost use Rattle.evaluation.specs.internal.Evaluated.{after, before};
 ghost use Rattle.evaluation.specs.internal.Comparing.{test_of};
 
-// The colour after c, going round a set of a size.
-pub fn after_in(size: u8, c: u16) -> u16
+// The colour after c, going round a set of a size. By if: a remainder would be of 0 where the set is empty, and is slower.
+pub(crate) fn after_in(size: u8, c: u16) -> u16
     requires { c < 65535 }
     ensures is { result ≡ after size c }
     ensures small { result ≤ c + 1 }
@@ -13,7 +13,7 @@ pub fn after_in(size: u8, c: u16) -> u16
 }
 
 // The colour before c.
-pub fn before_in(size: u8, c: u16) -> u16
+pub(crate) fn before_in(size: u8, c: u16) -> u16
     ensures is { result ≡ before size c }
     ensures small { (most : ℕ) → 255 ≤ most → c ≤ most → result ≤ most }
 {
@@ -26,14 +26,14 @@ pub fn before_in(size: u8, c: u16) -> u16
 
 // How a guard compares two colours.
 #[derive(Clone, Copy, Debug, PartialEq, Eq)]
-pub enum Comparison {
+pub(crate) enum Comparison {
     Equal,
     Less,
 }
 
 impl Comparison {
     // Whether it holds of two colours.
-    pub fn holds(self, x: u16, y: u16) -> bool
+    pub(crate) fn holds(self, x: u16, y: u16) -> bool
         ensures { result ≡ test_of self x y }
     {
         match self {

@@ -2,3 +2,4 @@
 pub mod RowLists
 pub mod Steps
 pub mod Loops
+pub mod Kinds

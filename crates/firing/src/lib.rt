@@ -1,6 +1,7 @@
 // Fires one row that lies in a lent list of arcs, by the firing rule of specs/.
 #![tactic(auto)]
 
+mod kind;
 mod replies;
 
 ghost use Rattle.std.specs.Prelude.{◌≡◌, List, [], false, ℕ, ◌-◌, length, get_or};
@@ -12,6 +13,7 @@ ghost use Rattle.firing.specs.internal.RowLists.{EndsWithin, row_in, row_held};
 ghost use Rattle.firing.specs.internal.Steps.{lacking, hindering, spilling, SmallCapacities, Sought, changed};
 
 use reading::{element, store};
+pub use kind::Kind;
 pub use replies::{Answer, Searched};
 
 // An arc of a row: a flat place, and the weight there.

@@ -19,8 +19,8 @@ use Rattle.firing.specs.internal.RowLists.{EndsWithin, row_in}
 use Rattle.firing.proofs.Rows.{length_arcs, arcs_none}
 use Rattle.flat_file.specs.Flat.{arc_command, arc_part}
 use Rattle.flat_file.specs.internal.ReaderEnums.{kind_byte, ArcHere, most_arcs, in_order, added, key, Least, arc_there, arc_step, Checked, ArcRoom, ArcsPassed, arcs_at, ArcsStand, later_ends}
-use Rattle.flat_file.specs.declared.reader.Kind.{Kind}
-use Rattle.flat_file.specs.declared.reader.Kind.TheVariants.{Take, Put, Hinder}
+use Rattle.firing.specs.declared.kind.Kind.{Kind}
+use Rattle.firing.specs.declared.kind.Kind.TheVariants.{Take, Put, Hinder}
 use Rattle.flat_file.specs.declared.reader.ArcRead.{ArcRead}
 use Rattle.flat_file.proofs.Rows.{in_order_lem, least_added, proper_added, row-added, few_arcs, one_more, arc_count}
 

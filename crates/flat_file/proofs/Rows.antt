@@ -16,8 +16,8 @@ use Rattle.firing.specs.internal.RowLists.{arcs_in, row_in}
 use Rattle.firing.proofs.Rows.{length_arcs, arcs_none, arcs_kept, arcs_with}
 use Rattle.flat_file.specs.Flat.{rise}
 use Rattle.flat_file.specs.internal.ReaderEnums.{in_order, added, key, Least, later_ends}
-use Rattle.flat_file.specs.declared.reader.Kind.{Kind}
-use Rattle.flat_file.specs.declared.reader.Kind.TheVariants.{Take, Put, Hinder}
+use Rattle.firing.specs.declared.kind.Kind.{Kind}
+use Rattle.firing.specs.declared.kind.Kind.TheVariants.{Take, Put, Hinder}
 use Rattle.firing.specs.declared.Ends.{Ends}
 
 -- ---- tests

@@ -8,7 +8,7 @@ ghost use Rattle.firing.specs.internal.RowLists.{EndsWithin, row_in};
 ghost use Rattle.flat_file.specs.Flat.{Flat, place_part, arc_part, row_part};
 ghost use Rattle.flat_file.specs.internal.ReaderEnums.{most_arcs, ArcHere, arc_there, key, Least, arc_step, ArcRoom, later_ends, arcs_at, ArcsPassed, ArcsStand, step_of, step_told, StepRoom, PlacesRead, RowsRead, opening, closing, going, OpenRoom, Scanned};
 
-use firing::{Arc, Ends};
+use firing::{Arc, Ends, Kind};
 use reading::{Reason, Refusal, element, refused, store};
 
 // The u16 that stands whole at a place.
@@ -28,14 +28,6 @@ fn arc_in(file: &[u8], at: usize) -> Arc
         place: word_in(file, at + 1),
         weight: word_in(file, at + 3),
     }
-}
-
-// The kinds of arcs, in the order of a row.
-#[derive(Clone, Copy)]
-enum Kind {
-    Take,
-    Put,
-    Hinder,
 }
 
 // The kind of the arc whose command byte stands at a place of the file.

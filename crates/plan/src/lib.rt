@@ -1,11 +1,14 @@
 // The table of a prepared net: where each thing stands in it, and how it is read and written.
 #![tactic(auto)]
 
+mod entry;
 mod place;
 
-ghost use Rattle.std.specs.Prelude.{◌≡◌, ◌≤◌, ◌<◌, ◌+◌, ◌*◌, ◌/◌, ◌%◌, map, get_or, take, drop, MatchOption};
-ghost use Rattle.plan.specs.internal.Layout.{low, transitions_in, flat_places_in, sets_in, variables_in, own_in, guards_in, packed_in, expression_in, start_in, ranks_in, pair_in};
+ghost use Rattle.std.specs.Prelude.{◌≡◌, ◌≤◌, ◌<◌, ◌+◌, ◌*◌, map, get_or, take, drop, MatchOption};
+ghost use Rattle.plan.specs.internal.Layout.{low, transitions_in, flat_places_in, sets_in, variables_in, own_in, guards_in, packed_in};
+ghost use Rattle.plan.specs.internal.Entries.{EntryTold};
 
+pub use entry::Entry;
 pub use place::place_list;
 
 // How many transitions there are.
@@ -71,9 +74,9 @@ pub fn own_of(plan: &[u32; 3584], t: usize, k: usize) -> u64
     u64::from(plan[152 + (t * 4 + k)])
 }
 
-// An entry of the packed arcs, with what its place is like, 0 where there is none: one number, since the table is fixed memory of numbers.
+// Entry i of the packed arcs, with what its place is like. The table is fixed memory of numbers: 0 stands where there is no arc.
 #[tactic(auto, using(crate::proofs::Sections::arc_none, crate::proofs::Sections::arc_told))]
-pub fn arc_of(plan: &[u32; 3584], i: usize) -> u64
+fn number_at(plan: &[u32; 3584], i: usize) -> u64
     requires { i < 3072 }
     ensures { result ≡ get_or (packed_in plan.now) i 0 }
 {
@@ -84,33 +87,19 @@ pub fn arc_of(plan: &[u32; 3584], i: usize) -> u64
     u64::from(arc / 32) * 134217728 + u64::from(plan[56 + (arc % 32) as usize])
 }
 
-// ---- an entry of the packed arcs
-// Where its expression stands in the file.
-pub fn expression_of(entry: u64) -> usize
-    ensures { result ≡ expression_in entry }
+// Arc number i of the packed ones, if there is one.
+pub fn arc_of(plan: &[u32; 3584], i: usize) -> Option<Entry>
+    requires { i < 3072 }
+    ensures { EntryTold (get_or (packed_in plan.now) i 0) result }
 {
-    (entry / 134217728) as usize
-}
-
-// Where the flat places of its place begin.
-pub fn start_of(entry: u64) -> usize
-    ensures is { result ≡ start_in entry }
-    ensures small { result < 8192 }
-{
-    (entry / 16384 % 8192) as usize
-}
-
-// How many ranks its place has.
-pub fn ranks_of(entry: u64) -> usize
-    ensures is { result ≡ ranks_in entry }
-    ensures small { result < 8192 }
-{
-    (entry / 2 % 8192) as usize
-}
-
-// Whether its place is a pair.
-pub fn is_pair(entry: u64) -> bool
-    ensures { result ≡ pair_in entry }
-{
-    entry % 2 == 1
+    let number = number_at(plan, i);
+    if number < 1 {
+        return None;
+    }
+    Some(Entry {
+        expression: (number / 134217728) as usize,
+        start: (number / 16384 % 8192) as usize,
+        ranks: (number / 2 % 8192) as usize,
+        paired: number % 2 == 1,
+    })
 }

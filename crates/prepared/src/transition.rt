@@ -2,6 +2,7 @@
 ghost use Rattle.std.specs.Prelude.{◌≡◌, ◌<◌, length, get_or, MatchOption};
 
 use crate::drawing::Drawing;
+use evaluation::Bound;
 use plan::{guard_of, own_of};
 use std::marker::Model;
 
@@ -61,6 +62,18 @@ impl<'a> Transition<'a> {
         Drawing {
             file: self.file,
             plan: self.plan,
+        }
+    }
+
+    // Its net's file and table with a colour for each variable.
+    pub fn bound<'b>(&'b self, env: &'b [u8; 32]) -> Bound<'b>
+        ensures is { (result.file.now ≡ self.now.drawing.file) × (result.plan.now ≡ self.now.drawing.plan) × (result.env.now ≡ env.now) }
+        ensures known { IsDrawn self.now.drawing.file self.now.drawing.plan }
+    {
+        Bound {
+            file: self.file,
+            plan: self.plan,
+            env,
         }
     }
 

@@ -1,45 +1,39 @@
 // Loads the effect of a binding as a row, into a lent list of arcs.
 ghost use Rattle.std.specs.Prelude.{◌≤◌, ◌<◌, length, IfOk};
+ghost use Rattle.firing.specs.internal.Kinds.{kind_number};
 ghost use Rattle.firing.specs.internal.RowLists.{EndsWithin};
 ghost use Rattle.prepared.specs.internal.Drawn.{its_net};
-ghost use Rattle.rows.specs.internal.EntrySteps.{turn_of};
 ghost use Rattle.rows.specs.internal.Loading.{KindLoaded, LoadsRest, LoadsRow, LoadsBound};
 
-use crate::entries::{Kind, entries_of};
+use crate::entries::entries_of;
 use bindings::has_effect;
-use firing::{Answer, Arc, Ends, some_lacks};
+use firing::{Answer, Arc, Ends, Kind, some_lacks};
 use multiset::load_arc;
 use prepared::Transition;
+use sums::BoundArc;
 
-// Appends the arcs of a kind.
-fn load_kind(
-    transition: &Transition,
-    env: &[u8; 32],
-    kind: Kind,
-    arcs: &mut [Arc],
-    used: usize,
-) -> usize
-    ensures is { KindLoaded transition.now.drawing.file (its_net transition.now) env.now transition.now.number (turn_of kind) arcs.old used arcs.new result }
+// The arcs of a kind, laid into a room's front: how many they are.
+fn load_kind(transition: &Transition, env: &[u8; 32], kind: Kind, room: &mut [Arc]) -> usize
+    ensures is { KindLoaded transition.now.drawing.file (its_net transition.now) env.now transition.now.number (kind_number kind) room.old room.new result }
     ensures inside { transition.now.number < length (its_net transition.now).transitions }
-    ensures low { used ≤ result }
-    ensures within { used ≤ length arcs.old → result ≤ length arcs.old }
+    ensures within { result ≤ length room.old }
 {
-    let file = transition.file();
-    let plan = transition.plan();
-    let mut end = used;
+    let bound = transition.bound(env);
+    let mut end = 0;
     for entry in entries_of(transition, kind) {
-        end = load_arc(file, plan, env, entry, arcs, end);
+        end += load_arc(&BoundArc { bound, entry }, &mut room[end..]);
     }
     end
 }
 
-// Appends the puts and hinders of a binding to its takes: where each kind ends.
+// The puts and hinders of a binding, behind its takes: where each kind ends.
 fn load_rest(transition: &Transition, env: &[u8; 32], takes: usize, arcs: &mut [Arc]) -> Ends
+    requires { takes ≤ length arcs.old }
     ensures is { LoadsRest transition.now.drawing.file (its_net transition.now) env.now transition.now.number takes arcs.old arcs.new result }
-    ensures within { takes ≤ length arcs.old → EndsWithin arcs.new result.takes result.puts result.hinders }
+    ensures within { EndsWithin arcs.new result.takes result.puts result.hinders }
 {
-    let puts = load_kind(transition, env, Kind::Puts, arcs, takes);
-    let hinders = load_kind(transition, env, Kind::Hinders, arcs, puts);
+    let puts = takes + load_kind(transition, env, Kind::Put, &mut arcs[takes..]);
+    let hinders = puts + load_kind(transition, env, Kind::Hinder, &mut arcs[puts..]);
     Ends {
         takes,
         puts,
@@ -52,7 +46,7 @@ pub fn load_row(transition: &Transition, env: &[u8; 32], arcs: &mut [Arc]) -> En
     ensures is { LoadsRow transition.now.drawing.file (its_net transition.now) env.now transition.now.number arcs.old arcs.new result }
     ensures within { EndsWithin arcs.new result.takes result.puts result.hinders }
 {
-    let takes = load_kind(transition, env, Kind::Takes, arcs, 0);
+    let takes = load_kind(transition, env, Kind::Take, arcs);
     load_rest(transition, env, takes, arcs)
 }
 
@@ -71,7 +65,7 @@ pub fn load_bound(
     if !has_effect(transition, env) {
         return Err(Answer::NoRow);
     }
-    let takes = load_kind(transition, env, Kind::Takes, arcs, 0);
+    let takes = load_kind(transition, env, Kind::Take, arcs);
     if some_lacks(&arcs[..takes], m) {
         return Err(Answer::Lacking);
     }

@@ -1,20 +1,14 @@
 // The entries of a transition's arcs of a kind, one after the other.
 ghost use Rattle.std.specs.Prelude.{◌≤◌, ◌-◌};
 ghost use Rattle.std.specs.Iterator.{at_most};
-ghost use Rattle.rows.specs.internal.EntrySteps.{turn_of, Begun, Told};
+ghost use Rattle.firing.specs.internal.Kinds.{kind_number};
+ghost use Rattle.rows.specs.internal.EntrySteps.{Begun, Told};
 
-use plan::arc_of;
+use firing::Kind;
+use plan::{Entry, arc_of};
 use prepared::Transition;
 
-// The kinds of arcs, in the order of a row.
-#[derive(Clone, Copy, Debug, PartialEq, Eq)]
-pub enum Kind {
-    Takes = 0,
-    Puts,
-    Hinders,
-}
-
-// Those of a row of 32 in the packed table that are still to come, up to the first 0.
+// Those of a row of 32 in the packed table that are still to come, up to the first that holds no arc.
 #[derive(Drop)]
 pub struct Entries<'a> {
     pub plan: &'a [u32; 3584],
@@ -24,20 +18,17 @@ pub struct Entries<'a> {
 }
 
 impl Iterator for Entries<'_> {
-    type Item = u64;
+    type Item = Entry;
 
     ghost next_gives = { λ s r t. Told s.plan.now s.at s.end r t.plan.now t.at t.end };
 
     ghost remaining = { λ s. at_most (s.end - s.at) };
 
-    fn next(&mut self) -> Option<u64> {
+    fn next(&mut self) -> Option<Entry> {
         if self.end <= self.at {
             return None;
         }
-        let entry = arc_of(self.plan, self.at);
-        if entry < 1 {
-            return None;
-        }
+        let entry = arc_of(self.plan, self.at)?;
         self.at += 1;
         Some(entry)
     }
@@ -45,7 +36,7 @@ impl Iterator for Entries<'_> {
 
 // All of a transition's kind.
 pub fn entries_of<'a>(transition: &Transition<'a>, kind: Kind) -> Entries<'a>
-    ensures { Begun transition.now (turn_of kind) result.plan.now result.at result.end }
+    ensures { Begun transition.now (kind_number kind) result.plan.now result.at result.end }
 {
     let base = transition.number() * 96 + (kind as usize) * 32;
     Entries {

@@ -2,11 +2,11 @@
 ghost use Rattle.std.specs.Prelude.{◌≡◌, ℕ, ◌≤◌, ◌<◌, ◌+◌, ◌/◌, leb};
 ghost use Rattle.prepared.specs.internal.Drawn.{net_of, its_net};
 ghost use Rattle.sums.specs.internal.Slots.{slots_for};
-ghost use Rattle.rows.specs.internal.EntrySteps.{turn_of};
+ghost use Rattle.firing.specs.internal.Kinds.{kind_number};
 ghost use Rattle.rows.specs.internal.Slots.{KindSlotted, RowSlotted, NetSlotted};
 
-use crate::entries::{Kind, entries_of};
-use plan::{expression_of, ranks_of};
+use crate::entries::entries_of;
+use firing::Kind;
 use prepared::{Drawing, Transition};
 use reading::byte_at;
 
@@ -23,13 +23,13 @@ fn slots_for(file: &[u8], at: usize, count: usize) -> usize
 
 // For the arcs of a kind.
 fn kind_slots(transition: &Transition, kind: Kind) -> usize
-    ensures is { KindSlotted (its_net transition.now) transition.now.number (turn_of kind) result }
+    ensures is { KindSlotted (its_net transition.now) transition.now.number (kind_number kind) result }
     ensures small { result ≤ 262144 }
 {
     let file = transition.file();
     let mut total: usize = 0;
     for entry in entries_of(transition, kind) {
-        total += slots_for(file, expression_of(entry), ranks_of(entry));
+        total += slots_for(file, entry.expression, entry.ranks);
     }
     total
 }
@@ -39,9 +39,9 @@ fn row_slots(transition: &Transition) -> usize
     ensures is { RowSlotted (its_net transition.now) transition.now.number result }
     ensures small { result ≤ 786432 }
 {
-    let takes = kind_slots(transition, Kind::Takes);
-    let puts = kind_slots(transition, Kind::Puts);
-    let hinders = kind_slots(transition, Kind::Hinders);
+    let takes = kind_slots(transition, Kind::Take);
+    let puts = kind_slots(transition, Kind::Put);
+    let hinders = kind_slots(transition, Kind::Hinder);
     takes + puts + hinders
 }
 

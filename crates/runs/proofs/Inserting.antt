@@ -12,7 +12,7 @@ use Rattle.reading.specs.Basics.{ℕ, suc, List, [], length, get_or, take, drop}
 use Rattle.firing.specs.declared.Arc.{Arc}
 use Rattle.firing.specs.internal.RowLists.{arcs_in}
 use Rattle.firing.proofs.Rows.{arcs_first, arcs_none, arcs_more, arcs_join, length_arcs, at_arcs}
-use Rattle.runs.specs.declared.Operator.TheVariants.{Plus}
+use Rattle.arc_expressions.specs.declared.operator.Operator.TheVariants.{Plus}
 use Rattle.runs.specs.internal.Terms.{limit, term, Terms, none, more, joined, join_by, ArcsAppended}
 use Rattle.runs.proofs.Appending.{append_by}
 use Rattle.runs.proofs.Joining.{terms_under, terms-before, terms_front, terms_behind, joined_pass, Under, add_under, add_same}

@@ -10,8 +10,8 @@ use Rattle.reading.specs.Basics.{ℕ, Bool, true, false, List, [], map, length, 
 use Rattle.firing.specs.declared.Arc.{Arc}
 use Rattle.std.proofs.lemmas.Bool.{cases_lt}
 use Rattle.std.proofs.Common.{inl, inr}
-use Rattle.runs.specs.declared.Operator.{Operator}
-use Rattle.runs.specs.declared.Operator.TheVariants.{Plus, Minus}
+use Rattle.arc_expressions.specs.declared.operator.Operator.{Operator}
+use Rattle.arc_expressions.specs.declared.operator.Operator.TheVariants.{Plus, Minus}
 use Rattle.runs.specs.internal.Terms.{limit, term, count_in, Terms, none, more, join_one, joined, join_by, times_all}
 
 -- ---- terms by rising rank

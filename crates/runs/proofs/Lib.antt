@@ -1,4 +1,4 @@
-pub mod Appending
+pub mod Laying
 pub mod Joining
 pub mod Merging
 pub mod Inserting

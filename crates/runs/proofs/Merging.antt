@@ -18,7 +18,7 @@ use native.Mathlib.Numerals.{lt_of_le_of_ne}
 use Rattle.reading.specs.Basics.{ltb}
 use Rattle.firing.specs.internal.RowLists.{arcs_in}
 use Rattle.firing.proofs.Rows.{arcs_first, arcs_front, arcs_join, length_arcs}
-use Rattle.runs.specs.declared.Operator.{Operator}
+use Rattle.arc_expressions.specs.declared.operator.Operator.{Operator}
 use Rattle.runs.specs.internal.Terms.{term, Terms, none, more, joined, join_by, ArcsAppended, FirstCount, Apart}
 use Rattle.runs.proofs.Appending.{append_join, append_front, append_by}
 use Rattle.runs.proofs.Joining.{terms_split, terms_weight, terms_under, joined_few, joined_apart, joined_last, joined-first, joined_second, joined_both}

@@ -1,24 +1,17 @@
-// Keeps terms in a lent list by rising rank: stored, multiplied, and two runs of them joined to one. A term is an arc whose place is a rank.
+// Keeps terms in a lent room by rising rank: stored, multiplied, and two runs of them joined to one. A term is an arc whose place is a rank.
 #![tactic(auto)]
 
-ghost use Rattle.std.specs.Prelude.{◌≡◌, true, List, [], ◌∷◌, ℕ, ◌≤◌, ◌<◌, ◌+◌, ◌-◌, ◌*◌, length, get_or, if◌then◌else◌};
+ghost use Rattle.std.specs.Prelude.{◌≡◌, true, [], ◌∷◌, ℕ, ◌≤◌, ◌<◌, ◌+◌, ◌-◌, ◌*◌, length, get_or, take};
 ghost use Rattle.std.specs.List.{prefix_len};
 ghost use Rattle.reading.specs.Basics.{ltb};
-ghost use Rattle.firing.specs.declared.Arc.{Arc};
 ghost use Rattle.firing.specs.internal.RowLists.{arcs_in};
-ghost use Rattle.runs.specs.declared.Operator.TheVariants.{Plus};
-ghost use Rattle.runs.specs.internal.Terms.{limit, term, Terms, joined, join_by, times_all, ArcsAppended, FirstCount, Apart};
+ghost use Rattle.arc_expressions.specs.declared.operator.Operator.TheVariants.{Plus};
+ghost use Rattle.runs.specs.internal.Terms.{limit, term, Terms, joined, join_by, times_all, Laid, FirstCount, Apart};
 
+use arc_expressions::Operator;
 use firing::Arc;
 
-// How two counts are joined: their sum, 0 where it does not fit, or the first less the second, down to 0.
-#[derive(Clone, Copy, Debug, PartialEq, Eq)]
-pub enum Operator {
-    Plus,
-    Minus,
-}
-
-// Two counts joined.
+// Two counts joined: their sum, 0 where it does not fit, or the first less the second, down to 0.
 pub fn join(op: Operator, a: u16, b: u16) -> u16
     ensures { result ≡ join_by op a b }
 {
@@ -35,35 +28,26 @@ pub fn scaled(factor: u16, count: u16) -> u16
     factor.checked_mul(count).unwrap_or(0)
 }
 
-// Stores a term after so many, and tells how many there are then. Past the end it stores nothing.
-pub fn store(arcs: &mut [Arc], used: usize, term: Arc) -> usize
-    ensures is { used < length arcs.old → ArcsAppended (term ∷ []) arcs.old used arcs.new result }
-    ensures low { used ≤ result }
-    ensures within { used ≤ length arcs.old → result ≤ length arcs.old }
+// Stores a term in a room's first slot, and tells how many slots it takes. Where there is none it stores nothing.
+pub fn store(room: &mut [Arc], term: Arc) -> usize
+    ensures is { 0 < length room.old → Laid (term ∷ []) room.old room.new result }
+    ensures within { result ≤ length room.old }
 {
-    if arcs.len() <= used {
-        return used;
+    match room.first_mut() {
+        Some(slot) => {
+            *slot = term;
+            1
+        }
+        None => 0,
     }
-    arcs[used] = term;
-    used + 1
 }
 
 // Every count of a run times a factor.
-fn scale_run(run: &mut [Arc], factor: u16)
+pub fn scale(run: &mut [Arc], factor: u16)
     ensures { run.new ≡ times_all factor run.old }
 {
     for a in run {
         a.weight = scaled(factor, a.weight);
-    }
-}
-
-// Every count from a number up to an end times a factor.
-pub fn scale(arcs: &mut [Arc], start: usize, end: usize, factor: u16)
-    ensures { (l₀ l : List Arc) → ArcsAppended l l₀ start arcs.old end → end ≤ length arcs.old
-        → ArcsAppended (times_all factor l) l₀ start arcs.new end }
-{
-    if start <= end && end <= arcs.len() {
-        scale_run(&mut arcs[start..end], factor);
     }
 }
 
@@ -85,16 +69,15 @@ fn count_of(run: &[Arc], rank: u16) -> Option<u16>
     }
 }
 
-// Joins the terms of the second run with the count p of every rank of the first, into terms after so many.
-fn merge_rest(op: Operator, p: u16, rest: &[Arc], arcs: &mut [Arc], used: usize) -> usize
-    ensures is { used + length rest.now ≤ length arcs.old → ArcsAppended (joined (join_by op) p 0 [] rest.now) arcs.old used arcs.new result }
-    ensures low { used ≤ result }
-    ensures within { used ≤ length arcs.old → result ≤ length arcs.old }
+// Joins the terms of the second run with the count p of every rank of the first, into a room: how many there are then.
+fn merge_rest(op: Operator, p: u16, rest: &[Arc], room: &mut [Arc]) -> usize
+    ensures is { length rest.now ≤ length room.old → Laid (joined (join_by op) p 0 [] rest.now) room.old room.new result }
+    ensures within { result ≤ length room.old }
 {
-    let mut end = used;
+    let mut end = 0;
     for b in rest {
         let weight = join(op, p, b.weight);
-        end = store(arcs, end, Arc { weight, ..*b });
+        end += store(&mut room[end..], Arc { weight, ..*b });
     }
     end
 }
@@ -124,29 +107,26 @@ fn seat(run: &[Arc], rank: u16) -> usize
     }
 }
 
-// Adds the one term at the end to the terms from start up to it.
-pub fn insert(arcs: &mut [Arc], start: usize, end: usize) -> usize
-    requires { start ≤ end }
-    ensures is { (below : ℕ) → Terms below 0 (arcs_in arcs.old start end) → end < length arcs.old
-        → ArcsAppended (joined (join_by Plus) 0 0 (arcs_in arcs.old start end) (arcs_in arcs.old end (end + 1))) arcs.old start arcs.new result }
-    ensures low { start ≤ result }
-    ensures within { end ≤ length arcs.old → result ≤ length arcs.old }
+// Adds a term to the run of so many at a room's front: how many there are then. Where no slot is left behind them it changes nothing.
+pub fn insert(room: &mut [Arc], many: usize, added: Arc) -> usize
+    ensures is { (below : ℕ) → Terms below 0 (take many room.old) → many < length room.old
+        → Laid (joined (join_by Plus) 0 0 (take many room.old) (added ∷ [])) room.old room.new result }
+    ensures within { many ≤ length room.old → result ≤ length room.old }
 {
-    if arcs.len() <= end {
-        return end;
+    if room.len() <= many {
+        return many;
     }
-    let Arc { place, weight } = arcs[end];
-    let i = start + seat(&arcs[start..end], place);
-    if start < i && arcs[i - 1].place == place {
-        arcs[i - 1].weight = join(Operator::Plus, arcs[i - 1].weight, weight);
-        return end;
+    let i = seat(&room[..many], added.place);
+    if 0 < i && room[i - 1].place == added.place {
+        room[i - 1].weight = join(Operator::Plus, room[i - 1].weight, added.weight);
+        return many;
     }
-    arcs.copy_within(i..end, i + 1);
-    arcs[i] = Arc { place, weight };
-    end + 1
+    room.copy_within(i..many, i + 1);
+    room[i] = added;
+    many + 1
 }
 
-// Joins two runs of terms, all of the first with what of the second stands between them, then the rest of the second, to terms from the room's start on.
+// Joins two runs of terms, all of the first with what of the second stands between them, then the rest of the second, into a room.
 fn merge_runs(
     op: Operator,
     first: &[Arc],
@@ -155,64 +135,66 @@ fn merge_runs(
     p: u16,
     q: u16,
 ) -> usize
-    ensures is { length first.now + length second.now ≤ length room.old → ArcsAppended (joined (join_by op) p q first.now second.now) room.old 0 room.new result }
+    ensures is { length first.now + length second.now ≤ length room.old → Laid (joined (join_by op) p q first.now second.now) room.old room.new result }
     ensures within { result ≤ length room.old }
 {
     let mut rest = second;
     let mut end = 0;
     for a in first {
         let (before, behind) = rest.split_at(lower(rest, a.place));
-        end = merge_rest(op, p, before, room, end);
+        end += merge_rest(op, p, before, &mut room[end..]);
         let both = count_of(behind, a.place);
         rest = &behind[usize::from(both.is_some())..];
         let weight = join(op, a.weight, both.unwrap_or(q));
-        end = store(room, end, Arc { weight, ..*a });
+        end += store(&mut room[end..], Arc { weight, ..*a });
     }
-    merge_rest(op, p, rest, room, end)
+    end + merge_rest(op, p, rest, &mut room[end..])
 }
 
-// Joins two runs behind them, and moves what comes out down to the start. Kept apart: runs that lie joined already do not come here.
+// Joins two runs behind them, and moves what comes out down to the front. Kept apart: runs that lie joined already do not come here.
 #[inline(never)]
 fn merge_behind(
     op: Operator,
-    arcs: &mut [Arc],
-    start: usize,
-    middle: usize,
-    end: usize,
+    room: &mut [Arc],
+    first: usize,
+    both: usize,
     p: u16,
     q: u16,
 ) -> usize
-    requires { (start ≤ middle) × (middle ≤ end) × (end ≤ length arcs.old) }
-    ensures is { end + (end - start) ≤ length arcs.old
-        → ArcsAppended (joined (join_by op) p q (arcs_in arcs.old start middle) (arcs_in arcs.old middle end)) arcs.old start arcs.new result }
-    ensures low { start ≤ result }
-    ensures within { result ≤ length arcs.old }
+    requires { (first ≤ both) × (both ≤ length room.old) }
+    ensures is { both + both ≤ length room.old
+        → Laid (joined (join_by op) p q (take first room.old) (arcs_in room.old first both)) room.old room.new result }
+    ensures within { result ≤ length room.old }
 {
-    let (terms, room) = arcs.split_at_mut(end);
-    let many = merge_runs(op, &terms[start..middle], &terms[middle..end], room, p, q);
-    arcs.copy_within(end..end + many, start);
-    start + many
+    let (terms, behind) = room.split_at_mut(both);
+    let (one, other) = terms.split_at(first);
+    let many = merge_runs(op, one, other, behind, p, q);
+    room.copy_within(both..both + many, 0);
+    many
 }
 
-// Joins two runs of terms, one from start up to middle and one from there up to the end, to one from start on. p and q are what every other rank has.
+// Joins two runs of terms at a room's front, one of so many and one from there up to both, to one: how many it has. p and q are what every other
+// rank has.
 pub fn merge(
     op: Operator,
-    arcs: &mut [Arc],
-    start: usize,
-    middle: usize,
-    end: usize,
+    room: &mut [Arc],
+    first: usize,
+    both: usize,
     p: u16,
     q: u16,
 ) -> usize
-    requires { (start ≤ middle) × (middle ≤ end) }
-    ensures is { (below : ℕ) → Terms below 0 (arcs_in arcs.old start middle) → Terms below 0 (arcs_in arcs.old middle end)
-        → end + (end - start) ≤ length arcs.old
-        → ArcsAppended (joined (join_by op) p q (arcs_in arcs.old start middle) (arcs_in arcs.old middle end)) arcs.old start arcs.new result }
-    ensures low { start ≤ result }
-    ensures within { end ≤ length arcs.old → result ≤ length arcs.old }
+    requires { first ≤ both }
+    ensures is { (below : ℕ) → Terms below 0 (take first room.old) → Terms below 0 (arcs_in room.old first both)
+        → both + both ≤ length room.old
+        → Laid (joined (join_by op) p q (take first room.old) (arcs_in room.old first both)) room.old room.new result }
+    ensures within { both ≤ length room.old → result ≤ length room.old }
 {
-    if arcs.len() < end || apart(op, &arcs[start..middle], &arcs[middle..end], p, q) {
-        return end;
+    if room.len() < both {
+        return both;
     }
-    merge_behind(op, arcs, start, middle, end, p, q)
+    let (one, other) = room[..both].split_at(first);
+    if apart(op, one, other, p, q) {
+        return both;
+    }
+    merge_behind(op, room, first, both, p, q)
 }

@@ -14,8 +14,8 @@ use Rattle.net.specs.Reader.{read_colour, read_expression, expression_commands, 
 use Rattle.net.specs.Values.{weight}
 use Rattle.evaluation.specs.internal.Evaluated.{bound, Ranks}
 use Rattle.runs.specs.internal.Terms.{limit, term, count_in, Terms, none, more, joined, join_by, times_all, ArcsAppended}
-use Rattle.runs.specs.declared.Operator.{Operator}
-use Rattle.runs.specs.declared.Operator.TheVariants.{Plus, Minus}
+use Rattle.arc_expressions.specs.declared.operator.Operator.{Operator}
+use Rattle.arc_expressions.specs.declared.operator.Operator.TheVariants.{Plus, Minus}
 use Rattle.evaluation.specs.declared.evaluate.Ranked.{Ranked}
 use Rattle.net.proofs.Shut.{commands}
 use Rattle.evaluation.proofs.Values.{needed_by}

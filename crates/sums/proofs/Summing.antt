@@ -30,7 +30,7 @@ use Rattle.sums.specs.internal.Sums.{InTurn, together, Summing, SumTold}
 use Rattle.sums.specs.internal.Sums as sums
 use Rattle.sums.specs.declared.terms.Multiset.{Multiset}
 use Rattle.firing.proofs.Rows.{arcs_front}
-use Rattle.runs.specs.declared.Operator.TheVariants.{Plus}
+use Rattle.arc_expressions.specs.declared.operator.Operator.TheVariants.{Plus}
 use Rattle.runs.proofs.Appending.{append_none, append_join, behind}
 use Rattle.runs.proofs.Joining.{join_fits, joined_counts, joined_rises, joined_few}
 use Rattle.sums.proofs.Listing.{append-over, amount-term, OneTerm}

@@ -9,19 +9,15 @@ use Rattle.firing.specs.declared.Arc.{Arc}
 use Rattle.firing.specs.Arcs.{Row, row}
 use Rattle.flat_file.specs.Flat.{Flat, rise, place_part, arc_part, row_part, read_flat}
 use Rattle.firing.specs.declared.Ends.{Ends}
-use Rattle.flat_file.specs.declared.reader.Kind.{Kind}
-use Rattle.flat_file.specs.declared.reader.Kind.TheVariants.{Take, Put, Hinder}
+use Rattle.firing.specs.declared.kind.Kind.{Kind}
+use Rattle.firing.specs.declared.kind.Kind.TheVariants.{Take, Put, Hinder}
+use Rattle.firing.specs.internal.Kinds.{kind_number}
 use Rattle.flat_file.specs.declared.reader.ArcRead.{ArcRead}
 use Rattle.flat_file.specs.declared.reader.Part.{Part}
 use Rattle.flat_file.specs.declared.reader.FlatSizes.{FlatSizes}
 
 -- ---- one arc
--- a kind's number, and its command byte
-abbrev pub kind_number : Kind → ℕ
-kind_number Take = 0
-kind_number Put = 1
-kind_number Hinder = 2
-
+-- a kind's command byte
 abbrev pub kind_byte : Kind → ℕ
 kind_byte kind = 0x52 + kind_number kind
 

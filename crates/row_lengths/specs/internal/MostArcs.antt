@@ -3,7 +3,7 @@ use Rattle.std.specs.Prelude.{◌≡◌, ◌+◌, ◌-◌, min, if◌then◌else
 use Rattle.reading.specs.Basics.{ℕ, List, Option, none, some, ltb, eqb, given, byte_at, word_at}
 use Rattle.reading.specs.Reading.{Answer, fine, fault}
 use Rattle.net.specs.Reader.{read_expression}
-use Rattle.plan.specs.internal.Layout.{expression_in, ranks_in, pair_in}
+use Rattle.plan.specs.declared.entry.Entry.{Entry}
 use Rattle.evaluation.specs.internal.Evaluated.{scope_in, place_by}
 use Rattle.net.specs.Net.{Place, Expression, one, two, all, plus, minus, times}
 use Rattle.row_lengths.specs.declared.arcs.Most.{Most}
@@ -54,7 +54,7 @@ MostTold count r (fine e next) = (r.arcs ≡ most count e) × (r.next ≡ next)
 MostTold count r (fault number place) = Unit {0}
 
 -- of the expression of an arc's entry
-abbrev pub MostArc : List ℕ → List ℕ → ℕ → ℕ → Type 0
+abbrev pub MostArc : List ℕ → List ℕ → Entry → ℕ → Type 0
 MostArc s plan entry r =
-    (known : List Place) (first second next : ℕ) (e : Expression) → read_expression s (scope_in plan known) (place_by (pair_in entry) first second) 16 (expression_in entry) ≡ fine e next
-    → r ≡ most (ranks_in entry) e
+    (known : List Place) (first second next : ℕ) (e : Expression) → read_expression s (scope_in plan known) (place_by entry.paired first second) 16 entry.expression ≡ fine e next
+    → r ≡ most entry.ranks e

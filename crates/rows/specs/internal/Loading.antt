@@ -11,16 +11,16 @@ use Rattle.firing.specs.declared.Ends.{Ends}
 use Rattle.firing.specs.declared.replies.Answer.{Answer}
 use Rattle.net.specs.Net.{Net, flat_place_count, transition_at}
 use Rattle.evaluation.specs.internal.Evaluated.{bound}
-use Rattle.runs.specs.internal.Terms.{ArcsAppended}
+use Rattle.runs.specs.internal.Terms.{Laid}
 use Rattle.bindings.specs.Effect.{Binding}
 use Rattle.bindings.specs.internal.Bindings.{Binds, binding, fire_binding}
 use Rattle.rows.specs.internal.Effects.{kind_slots, room, kind_arcs, TakesLoaded, RowLoaded}
 
--- a transition's arcs of a kind were appended, place by place
-abbrev pub KindLoaded : List ℕ → Net → List ℕ → ℕ → ℕ → List Arc → ℕ → List Arc → ℕ → Type 0
-KindLoaded s n env t k list used list' r =
-    used + kind_slots n (transition_at n t) (0x16 + k) + length s / 2 ≤ length list
-    → ArcsAppended (kind_arcs n (transition_at n t) (bound env) (0x16 + k) (length n.places)) list used list' r
+-- a transition's arcs of a kind were laid into a room's front, place by place
+abbrev pub KindLoaded : List ℕ → Net → List ℕ → ℕ → ℕ → List Arc → List Arc → ℕ → Type 0
+KindLoaded s n env t k room room' r =
+    kind_slots n (transition_at n t) (0x16 + k) + length s / 2 ≤ length room
+    → Laid (kind_arcs n (transition_at n t) (bound env) (0x16 + k) (length n.places)) room room' r
 
 -- after the takes, which are there, the puts and hinders were
 abbrev pub LoadsRest : List ℕ → Net → List ℕ → ℕ → ℕ → List Arc → List Arc → Ends → Type 0

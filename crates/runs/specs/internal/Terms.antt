@@ -2,9 +2,8 @@
 use Rattle.std.specs.Prelude.{◌≡◌, ◌≤◌, ◌<◌, ◌+◌, ◌-◌, ◌*◌, ◌∷◌, if◌then◌else◌, Option, Some, None}
 use Rattle.reading.specs.Basics.{ℕ, List, [], map, length, get_or, take, ltb, leb, eqb}
 use Rattle.firing.specs.declared.Arc.{Arc}
-use Rattle.firing.specs.internal.RowLists.{arcs_in}
-use Rattle.runs.specs.declared.Operator.{Operator}
-use Rattle.runs.specs.declared.Operator.TheVariants.{Plus, Minus}
+use Rattle.arc_expressions.specs.declared.operator.Operator.{Operator}
+use Rattle.arc_expressions.specs.declared.operator.Operator.TheVariants.{Plus, Minus}
 
 -- ---- terms
 -- a rank and its count
@@ -47,13 +46,12 @@ join_by Minus a b = a - b
 abbrev pub times_all : ℕ → List Arc → List Arc
 times_all factor l = map (λ a. term a.place (limit (factor * a.weight))) l
 
--- ---- lent lists
--- a lent list to which arcs were appended after so many, up to r
-pub record ArcsAppended (arcs : List Arc) (l : List Arc) (used : ℕ) (l' : List Arc) (r : ℕ) : Type 0 where
-  pub front : take used l' ≡ take used l
-  pub are : arcs_in l' used r ≡ arcs
-  pub end : r ≡ used + length arcs
-  pub size : length l' ≡ length l
+-- ---- a lent room
+-- arcs were laid into its front, r of them
+pub record Laid (arcs room room' : List Arc) (r : ℕ) : Type 0 where
+  pub are : take r room' ≡ arcs
+  pub many : r ≡ length arcs
+  pub size : length room' ≡ length room
 
 -- the count of a rank, where it is that of a run's first term
 abbrev pub FirstCount : List Arc → ℕ → Option ℕ → Type 0

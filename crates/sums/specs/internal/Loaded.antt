@@ -3,16 +3,17 @@ use Rattle.std.specs.Prelude.{◌≡◌, ◌≤◌, ◌<◌, ◌+◌, ◌*◌, �
 use Rattle.reading.specs.Basics.{ℕ, Bool, List, [], map, length, ltb, keep, numbers_from}
 use Rattle.reading.specs.Reading.{Answer, fine, fault}
 use Rattle.firing.specs.declared.Arc.{Arc}
-use Rattle.plan.specs.internal.Layout.{sets_in, variables_in, expression_in, start_in, ranks_in, pair_in}
+use Rattle.plan.specs.internal.Layout.{sets_in, variables_in}
 use Rattle.net.specs.Net.{Expression, one, two, all, plus, minus, times, Place, Net, scope}
 use Rattle.net.specs.Reader.{read_expression}
 use Rattle.net.specs.Values.{weight}
 use Rattle.evaluation.specs.internal.Evaluated.{scope_in, bound, place_by}
-use Rattle.runs.specs.declared.Operator.{Operator}
-use Rattle.runs.specs.declared.Operator.TheVariants.{Plus, Minus}
-use Rattle.runs.specs.internal.Terms.{ArcsAppended, Terms, count_in}
+use Rattle.arc_expressions.specs.declared.operator.Operator.{Operator}
+use Rattle.arc_expressions.specs.declared.operator.Operator.TheVariants.{Plus, Minus}
+use Rattle.runs.specs.internal.Terms.{Laid, Terms, count_in}
 use Rattle.sums.specs.internal.Slots.{slots_for}
 use Rattle.sums.specs.declared.terms.Multiset.{Multiset}
+use Rattle.sums.specs.declared.bound_arc.BoundArc.{BoundArc}
 
 -- ---- the multiset of an arc expression
 -- how many counts of a colour stand in it
@@ -35,23 +36,24 @@ abbrev pub byte_of : Operator → ℕ
 byte_of Plus = 0x42
 byte_of Minus = 0x43
 
--- ---- its terms in a lent list
--- they were appended after so many
-pub record Listed (n : Net) (env : List ℕ) (count : ℕ) (arcs : List Arc) (used : ℕ) (arcs' : List Arc) (r : Multiset) (e : Expression) (next : ℕ) : Type 0 where
+-- ---- its terms in a lent room
+-- they were laid into its front
+pub record Listed (n : Net) (env : List ℕ) (count : ℕ) (room room' : List Arc) (r : Multiset) (e : Expression) (next : ℕ) : Type 0 where
   pub list : List Arc
-  pub lie : ArcsAppended list arcs used arcs' r.end
+  pub lie : Laid list room room' r.many
   pub counted : Counted n env count e list r.rest
   pub after : r.next ≡ next
 
 -- where the bytes hold an arc expression, and there is room for twice its terms
-abbrev pub ListedTold : Net → List ℕ → ℕ → List Arc → ℕ → List Arc → Multiset → Answer Expression → Type 0
-ListedTold n env count arcs used arcs' r (fine e next) = used + 2 * terms e ≤ length arcs → Listed n env count arcs used arcs' r e next
-ListedTold n env count arcs used arcs' r (fault number place) = Unit {0}
+abbrev pub ListedTold : Net → List ℕ → ℕ → List Arc → List Arc → Multiset → Answer Expression → Type 0
+ListedTold n env count room room' r (fine e next) = 2 * terms e ≤ length room → Listed n env count room room' r e next
+ListedTold n env count room room' r (fault number place) = Unit {0}
 
--- those of the expression that stands at a place of the file with some levels left, by an arc's entry in the table of a prepared net, were appended so
-abbrev pub ListedAt : List ℕ → List ℕ → List ℕ → ℕ → ℕ → ℕ → List Arc → ℕ → List Arc → Multiset → Type 0
-ListedAt s plan env entry left at arcs used arcs' r =
-    (known : List Place) (first second : ℕ) → ListedTold (scope_in plan known) env (ranks_in entry) arcs used arcs' r (read_expression s (scope_in plan known) (place_by (pair_in entry) first second) left at)
+-- those of the expression that stands at a place of the file with some levels left, for the ranks of the arc's place
+abbrev pub ListedAt : BoundArc → ℕ → ℕ → List Arc → List Arc → Multiset → Type 0
+ListedAt arc left at room room' r =
+    (known : List Place) (first second : ℕ) → ListedTold (scope_in arc.bound.plan.now known) arc.bound.env.now arc.entry.ranks room room' r
+    (read_expression arc.bound.file.now (scope_in arc.bound.plan.now known) (place_by arc.entry.paired first second) left at)
 
 -- ---- arcs
 -- an arc at a place, none where its weight is 0
@@ -66,18 +68,18 @@ abbrev pub rank_arcs : ℕ → ℕ → (ℕ → ℕ) → List Arc
 rank_arcs start count w = ranks_from start w 0 count
 
 -- terms were turned into arcs, where there is room for those of so many ranks
-abbrev pub TermsLoaded : ℕ → ℕ → List Arc → ℕ → List Arc → ℕ → List Arc → ℕ → Type 0
-TermsLoaded start count l rest arcs used arcs' r =
-    (w : ℕ → ℕ) → Terms count 0 l → ((rank : ℕ) → rank < count → w rank ≡ count_in l rest rank) → used + count ≤ length arcs
-    → ArcsAppended (rank_arcs start count w) arcs used arcs' r
+abbrev pub TermsLoaded : ℕ → ℕ → List Arc → ℕ → List Arc → List Arc → ℕ → Type 0
+TermsLoaded start count l rest room room' r =
+    (w : ℕ → ℕ) → Terms count 0 l → ((rank : ℕ) → rank < count → w rank ≡ count_in l rest rank) → count ≤ length room
+    → Laid (rank_arcs start count w) room room' r
 
--- the arcs of the expression that stands at a place of the file were appended, where there is room for them and half the file
-abbrev pub ExpressionLoaded : List ℕ → List ℕ → List ℕ → List ℕ → Bool → ℕ → ℕ → ℕ → List Arc → ℕ → List Arc → ℕ → Type 0
-ExpressionLoaded s sizes vars env paired start count at arcs used arcs' r =
+-- the arcs of the expression that stands at a place of the file were laid into a room's front, where it has slots for them and half the file
+abbrev pub ExpressionLoaded : List ℕ → List ℕ → List ℕ → List ℕ → Bool → ℕ → ℕ → ℕ → List Arc → List Arc → ℕ → Type 0
+ExpressionLoaded s sizes vars env paired start count at room room' r =
     (known : List Place) (first second next : ℕ) (e : Expression) → read_expression s (scope sizes vars known) (place_by paired first second) 16 at ≡ fine e next
-    → used + slots_for s at count + length s / 2 ≤ length arcs
-    → ArcsAppended (rank_arcs start count (λ rank. weight (scope sizes vars known) (bound env) rank e)) arcs used arcs' r
+    → slots_for s at count + length s / 2 ≤ length room
+    → Laid (rank_arcs start count (λ rank. weight (scope sizes vars known) (bound env) rank e)) room room' r
 
--- those of an arc, by the table of a prepared net and the arc's entry in it
-abbrev pub ArcLoaded : List ℕ → List ℕ → List ℕ → ℕ → List Arc → ℕ → List Arc → ℕ → Type 0
-ArcLoaded s plan env entry = ExpressionLoaded s (sets_in plan) (variables_in plan) env (pair_in entry) (start_in entry) (ranks_in entry) (expression_in entry)
+-- those of an arc under a binding
+abbrev pub ArcLoaded : BoundArc → List Arc → List Arc → ℕ → Type 0
+ArcLoaded arc = ExpressionLoaded arc.bound.file.now (sets_in arc.bound.plan.now) (variables_in arc.bound.plan.now) arc.bound.env.now arc.entry.paired arc.entry.start arc.entry.ranks arc.entry.expression

@@ -1,7 +1,7 @@
 use Rattle.std.proofs.Common.{arith, ◌∙◌}
 use Rattle.net.specs.Net.{ceiling, in_expression}
 use Rattle.net.specs.internal.ReaderEnums.{bits}
-use Rattle.arc_expressions.specs.declared.expression.Join.TheVariants.{Plus, Minus}
+use Rattle.arc_expressions.specs.declared.operator.Operator.TheVariants.{Plus, Minus}
 use Rattle.arc_expressions.proofs.Expressions.{joined-whole, times_whole, expression_past, expression_below, expression_above, expression_cut, expression_deep, amount_goes, all_goes, times_goes, plus_goes, minus_goes}
 use Rattle.arc_expressions.proofs.expression.+expressions.Goals as goal
 use Rattle.arc_expressions.proofs.expression.+expressions.Goals.{read_expression-then-b-lt64-via-then-b-lt64, read_expression-then-b-lt64-via-else-b-lt64+then-b-gt68}
