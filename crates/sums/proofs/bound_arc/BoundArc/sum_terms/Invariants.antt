@@ -1,6 +1,6 @@
 use Rattle.std.proofs.Common.{◌≤◌, length}
 use Rattle.sums.specs.internal.Sums.{SummedAt}
-use Rattle.sums.proofs.sum.sum_terms.Given as goal
+use Rattle.sums.proofs.bound_arc.BoundArc.sum_terms.Given as goal
 
 abbrev pub invariant-loop-level : goal.invariant-loop-level
 invariant-loop-level l = record {

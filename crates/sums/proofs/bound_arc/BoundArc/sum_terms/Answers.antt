@@ -1,6 +1,6 @@
 use Rattle.std.proofs.Common.{arith}
 use Rattle.sums.proofs.Summing.{sum-joins}
-use Rattle.sums.proofs.sum.sum_terms.Goals as goal
+use Rattle.sums.proofs.bound_arc.BoundArc.sum_terms.Goals as goal
 
 pub loop-level-preserved : goal.loop-level-preserved
 loop-level-preserved c =

@@ -1,5 +1,5 @@
 use Rattle.sums.proofs.Listing.{amount_listed}
-use Rattle.sums.proofs.terms.BoundArc.list_count.Goals as goal
+use Rattle.sums.proofs.bound_arc.BoundArc.list_count.Goals as goal
 use Rattle.std.proofs.Common.{arith}
 
 pub returns-clause-is : goal.returns-clause-is

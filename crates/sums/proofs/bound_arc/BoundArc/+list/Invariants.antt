@@ -1,5 +1,5 @@
 use Rattle.std.proofs.Common.{◌+◌}
-use Rattle.sums.proofs.terms.BoundArc.+list.Given as goal
+use Rattle.sums.proofs.bound_arc.BoundArc.+list.Given as goal
 
 abbrev pub decreases-list_joined : goal.decreases-list_joined
 decreases-list_joined l = l.left + l.left + 2

@@ -3,7 +3,7 @@ use Rattle.net.specs.Net.{Place}
 use Rattle.plan.specs.internal.Layout.{ranks_in, pair_in}
 use Rattle.evaluation.specs.internal.Evaluated.{scope_in, place_by}
 use Rattle.sums.specs.internal.Sums.{SumTold}
-use Rattle.sums.proofs.terms.BoundArc.sum_counts.Given as goal
+use Rattle.sums.proofs.bound_arc.BoundArc.sum_counts.Given as goal
 
 abbrev pub invariant-loop : goal.invariant-loop
 invariant-loop l = record {

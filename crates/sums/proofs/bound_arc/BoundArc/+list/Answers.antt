@@ -3,7 +3,7 @@ use Rattle.plan.specs.internal.Layout.{pair_in}
 use Rattle.net.specs.Reader.{read_expression}
 use Rattle.evaluation.specs.internal.Evaluated.{scope_in, place_by}
 use Rattle.sums.proofs.Listing.{times_listed, joined_listed, all_listed, times_told, joined_told, listed_past, listed_shut, listed_stray}
-use Rattle.sums.proofs.terms.BoundArc.+list.Goals as goal
+use Rattle.sums.proofs.bound_arc.BoundArc.+list.Goals as goal
 
 pub list_joined-returns-clause-is : goal.list_joined-returns-clause-is
 list_joined-returns-clause-is t c = λ known first second.

@@ -1,7 +1,7 @@
 use Rattle.std.proofs.Common.{arith, sym, ◌∙◌}
 use Rattle.sums.proofs.Summing.{sum_begins, sum_opens, sum_takes}
-use Rattle.sums.proofs.terms.BoundArc.sum_counts.Goals as goal
-use Rattle.sums.proofs.terms.BoundArc.sum_counts.Goals.{then-b-eq66, else-b-eq66}
+use Rattle.sums.proofs.bound_arc.BoundArc.sum_counts.Goals as goal
+use Rattle.sums.proofs.bound_arc.BoundArc.sum_counts.Goals.{then-b-eq66, else-b-eq66}
 
 pub loop-init : goal.loop-init
 loop-init c = record { low = omega arith; within = λ h. h; told = λ known first second. sum_begins _ _ _ _ _ _ _ _ _ }
