@@ -6,4 +6,4 @@ pub returns-in-None : goal.returns-in-None
 returns-in-None c = λ colours binds. let (p, lt) = c.guard.ensures.known in guard_none p lt colours c.in-None.ensures.is
 
 pub returns-in-Some : goal.returns-in-Some
-returns-in-Some c = λ colours binds. let (p, lt) = c.guard.ensures.known in let (some, is) = c.in-Some.ensures.is in guard_told p lt colours c.args.env.now c.eval_guard.result is some binds (rw (c.file.ensures.is, c.plan.ensures.is) at c.eval_guard.ensures (its_net c.args.transition.now).places)
+returns-in-Some c = λ colours binds. let (p, lt) = c.guard.ensures.known in let (some, is) = c.in-Some.ensures.is in guard_told p lt colours c.args.env.now c.guard_at.result is some binds (let (file, plan, env) = c.bound.ensures.is in rw (file, plan, env) at c.guard_at.ensures (its_net c.args.transition.now).places)
