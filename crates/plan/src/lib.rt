@@ -1,11 +1,13 @@
 // The table of a prepared net: where each thing stands in it, and how it is read and written.
 #![tactic(auto)]
 
+mod own;
 mod place;
 
 ghost use Rattle.std.specs.Prelude.{◌≡◌, ◌≤◌, ◌<◌, ◌+◌, ◌*◌, ◌/◌, ◌%◌, map, get_or, take, drop, MatchOption};
-ghost use Rattle.plan.specs.internal.Layout.{low, transitions_in, flat_places_in, sets_in, variables_in, own_in, guards_in, packed_in, expression_in, start_in, ranks_in, pair_in};
+ghost use Rattle.plan.specs.internal.Layout.{low, transitions_in, flat_places_in, sets_in, variables_in, own_in, OwnTold, guards_in, packed_in, expression_in, start_in, ranks_in, pair_in};
 
+pub use own::Own;
 pub use place::place_list;
 
 // How many transitions there are.
@@ -62,13 +64,19 @@ pub fn guard_of(plan: &[u32; 3584], t: usize) -> Option<usize>
     (0 < place).then_some(place as usize)
 }
 
-// Slot k of a transition's own variables.
+// What slot k of a transition's own variables holds, if it is used.
 #[tactic(auto, using(crate::proofs::Sections::own_at))]
-pub fn own_of(plan: &[u32; 3584], t: usize, k: usize) -> u64
+pub fn own_of(plan: &[u32; 3584], t: usize, k: usize) -> Option<Own>
     requires { (t < 32) × (k < 4) }
-    ensures { result ≡ get_or (own_in plan.now) (t * 4 + k) 0 }
+    ensures { OwnTold (get_or (own_in plan.now) (t * 4 + k) 0) result }
 {
-    u64::from(plan[152 + (t * 4 + k)])
+    let slot = plan[152 + (t * 4 + k)];
+    let size = (slot % 256) as u8;
+    if size < 1 {
+        return None;
+    }
+    let variable = (slot / 256 % 32) as u8;
+    Some(Own { variable, size })
 }
 
 // An entry of the packed arcs, with what its place is like, 0 where there is none: one number, since the table is fixed memory of numbers.
