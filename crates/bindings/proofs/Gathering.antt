@@ -1,5 +1,5 @@
 -- The colours of a binding by its number, slot by slot, from the last one down. Assumes nothing.
-use Rattle.std.specs.Prelude.{◌+◌, ◌*◌, ◌/◌, ◌%◌, ◌∷◌, ◌++◌}
+use Rattle.std.specs.Prelude.{◌+◌, ◌*◌, ◌/◌, ◌%◌, ◌∷◌, ◌++◌, Option, Some, None}
 use mathlib.Core.Path.{◌≡◌, refl, sym, ap, ap₂, ◌∙◌}
 use Prim.Native.Nat.{◌≤◌, ◌<◌, ◌-◌}
 use native.Mathlib.Omega.{arith}
@@ -8,13 +8,13 @@ use native.Mathlib.Nat.{div-one, mod-one, div-div-eq-div-mul, mul_comm}
 use lib.ListN.{set, drop_of_length-le}
 use lib.Seq.{drop-cons}
 use Rattle.std.proofs.lemmas.List.{drop-set}
-use Rattle.reading.specs.Basics.{ℕ, zero, suc, List, [], length, get_or, take, drop, product}
-use Rattle.net.specs.Net.{Net, transition_at}
+use Rattle.reading.specs.Basics.{ℕ, zero, suc, List, [], length, take, drop, product}
+use Rattle.net.specs.Net.{Net}
 use Rattle.net_file.specs.Limits.{Limits}
-use Rattle.prepared.specs.internal.TransitionVariables.{own_of, slot_size}
+use Rattle.plan.specs.declared.own.Own.{Own}
 use Rattle.bindings.specs.internal.Numbers.{digits}
 use Rattle.bindings.specs.internal.SlotSteps.{colours_at}
-use Rattle.bindings.proofs.Owning.{their_sizes, sizes_are, few_theirs, by_slot}
+use Rattle.bindings.proofs.Owning.{their_sizes, sizes_are, few_theirs, SlotTold, slot_none, slot_some}
 
 -- ---- over a list of sizes
 -- four zeros
@@ -65,14 +65,13 @@ module _ (n : Net) (t i : ℕ) (l : Limits n) (lt : t < length n.transitions) wh
       record { rest = rw none (sym (div-one i)); are = refl }
 
   -- one slot more
-  pub gather_goes : {k slot left size : ℕ} (colours : List ℕ) → k < 4 → length colours ≡ 4 → slot ≡ get_or (own_of n (transition_at n t)) k 0 → size ≡ colours_at slot
+  pub gather_goes : {k left size : ℕ} (colours : List ℕ) (own : Option Own) → k < 4 → length colours ≡ 4 → SlotTold n t k own → size ≡ colours_at own
       → Gathering (their_sizes n t) i (k + 1) (drop (k + 1) colours) left → Gathering (their_sizes n t) i k (drop k (set colours k (left % size))) (left / size)
-  gather_goes {k} {slot} {left} {size} colours inside four is all here = rw (drop-set colours k (left % size) (omega arith)) (by_slot l lt inside is
-      (λ free past.
-      let one : size ≡ 1 = omega arith in
-      rw (one, mod-one left, div-one left) (gather_none inside here (omega (arith, sizes_are n t))))
-      (λ held.
-      let its : size ≡ slot_size slot = omega (arith, held.sized) in
-      let whole : drop k (their_sizes n t) ≡ slot_size slot ∷ drop (k + 1) (their_sizes n t) =
+  gather_goes {k} {left} {size} colours None inside four told all here =
+      let past = slot_none l lt k told in
+      rw (drop-set colours k (left % size) (omega arith), all, mod-one left, div-one left) (gather_none inside here (omega (arith, sizes_are n t)))
+  gather_goes {k} {left} {size} colours (Some own) inside four told all here =
+      let held = slot_some l lt k own told in
+      let whole : drop k (their_sizes n t) ≡ own.size ∷ drop (k + 1) (their_sizes n t) =
       drop-cons (their_sizes n t) k 0 (omega (arith, held.inside, sizes_are n t)) ∙ ap₂ (λ x j. x ∷ drop j (their_sizes n t)) (sym held.size) (sym (add-one k)) in
-      rw its (gather_one inside here (slot_size slot) whole)))
+      rw (drop-set colours k (left % size) (omega arith), all) (gather_one inside here own.size whole)

@@ -1,5 +1,5 @@
 -- The colours that an order names, given to a transition's variables one by one, and the number of the binding. Assumes nothing.
-use Rattle.std.specs.Prelude.{◌+◌, ◌*◌, ◌&&◌, ◌∷◌}
+use Rattle.std.specs.Prelude.{◌+◌, ◌*◌, ◌&&◌, ◌∷◌, Option, Some, None}
 use mathlib.Core.Path.{◌≡◌, sym, ap, ap₂, subst, ◌∙◌}
 use mathlib.Core.Logic.{⊎_elim}
 use Prim.Native.Nat.{◌≤◌, ◌<◌, ◌^◌}
@@ -11,17 +11,17 @@ use lib.ListN.{set, length-map, length-drop, drop_of_length-le}
 use lib.Seq.{get_or-set_same, get_or-set_other, get_or-take, get_or-drop, drop-cons, length-take-le, ext_get_or}
 use Rattle.reading.specs.Basics.{ℕ, suc, Bool, true, false, List, [], length, get_or, take, drop, ltb, eqb, every, product}
 use Rattle.reading.proofs.Lists.{Apart}
-use Rattle.net.specs.Net.{Net, transition_at}
+use Rattle.net.specs.Net.{Net}
 use Rattle.net_file.specs.Limits.{Limits}
 use Rattle.net_file.specs.Formed.{Formed}
 use Rattle.bindings.specs.Orders.{fits}
 use Rattle.bindings.specs.internal.Bindings.{Binds, binding, numbered}
 use Rattle.bindings.specs.internal.Numbers.{digits, number}
-use Rattle.bindings.specs.internal.SlotSteps.{colours_at, Given}
-use Rattle.prepared.specs.internal.TransitionVariables.{own_of, slot_size}
+use Rattle.bindings.specs.internal.SlotSteps.{colours_at, Given, GivenOne}
+use Rattle.plan.specs.declared.own.Own.{Own}
 use Rattle.bindings.proofs.Digits.{number-below, digits_number, number_front}
 use Rattle.bindings.proofs.NamedOrders.{fits_padded}
-use Rattle.bindings.proofs.Owning.{colours_in, theirs, their_sizes, theirs_apart, sizes_are, held_binds, SlotHeld, few_theirs, by_slot}
+use Rattle.bindings.proofs.Owning.{colours_in, theirs, their_sizes, theirs_apart, sizes_are, held_binds, SlotHeld, few_theirs, SlotTold, slot_none, slot_some}
 use Rattle.bindings.proofs.Walking.{set_held}
 
 -- the colours before k fit, their number is index, and the variables before k have them
@@ -30,13 +30,13 @@ pub record Giving (variables sizes colours env : List ℕ) (index k : ℕ) : Typ
   pub is : number sizes colours ≡ index * product (drop k sizes) + number (drop k sizes) (drop k colours)
   pub held : (j : ℕ) → j < k → j < length variables → get_or (colours_in env variables) j 0 ≡ get_or colours j 0
 
-module _ {variables sizes colours env after : List ℕ} {index k slot colour : ℕ} {r : Bool} (given : Given slot colour env after r) (here : Giving variables sizes colours env index k)
+module _ {variables sizes colours env : List ℕ} {index k colour : ℕ} (here : Giving variables sizes colours env index k)
     (is : colour ≡ get_or colours k 0) (byte : k < length colours) where
   next : drop k colours ≡ colour ∷ drop (k + 1) colours
   next = drop-cons colours k 0 byte ∙ ap₂ ◌∷◌ (sym is) (ap (λ j. drop j colours) (sym (add-one k)))
 
   -- a slot that is not used
-  module _ (free : slot < 1) (past : length sizes ≤ k) (few : length variables ≤ k) where
+  module _ (past : length sizes ≤ k) where
     gives_none : fits (drop k sizes) (drop k colours) ≡ eqb 0 colour && fits (drop (k + 1) sizes) (drop (k + 1) colours)
     unfolding fits every
     gives_none = rw (next, drop_of_length-le sizes past, drop_of_length-le sizes (let h : length sizes ≤ k + 1 = omega arith in h))
@@ -45,28 +45,28 @@ module _ {variables sizes colours env after : List ℕ} {index k slot colour : �
     unfolding number
     same_number = rw (drop_of_length-le sizes past, drop_of_length-le sizes (let h : length sizes ≤ k + 1 = omega arith in h))
 
-    unused_goes : {size : ℕ} → size ≡ 1 → r ≡ true → Giving variables sizes colours after (index * size + colour) (k + 1)
-    unused_goes {size} one e =
-        let zero_is = ltb-true colour 1 (sym (given.unused free).0 ∙ e) in
+    unused_goes : {after : List ℕ} {r : Bool} {size : ℕ} → length variables ≤ k → Given None colour env after r → size ≡ 1 → r ≡ true → Giving variables sizes colours after (index * size + colour) (k + 1)
+    unused_goes {size = size} few given one e =
+        let zero_is = ltb-true colour 1 (sym given.0 ∙ e) in
         let q : 0 ≡ colour = omega arith in
         let same : index * size + colour ≡ index = rw (one, ← q) (omega (arith, mul-one index)) in
-        rw ((given.unused free).1, same) (record { fit = here.fit ∙ gives_none ∙ rw (eq-eqb 0 colour q); is = here.is ∙ same_number; held = λ j less lt. here.held j (omega arith) lt })
+        rw (given.1, same) (record { fit = here.fit ∙ gives_none ∙ rw (eq-eqb 0 colour q); is = here.is ∙ same_number; held = λ j less lt. here.held j (omega arith) lt })
 
-    unused_fails : r ≡ false → fits sizes colours ≡ false
-    unused_fails e =
-        let some = ltb-false colour 1 (sym (given.unused free).0 ∙ e) in
+    unused_fails : {after : List ℕ} {r : Bool} → Given None colour env after r → r ≡ false → fits sizes colours ≡ false
+    unused_fails given e =
+        let some = ltb-false colour 1 (sym given.0 ∙ e) in
         here.fit ∙ gives_none ∙ rw (ne_eqb 0 colour (λ q. omega arith))
 
   -- one that holds a variable
-  module _ (apart : Apart (λ v. v) variables) (sized : length sizes ≡ length variables) (holds : SlotHeld variables sizes k slot) where
-    first : drop k sizes ≡ slot_size slot ∷ drop (k + 1) sizes
+  module _ {own : Own} (sized : length sizes ≡ length variables) (holds : SlotHeld variables sizes k own) where
+    first : drop k sizes ≡ own.size ∷ drop (k + 1) sizes
     first = drop-cons sizes k 0 (omega (arith, holds.inside)) ∙ ap₂ ◌∷◌ (sym holds.size) (ap (λ j. drop j sizes) (sym (add-one k)))
 
-    gives_one : fits (drop k sizes) (drop k colours) ≡ ltb colour (slot_size slot) && fits (drop (k + 1) sizes) (drop (k + 1) colours)
+    gives_one : fits (drop k sizes) (drop k colours) ≡ ltb colour own.size && fits (drop (k + 1) sizes) (drop (k + 1) colours)
     unfolding fits
     gives_one = rw (next, first)
 
-    numbers_one : {size : ℕ} → size ≡ slot_size slot → number sizes colours ≡ (index * size + colour) * product (drop (k + 1) sizes) + number (drop (k + 1) sizes) (drop (k + 1) colours)
+    numbers_one : {size : ℕ} → size ≡ own.size → number sizes colours ≡ (index * size + colour) * product (drop (k + 1) sizes) + number (drop (k + 1) sizes) (drop (k + 1) colours)
     unfolding number
     numbers_one {size} is-size =
         let rest : ℕ = product (drop (k + 1) sizes) in
@@ -74,14 +74,14 @@ module _ {variables sizes colours env after : List ℕ} {index k slot colour : �
         rw (next, first, is-size) in
         omega (arith, here.is, mul_assoc index size rest, add-mul (index * size) colour rest)
 
-    used_goes : {size : ℕ} → size ≡ slot_size slot → r ≡ true → Giving variables sizes colours after (index * size + colour) (k + 1)
-    used_goes is-size e =
+    used_goes : {after : List ℕ} {r : Bool} {size : ℕ} → Apart (λ v. v) variables → GivenOne own colour env after r → size ≡ own.size → r ≡ true → Giving variables sizes colours after (index * size + colour) (k + 1)
+    used_goes {after} apart given is-size e =
         let inside = holds.inside in
         let colours_are : colours_in after variables ≡ set (colours_in env variables) k colour =
-        rw (given.stored holds.some e, holds.variable) (set_held env k colour apart inside (omega (arith, holds.small, given.room))) in
+        rw (given.stored e, holds.variable) (set_held env k colour apart inside (omega (arith, holds.variable, own.few_variables, given.room))) in
         let wide : k < length (colours_in env variables) = rw length-map inside in
         record {
-          fit = here.fit ∙ gives_one ∙ rw (sym (given.used holds.some) ∙ e);
+          fit = here.fit ∙ gives_one ∙ rw (sym given.is ∙ e);
           is = numbers_one is-size;
           held = λ j less lt. ap (λ l. get_or l j 0) colours_are ∙ ⊎_elim
               (λ s. rw s (get_or-set_same (colours_in env variables) k colour 0 wide ∙ is))
@@ -89,8 +89,8 @@ module _ {variables sizes colours env after : List ℕ} {index k slot colour : �
               (eq-or-lt_of_le (let h : j ≤ k = omega arith in h));
         }
 
-    used_fails : r ≡ false → fits sizes colours ≡ false
-    used_fails e = here.fit ∙ gives_one ∙ rw (sym (given.used holds.some) ∙ e)
+    used_fails : {after : List ℕ} {r : Bool} → GivenOne own colour env after r → r ≡ false → fits sizes colours ≡ false
+    used_fails given e = here.fit ∙ gives_one ∙ rw (sym given.is ∙ e)
 
 -- ---- by the table
 -- the number so far is small
@@ -111,22 +111,20 @@ module _ (n : Net) (t : ℕ) (orders : List ℕ) (at : ℕ) (whole : at + 4 ≤ 
   four : length named ≡ 4
   four = length-take-le 4 (drop at orders) (rw length-drop (omega arith))
 
-  module _ {env after : List ℕ} {index k slot colour : ℕ} {r : Bool} (inside : k < 4) (is : slot ≡ get_or (own_of n (transition_at n t)) k 0) (byte : colour ≡ get_or orders (at + k) 0) (given : Given slot colour env after r) (here : Giving (theirs n t) (their_sizes n t) named env index k) where
+  module _ {env : List ℕ} {index k colour : ℕ} (inside : k < 4) (byte : colour ≡ get_or orders (at + k) 0) (here : Giving (theirs n t) (their_sizes n t) named env index k) where
     colour_is : colour ≡ get_or named k 0
     colour_is = byte ∙ sym (get_or-take 4 (drop at orders) k 0 inside ∙ get_or-drop at orders k 0)
 
     there_is : k < length named
     there_is = omega (arith, four)
 
-    pub give_goes : {size : ℕ} → size ≡ colours_at slot → r ≡ true → Giving (theirs n t) (their_sizes n t) named after (index * size + colour) (k + 1)
-    give_goes sized e = by_slot l lt inside is
-        (λ free le. unused_goes given here colour_is there_is free (omega (arith, sizes_are n t)) le (omega arith) e)
-        (λ held. used_goes given here colour_is there_is (theirs_apart n t) (sizes_are n t) held (omega (arith, held.sized)) e)
+    pub give_goes : {after : List ℕ} {r : Bool} {size : ℕ} (own : Option Own) → SlotTold n t k own → Given own colour env after r → size ≡ colours_at own → r ≡ true → Giving (theirs n t) (their_sizes n t) named after (index * size + colour) (k + 1)
+    give_goes None told given sized e = let le = slot_none l lt k told in unused_goes here colour_is there_is (omega (arith, sizes_are n t)) le given sized e
+    give_goes (Some own) told given sized e = used_goes here colour_is there_is (sizes_are n t) (slot_some l lt k own told) (theirs_apart n t) given sized e
 
-    pub give_fails : r ≡ false → fits (their_sizes n t) named ≡ false
-    give_fails e = by_slot l lt inside is
-        (λ free le. unused_fails given here colour_is there_is free (omega (arith, sizes_are n t)) le e)
-        (λ held. used_fails given here colour_is there_is (theirs_apart n t) (sizes_are n t) held e)
+    pub give_fails : (after : List ℕ) {r : Bool} (own : Option Own) → SlotTold n t k own → Given own colour env after r → r ≡ false → fits (their_sizes n t) named ≡ false
+    give_fails after None told given e = let le = slot_none l lt k told in unused_fails here colour_is there_is (omega (arith, sizes_are n t)) given e
+    give_fails after (Some own) told given e = used_fails here colour_is there_is (sizes_are n t) (slot_some l lt k own told) given e
 
   -- after the last slot all fit, the number is theirs, and the variables have them
   module _ {env : List ℕ} {index k : ℕ} (all : 4 ≤ k) (here : Giving (theirs n t) (their_sizes n t) named env index k) where

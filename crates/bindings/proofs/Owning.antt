@@ -1,5 +1,5 @@
 -- Bindings by the table of each transition's own variables: what a slot holds, and the colours that the variables' slots hold. Assumes nothing.
-use Rattle.std.specs.Prelude.{◌+◌, ◌*◌, ◌∷◌, if◌then◌else◌}
+use Rattle.std.specs.Prelude.{◌+◌, ◌*◌, ◌∷◌, if◌then◌else◌, Option, Some, None}
 use mathlib.Core.Path.{◌≡◌, refl, sym, ap, ap₂, subst, ◌∙◌}
 use mathlib.Core.List.Memᴰ
 use Prim.Native.Nat.{◌≤◌, ◌<◌, ◌^◌}
@@ -17,7 +17,9 @@ use Rattle.net_file.specs.Formed.{Formed}
 use Rattle.bindings.specs.Effect.{stands_for}
 use Rattle.bindings.specs.internal.Numbers.{digits}
 use Rattle.bindings.specs.internal.Bindings.{Binds, binding, numbered}
-use Rattle.prepared.specs.internal.TransitionVariables.{own_of, slot_variable, slot_size}
+use Rattle.plan.specs.declared.own.Own.{Own}
+use Rattle.plan.specs.internal.Layout.{slot_size, OwnTold}
+use Rattle.prepared.specs.internal.TransitionVariables.{own_of}
 use Rattle.bindings.specs.internal.SlotSteps.{colours_at}
 use Rattle.bindings.proofs.Digits.{product-with}
 use Rattle.bindings.proofs.Used.{used_below}
@@ -130,14 +132,15 @@ pub first_binds : (n : Net) (t slots : ℕ) → Binds n (numbered n t 0) (replic
 first_binds n t slots v e = zero_at slots v ∙ sym (zero_stands (theirs n t) (their_sizes n t) v)
 
 -- ---- slots of the table
+-- what is told of slot k
+abbrev pub SlotTold : Net → ℕ → ℕ → Option Own → Type 0
+SlotTold n t k own = OwnTold (get_or (own_of n (transition_at n t)) k 0) own
+
 -- slot k holds a variable, and the size of its set
-pub record SlotHeld (variables sizes : List ℕ) (k slot : ℕ) : Type 0 where
+pub record SlotHeld (variables sizes : List ℕ) (k : ℕ) (own : Own) : Type 0 where
   pub inside : k < length variables
-  pub some : 1 ≤ slot
-  pub variable : slot_variable slot ≡ get_or variables k 0
-  pub small : get_or variables k 0 < 32
-  pub size : slot_size slot ≡ get_or sizes k 0
-  pub sized : 1 ≤ slot_size slot
+  pub variable : own.variable ≡ get_or variables k 0
+  pub size : own.size ≡ get_or sizes k 0
 
 pub map_at : {A : Type 0} (f : ℕ → A) (d : A) (l : List ℕ) (k : ℕ) → k < length l → get_or (map f l) k d ≡ f (get_or l k 0)
 map_at f d [] k lt = absurd (omega arith)
@@ -153,28 +156,56 @@ module _ {n : Net} (l : Limits n) {t : ℕ} (lt : t < length n.transitions) wher
   pub few_theirs : length (their_sizes n t) ≤ 4
   few_theirs = rw length-map (l.few_variables t lt)
 
-  -- it holds one, or it is 0
-  pub by_slot : {C : Type 0} {k slot : ℕ} → k < 4 → slot ≡ get_or (own_of n (transition_at n t)) k 0 → (slot < 1 → length (theirs n t) ≤ k → C) → (SlotHeld (theirs n t) (their_sizes n t) k slot → C) → C
-  by_slot {C} {k} {slot} less is unused used = go (ltb k (length (theirs n t))) refl
-    where
-      entry : slot ≡ get_or (own_of n (transition_at n t)) k 0
-      entry = is
+  module _ (k : ℕ) where
+    abbrev entry : ℕ
+    entry = get_or (own_of n (transition_at n t)) k 0
 
-      go : (b : Bool) → ltb k (length (theirs n t)) ≡ b → C
-      go true e =
-          let h = ltb-true k (length (theirs n t)) e in
-          let v : ℕ = get_or (theirs n t) k 0 in
-          let size : ℕ = size_of n (get_or n.variables v 0) in
-          let below : v < length n.variables = (theirs_stand n t (in_get_d (theirs n t) k h)).0 in
-          let sized = l.sizes (get_or n.variables v 0) (l.variable_sets v below) in
-          let whole : slot ≡ v * 256 + size = entry ∙ map_at (λ v. v * 256 + size_of n (get_or n.variables v 0)) 0 (theirs n t) k h in
-          let that : get_or (their_sizes n t) k 0 ≡ size = map_at (λ v. size_of n (get_or n.variables v 0)) 0 (theirs n t) k h in
-          let few = l.variables in
-          used (record { inside = h; some = omega arith; variable = omega arith; small = omega arith; size = omega arith; sized = omega arith })
-      go false e =
-          let h = ltb-false k (length (theirs n t)) e in
-          let none : length (own_of n (transition_at n t)) ≤ k = rw length-map h in
-          unused (omega (arith, entry, get_or-eq_default (own_of n (transition_at n t)) 0 none)) h
+    -- past the last variable the table has 0
+    past_last : length (theirs n t) ≤ k → entry ≡ 0
+    past_last h = get_or-eq_default (own_of n (transition_at n t)) 0 (let none : length (own_of n (transition_at n t)) ≤ k = rw length-map h in none)
+
+    -- and before it the variable and its size
+    module _ (h : k < length (theirs n t)) where
+      abbrev v : ℕ
+      v = get_or (theirs n t) k 0
+
+      abbrev size : ℕ
+      size = size_of n (get_or n.variables v 0)
+
+      entry_is : entry ≡ v * 256 + size
+      entry_is = map_at (λ v. v * 256 + size_of n (get_or n.variables v 0)) 0 (theirs n t) k h
+
+      size_is : get_or (their_sizes n t) k 0 ≡ size
+      size_is = map_at (λ v. size_of n (get_or n.variables v 0)) 0 (theirs n t) k h
+
+      is_one : v < length n.variables
+      is_one = (theirs_stand n t (in_get_d (theirs n t) k h)).0
+
+      some_size : slot_size entry ≡ size
+      some_size = let sized = l.sizes (get_or n.variables v 0) (l.variable_sets v is_one) in omega (arith, entry_is)
+
+    -- none is told past the last
+    pub slot_none : SlotTold n t k None → length (theirs n t) ≤ k
+    slot_none told = go (ltb k (length (theirs n t))) refl
+      where
+        go : (b : Bool) → ltb k (length (theirs n t)) ≡ b → length (theirs n t) ≤ k
+        go false e = ltb-false k (length (theirs n t)) e
+        go true e =
+            let h = ltb-true k (length (theirs n t)) e in
+            let sized = l.sizes (get_or n.variables (v h) 0) (l.variable_sets (v h) (is_one h)) in
+            absurd (omega (arith, some_size h))
+
+    -- one is told of a variable
+    pub slot_some : (own : Own) → SlotTold n t k (Some own) → SlotHeld (theirs n t) (their_sizes n t) k own
+    slot_some own told = go (ltb k (length (theirs n t))) refl
+      where
+        go : (b : Bool) → ltb k (length (theirs n t)) ≡ b → SlotHeld (theirs n t) (their_sizes n t) k own
+        go true e =
+            let h = ltb-true k (length (theirs n t)) e in
+            let few = l.variables in
+            let sized = l.sizes (get_or n.variables (v h) 0) (l.variable_sets (v h) (is_one h)) in
+            record { inside = h; variable = omega (arith, told.0, entry_is h, is_one h); size = omega (arith, told.1, some_size h, size_is h) }
+        go false e = absurd (omega (arith, past_last (ltb-false k (length (theirs n t)) e), told.1, own.sized))
 
 -- ---- how many bindings
 -- what multiplies them, up to slot k
@@ -185,17 +216,15 @@ pub fits_space : {space : ℕ} (k : ℕ) → space ≤ 255 ^ k → k ≤ 4 → s
 fits_space k le few = le_trans le (pow-le-pow_right {n = 255} (omega arith) few)
 
 module _ {n : Net} (l : Limits n) {t : ℕ} (lt : t < length n.transitions) where
-  pub space_goes : {space r : ℕ} (k slot : ℕ) → k < 4 → slot ≡ get_or (own_of n (transition_at n t)) k 0 → r ≡ colours_at slot
+  pub space_goes : {space r : ℕ} (k : ℕ) (own : Option Own) → SlotTold n t k own → r ≡ colours_at own
       → space ≡ product (take k (their_sizes n t)) → space * r ≡ product (take (k + 1) (their_sizes n t))
-  space_goes {space} {r} k slot less is all so =
-      by_slot l lt less is
-      (λ free le.
+  space_goes {space} k None told all so =
+      let le = slot_none l lt k told in
       let past : length (their_sizes n t) ≤ k = omega (arith, sizes_are n t) in
       let more : length (their_sizes n t) ≤ k + 1 = omega arith in
-      let one : r ≡ 1 = omega arith in
-      rw one (mul-one space ∙ so ∙ ap product (take_all k (their_sizes n t) past ∙ sym (take_all (k + 1) (their_sizes n t) more))))
-      (λ held.
+      rw all (mul-one space ∙ so ∙ ap product (take_all k (their_sizes n t) past ∙ sym (take_all (k + 1) (their_sizes n t) more)))
+  space_goes k (Some own) told all so =
+      let held = slot_some l lt k own told in
       let inside : k < length (their_sizes n t) = omega (arith, held.inside, sizes_are n t) in
-      let held_all : r ≡ slot_size slot = omega (arith, held.sized) in
-      rw (held_all, held.size, so, add-one k)
-      (sym (ap product (take-suc (their_sizes n t) k 0 inside) ∙ product-with (take k (their_sizes n t)) (get_or (their_sizes n t) k 0))))
+      rw (all, held.size, so, add-one k)
+      (sym (ap product (take-suc (their_sizes n t) k 0 inside) ∙ product-with (take k (their_sizes n t)) (get_or (their_sizes n t) k 0)))

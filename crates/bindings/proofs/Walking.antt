@@ -1,5 +1,5 @@
 -- From a transition's binding to the next, or on by so many: the last variable changes fastest, and one that had its last colour begins anew. Assumes nothing.
-use Rattle.std.specs.Prelude.{◌+◌, ◌*◌, ◌/◌, ◌%◌, ◌∷◌}
+use Rattle.std.specs.Prelude.{◌+◌, ◌*◌, ◌/◌, ◌%◌, ◌∷◌, Option, Some, None}
 use mathlib.Core.Path.{◌≡◌, refl, sym, ap, ap₂, subst, ◌∙◌}
 use Prim.Native.Nat.{◌≤◌, ◌<◌, ◌-◌}
 use native.Mathlib.Omega.{arith}
@@ -10,19 +10,19 @@ use lib.ListN.{set, drop_of_length-le}
 use lib.Seq.{get_or-set_same, get_or-set_other, drop-cons}
 use Rattle.reading.specs.Basics.{ℕ, zero, suc, Bool, true, false, List, [], length, get_or, drop, ltb, product}
 use Rattle.reading.proofs.Lists.{here, Apart, alone, new, map_same}
-use Rattle.net.specs.Net.{Net, transition_at}
+use Rattle.net.specs.Net.{Net}
 use Rattle.net_file.specs.Limits.{Limits}
 use Rattle.net_file.specs.Formed.{Formed}
 use Rattle.bindings.specs.internal.Numbers.{digits, number}
 use Rattle.prepared.specs.internal.Drawn.{DrawnTransition, its_net, Stands}
 use Rattle.prepared.proofs.Known.{its_limits}
 use Rattle.bindings.specs.internal.Bindings.{Binds, binding, numbered, its_sizes, BindsIts}
-use Rattle.bindings.specs.internal.SlotSteps.{Turned, Skipped}
-use Rattle.prepared.specs.internal.TransitionVariables.{own_of, slot_variable, slot_size}
+use Rattle.bindings.specs.internal.SlotSteps.{Turned, TurnedOne, Skipped}
+use Rattle.plan.specs.declared.own.Own.{Own}
 use Rattle.bindings.proofs.Bindings.{Fit, none, more, fit_length}
 use Rattle.bindings.proofs.Digits.{digits-length, digits_fit, digits_number, number_digits}
 use Rattle.reading.proofs.Clash.{clash}
-use Rattle.bindings.proofs.Owning.{colours_in, theirs, their_sizes, theirs_apart, sizes_are, binds_held, held_binds, SlotHeld, map_at, in_get_d, few_theirs, by_slot}
+use Rattle.bindings.proofs.Owning.{colours_in, theirs, their_sizes, theirs_apart, sizes_are, binds_held, held_binds, SlotHeld, map_at, in_get_d, few_theirs, SlotTold, slot_none, slot_some}
 
 -- ---- one colour changed
 -- the slot of variable k is set: its colour is
@@ -67,7 +67,7 @@ module _ {variables sizes env : List ℕ} {j rest k : ℕ} (here : Walking varia
       let same : drop (k + 1) sizes ≡ drop k sizes = drop_of_length-le sizes (let h : length sizes ≤ k + 1 = omega arith in h) ∙ sym (drop_of_length-le sizes le) in
       record { fit = here.fit; is = rw (← same) here.is }
 
-  module _ {slot : ℕ} (room : length env ≡ 32) (apart : Apart (λ v. v) variables) (sized : length sizes ≡ length variables) (held : SlotHeld variables sizes k slot) where
+  module _ {own : Own} (room : length env ≡ 32) (apart : Apart (λ v. v) variables) (sized : length sizes ≡ length variables) (held : SlotHeld variables sizes k own) where
     abbrev v : ℕ
     v = get_or variables k 0
 
@@ -88,7 +88,7 @@ module _ {variables sizes env : List ℕ} {j rest k : ℕ} (here : Walking varia
     colour-below = omega (arith, fit_at k here.fit (let h : k < length sizes = omega (arith, held.inside) in h), colour_at)
 
     set_it : (c : ℕ) → colours_in (set env v c) variables ≡ set (colours_in env variables) k c
-    set_it c = set_held env k c apart held.inside (omega (arith, held.small))
+    set_it c = set_held env k c apart held.inside (omega (arith, held.variable, own.few_variables))
 
     counts_it : (c : ℕ) → number sizes (colours_in (set env v c) variables) + colour * after_it ≡ number sizes (colours_in env variables) + c * after_it
     counts_it c = rw (set_it c, ← colour_at, add-one k) (number-set sizes (colours_in env variables) k c (fit_length here.fit) (omega (arith, held.inside)))
@@ -133,61 +133,55 @@ module _ (n : Net) (t j : ℕ) where
         let none : many * product (drop 4 (their_sizes n t)) ≡ many * 1 = ap (λ p. many * product p) (drop_of_length-le (their_sizes n t) (few_theirs l lt)) in
         record { fit = rw held (digits_fit (their_sizes n t) i (omega arith)); is = omega arith }
 
-    module _ {env : List ℕ} {k slot rest : ℕ} (some : 0 < k) (most : k ≤ 4) (is : slot ≡ get_or (own_of n (transition_at n t)) (k - 1) 0) (here : Walking (theirs n t) (their_sizes n t) env j rest k) where
+    module _ {env : List ℕ} {k rest : ℕ} (some : 0 < k) (here : Walking (theirs n t) (their_sizes n t) env j rest k) where
       kept : Walking (theirs n t) (their_sizes n t) env j rest (k - 1 + 1)
       kept = let e : k - 1 + 1 ≡ k = omega arith in rw e here
 
-      inside : k - 1 < 4
-      inside = omega arith
-
       -- a slot that is not used
-      passes : {after : List ℕ} → length (theirs n t) ≤ k - 1 → after ≡ env → Walking (theirs n t) (their_sizes n t) after j rest (k - 1)
-      passes le same = rw same (walks_on kept (omega (arith, sizes_are n t)))
+      passes : {after : List ℕ} → SlotTold n t (k - 1) None → after ≡ env → Walking (theirs n t) (their_sizes n t) after j rest (k - 1)
+      passes told same = rw same (walks_on kept (omega (arith, slot_none l lt (k - 1) told, sizes_are n t)))
 
       -- one that holds a variable
-      module _ (room : length env ≡ 32) (held : SlotHeld (theirs n t) (their_sizes n t) (k - 1) slot) where
-        below_size : get_or env (slot_variable slot) 0 < slot_size slot
+      module _ {own : Own} (room : length env ≡ 32) (held : SlotHeld (theirs n t) (their_sizes n t) (k - 1) own) where
+        below_size : get_or env own.variable 0 < own.size
         below_size = rw (held.variable, held.size) (colour-below kept room (theirs_apart n t) (sizes_are n t) held)
 
-        goes : {after : List ℕ} (c left : ℕ) → after ≡ set env (slot_variable slot) c → c < slot_size slot → c + left * slot_size slot ≡ get_or env (slot_variable slot) 0 + rest
+        goes : {after : List ℕ} (c left : ℕ) → after ≡ set env own.variable c → c < own.size → c + left * own.size ≡ get_or env own.variable 0 + rest
             → Walking (theirs n t) (their_sizes n t) after j left (k - 1)
         goes c left set_to less e =
             rw (set_to, held.variable) (walks_to kept room (theirs_apart n t) (sizes_are n t) held c left (rw held.size at less) (rw (held.variable, held.size) at e))
 
       -- by one colour: it begins anew, and the one before it goes on too; or it has its next
-      pub walk_turns : rest ≡ 1 → {after : List ℕ} {r : Bool} → Turned slot env after r → r ≡ true → Walking (theirs n t) (their_sizes n t) after j rest (k - 1)
-      walk_turns one {after} turned e = by_slot l lt inside is
-          (λ free le. passes le (turned.unused free).1)
-          (λ held. go held (ltb (get_or env (slot_variable slot) 0 + 1) (slot_size slot)) refl)
+      pub walk_turns : rest ≡ 1 → {after : List ℕ} {r : Bool} (own : Option Own) → SlotTold n t (k - 1) own → Turned own env after r → r ≡ true → Walking (theirs n t) (their_sizes n t) after j rest (k - 1)
+      walk_turns one None told turned e = passes told turned.1
+      walk_turns one {after} {r} (Some own) told turned e = go turned (slot_some l lt (k - 1) own told) (ltb (get_or env own.variable 0 + 1) own.size) refl
         where
-          go : SlotHeld (theirs n t) (their_sizes n t) (k - 1) slot → (b : Bool) → ltb (get_or env (slot_variable slot) 0 + 1) (slot_size slot) ≡ b → Walking (theirs n t) (their_sizes n t) after j rest (k - 1)
-          go held true f = clash refl e (turned.next held.some (ltb-true _ _ f)).0
-          go held false f =
-              let le = ltb-false (get_or env (slot_variable slot) 0 + 1) (slot_size slot) f in
+          go : TurnedOne own env after r → SlotHeld (theirs n t) (their_sizes n t) (k - 1) own → (b : Bool) → ltb (get_or env own.variable 0 + 1) own.size ≡ b → Walking (theirs n t) (their_sizes n t) after j rest (k - 1)
+          go turned held true f = clash refl e (turned.next (ltb-true _ _ f)).0
+          go turned held false f =
+              let le = ltb-false (get_or env own.variable 0 + 1) own.size f in
               let less = below_size turned.room held in
-              let q : rest * slot_size slot ≡ slot_size slot = ap (λ x. x * slot_size slot) one ∙ one-mul (slot_size slot) in
-              goes turned.room held 0 rest (turned.last held.some le).1 (omega arith) (omega arith)
+              let q : rest * own.size ≡ own.size = ap (λ x. x * own.size) one ∙ one-mul own.size in
+              goes turned.room held 0 rest (turned.last le).1 (omega arith) (omega arith)
 
-      pub walk_stops : rest ≡ 1 → {after : List ℕ} {r : Bool} → Turned slot env after r → r ≡ false → Walking (theirs n t) (their_sizes n t) after j 0 (k - 1)
-      walk_stops one {after} turned e = by_slot l lt inside is
-          (λ free le. clash refl (turned.unused free).0 e)
-          (λ held. go held (ltb (get_or env (slot_variable slot) 0 + 1) (slot_size slot)) refl)
+      pub walk_stops : rest ≡ 1 → {after : List ℕ} {r : Bool} (own : Option Own) → SlotTold n t (k - 1) own → Turned own env after r → r ≡ false → Walking (theirs n t) (their_sizes n t) after j 0 (k - 1)
+      walk_stops one None told turned e = clash refl turned.0 e
+      walk_stops one {after} {r} (Some own) told turned e = go turned (slot_some l lt (k - 1) own told) (ltb (get_or env own.variable 0 + 1) own.size) refl
         where
-          go : SlotHeld (theirs n t) (their_sizes n t) (k - 1) slot → (b : Bool) → ltb (get_or env (slot_variable slot) 0 + 1) (slot_size slot) ≡ b → Walking (theirs n t) (their_sizes n t) after j 0 (k - 1)
-          go held true f =
-              let less = ltb-true (get_or env (slot_variable slot) 0 + 1) (slot_size slot) f in
-              goes turned.room held (get_or env (slot_variable slot) 0 + 1) 0 (turned.next held.some less).1 less (omega (arith, zero-mul (slot_size slot)))
-          go held false f = clash refl (turned.last held.some (ltb-false _ _ f)).0 e
+          go : TurnedOne own env after r → SlotHeld (theirs n t) (their_sizes n t) (k - 1) own → (b : Bool) → ltb (get_or env own.variable 0 + 1) own.size ≡ b → Walking (theirs n t) (their_sizes n t) after j 0 (k - 1)
+          go turned held true f =
+              let less = ltb-true (get_or env own.variable 0 + 1) own.size f in
+              goes turned.room held (get_or env own.variable 0 + 1) 0 (turned.next less).1 less (omega (arith, zero-mul own.size))
+          go turned held false f = clash refl (turned.last (ltb-false _ _ f)).0 e
 
       -- by so many
-      pub walk_skips : {after : List ℕ} {r : ℕ} → Skipped slot rest env after r → Walking (theirs n t) (their_sizes n t) after j r (k - 1)
-      walk_skips skipped = by_slot l lt inside is
-          (λ free le. let (same, stays) = skipped.unused (omega arith) in rw same (passes le stays))
-          (λ held.
+      pub walk_skips : {after : List ℕ} {r : ℕ} (own : Option Own) → SlotTold n t (k - 1) own → Skipped own rest env after r → Walking (theirs n t) (their_sizes n t) after j r (k - 1)
+      walk_skips None told skipped = rw skipped.0 (passes told skipped.1)
+      walk_skips (Some own) told skipped =
+          let held = slot_some l lt (k - 1) own told in
           let less = below_size skipped.room held in
-          let sum : ℕ = get_or env (slot_variable slot) 0 + rest in
-          rw (skipped.rounds less)
-          (goes skipped.room held (sum % slot_size slot) (sum / slot_size slot) (skipped.stored (omega arith)) (mod-lt sum (omega arith)) (mod-add-div' sum (slot_size slot))))
+          let sum : ℕ = get_or env own.variable 0 + rest in
+          rw (skipped.rounds less) (goes skipped.room held (sum % own.size) (sum / own.size) skipped.stored (mod-lt sum (omega (arith, own.sized))) (mod-add-div' sum own.size))
 
 -- ---- of a transition of a drawing
 -- a list that had the colours of a binding is on the walk to the one so many further on; after the first step the transition is known to stand

@@ -4,14 +4,15 @@ ghost use Rattle.reading.specs.Basics.{product};
 ghost use Rattle.bindings.specs.internal.Bindings.{its_sizes, BindsIts};
 ghost use Rattle.bindings.specs.internal.SlotSteps.{colours_at, Turned, Skipped};
 
+use plan::Own;
 use prepared::Transition;
 
 // How many colours a slot's variable has; 1 for a slot that is not used.
-pub fn colours_of(slot: u64) -> usize
-    ensures is { result ≡ colours_at slot }
+pub fn colours_of(own: Option<Own>) -> usize
+    ensures is { result ≡ colours_at own }
     ensures small { (1 ≤ result) × (result ≤ 255) }
 {
-    ((slot % 256) as usize).max(1)
+    own.map_or(1, |own| own.size.into())
 }
 
 // How many bindings a transition has.
@@ -27,14 +28,14 @@ pub fn space_of(transition: &Transition) -> usize
 }
 
 // Gives a slot's variable its next colour, or its first after the last: whether the variable before it goes on too.
-fn turn_slot(slot: u64, env: &mut [u8; 32]) -> bool
-    ensures { Turned slot env.old env.new result }
+fn turn(own: Option<Own>, env: &mut [u8; 32]) -> bool
+    ensures { Turned own env.old env.new result }
 {
-    if slot < 1 {
+    let Some(own) = own else {
         return true;
-    }
-    let v = (slot / 256 % 32) as usize;
-    if (env[v] as u64) + 1 < slot % 256 {
+    };
+    let v = usize::from(own.variable);
+    if env[v] < own.size - 1 {
         env[v] += 1;
         return false;
     }
@@ -43,26 +44,27 @@ fn turn_slot(slot: u64, env: &mut [u8; 32]) -> bool
 }
 
 // Goes from a transition's binding to the next; the last variable changes fastest.
+// It stays beside skip_bindings, since it has no division and is done at every binding.
 pub fn next_binding(transition: &Transition, env: &mut [u8; 32])
     ensures { (i : ℕ) → i + 1 < product (its_sizes transition.now) → BindsIts transition.now i env.old → BindsIts transition.now (i + 1) env.new }
 {
     for k in (0..4).rev() {
-        if !turn_slot(transition.own(k), env) {
+        if !turn(transition.own(k), env) {
             return;
         }
     }
 }
 
 // Moves a slot's variable on by so many colours, going round its set: how many times it went round. A slot that is not used hands them on.
-fn skip_slot(slot: u64, many: u16, env: &mut [u8; 32]) -> u16
-    ensures { Skipped slot many env.old env.new result }
+fn skip(own: Option<Own>, many: u16, env: &mut [u8; 32]) -> u16
+    ensures { Skipped own many env.old env.new result }
 {
-    let size = (slot % 256) as u32;
-    if size < 1 {
+    let Some(own) = own else {
         return many;
-    }
-    let v = (slot / 256 % 32) as usize;
-    let colour = env[v] as u32 + many as u32;
+    };
+    let v = usize::from(own.variable);
+    let size = u32::from(own.size);
+    let colour = u32::from(env[v]) + u32::from(many);
     env[v] = (colour % size) as u8;
     (colour / size % 65536) as u16
 }
@@ -73,7 +75,7 @@ pub fn skip_bindings(transition: &Transition, many: u16, env: &mut [u8; 32])
 {
     let mut rest = many;
     for k in (0..4).rev() {
-        rest = skip_slot(transition.own(k), rest, env);
+        rest = skip(transition.own(k), rest, env);
         if rest < 1 {
             return;
         }

@@ -2,13 +2,15 @@
 #![tactic(auto)]
 
 mod entry;
+mod own;
 mod place;
 
 ghost use Rattle.std.specs.Prelude.{◌≡◌, ◌≤◌, ◌<◌, ◌+◌, ◌*◌, map, get_or, take, drop, MatchOption};
-ghost use Rattle.plan.specs.internal.Layout.{low, transitions_in, flat_places_in, sets_in, variables_in, own_in, guards_in, packed_in};
+ghost use Rattle.plan.specs.internal.Layout.{low, transitions_in, flat_places_in, sets_in, variables_in, own_in, OwnTold, guards_in, packed_in};
 ghost use Rattle.plan.specs.internal.Entries.{EntryTold};
 
 pub use entry::Entry;
+pub use own::Own;
 pub use place::place_list;
 
 // How many transitions there are.
@@ -65,13 +67,19 @@ pub fn guard_of(plan: &[u32; 3584], t: usize) -> Option<usize>
     (0 < place).then_some(place as usize)
 }
 
-// Slot k of a transition's own variables.
+// What slot k of a transition's own variables holds, if it is used.
 #[tactic(auto, using(crate::proofs::Sections::own_at))]
-pub fn own_of(plan: &[u32; 3584], t: usize, k: usize) -> u64
+pub fn own_of(plan: &[u32; 3584], t: usize, k: usize) -> Option<Own>
     requires { (t < 32) × (k < 4) }
-    ensures { result ≡ get_or (own_in plan.now) (t * 4 + k) 0 }
+    ensures { OwnTold (get_or (own_in plan.now) (t * 4 + k) 0) result }
 {
-    u64::from(plan[152 + (t * 4 + k)])
+    let slot = plan[152 + (t * 4 + k)];
+    let size = (slot % 256) as u8;
+    if size < 1 {
+        return None;
+    }
+    let variable = (slot / 256 % 32) as u8;
+    Some(Own { variable, size })
 }
 
 // Entry i of the packed arcs, with what its place is like. The table is fixed memory of numbers: 0 stands where there is no arc.

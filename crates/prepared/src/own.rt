@@ -1,4 +1,5 @@
 // Each transition's own variables in a small table, four slots each.
+// A slot is a number, 0 where it is not used: the table is fixed memory of numbers.
 ghost use Rattle.std.specs.Prelude.{◌≡◌, ℕ, ◌≤◌, ◌<◌, length, get_or};
 ghost use Rattle.net.specs.Net.{Net, in_transition, transition_at};
 ghost use Rattle.net.specs.internal.ReaderEnums.{bits};

@@ -3,7 +3,7 @@ ghost use Rattle.std.specs.Prelude.{◌≡◌, ◌<◌, length, get_or, MatchOpt
 
 use crate::drawing::Drawing;
 use evaluation::Bound;
-use plan::{guard_of, own_of};
+use plan::{Own, guard_of, own_of};
 use std::marker::Model;
 
 // A file, its table, and a transition's number in it.
@@ -26,7 +26,7 @@ impl<'a> Model for Transition<'a> {
 
 impl<'a> Transition<'a> {
     ghost use Rattle.net.specs.Net.{transition_at};
-    ghost use Rattle.plan.specs.internal.Layout.{guards_in};
+    ghost use Rattle.plan.specs.internal.Layout.{guards_in, OwnTold};
     ghost use Rattle.prepared.specs.internal.Drawn.{its_net, IsDrawn, Stands};
     ghost use Rattle.prepared.specs.internal.TransitionVariables.{own_of};
 
@@ -85,10 +85,10 @@ impl<'a> Transition<'a> {
         guard_of(self.plan, self.number)
     }
 
-    // Its own variable number k with the size of its set, by rising number; 0 past the last.
-    pub fn own(&self, k: usize) -> u64
+    // Its own variable number k with the size of its set, by rising number; none past the last.
+    pub fn own(&self, k: usize) -> Option<Own>
         requires { k < 4 }
-        ensures is { result ≡ get_or (own_of (its_net self.now) (transition_at (its_net self.now) self.now.number)) k 0 }
+        ensures is { OwnTold (get_or (own_of (its_net self.now) (transition_at (its_net self.now) self.now.number)) k 0) result }
         ensures known { Stands self.now }
     {
         own_of(self.plan, self.number, k)

@@ -1,29 +1,39 @@
--- What happens to the colour of one slot's variable.
-use Rattle.std.specs.Prelude.{◌≡◌, ◌≤◌, ◌<◌, max, set, ◌+◌, ◌/◌, ◌%◌}
+-- What happens to the colour of one slot's variable; a slot that is not used has none.
+use Rattle.std.specs.Prelude.{◌≡◌, ◌≤◌, ◌<◌, set, ◌+◌, ◌/◌, ◌%◌, Option, Some, None}
 use Rattle.reading.specs.Basics.{ℕ, Bool, true, false, List, length, get_or, ltb}
-use Rattle.prepared.specs.internal.TransitionVariables.{slot_variable, slot_size}
+use Rattle.plan.specs.declared.own.Own.{Own}
 
 -- how many colours a slot's variable has; 1 where the slot is not used
-abbrev pub colours_at : ℕ → ℕ
-colours_at slot = max (slot_size slot) 1
+abbrev pub colours_at : Option Own → ℕ
+colours_at None = 1
+colours_at (Some own) = own.size
 
 -- a slot's variable was given its next colour, or its first after the last: then the one before it goes on too
-pub record Turned (slot : ℕ) (env after : List ℕ) (r : Bool) : Type 0 where
+pub record TurnedOne (own : Own) (env after : List ℕ) (r : Bool) : Type 0 where
   pub room : length env ≡ 32
-  pub unused : slot < 1 → (r ≡ true) × (after ≡ env)
-  pub next : 1 ≤ slot → get_or env (slot_variable slot) 0 + 1 < slot_size slot → (r ≡ false) × (after ≡ set env (slot_variable slot) (get_or env (slot_variable slot) 0 + 1))
-  pub last : 1 ≤ slot → slot_size slot ≤ get_or env (slot_variable slot) 0 + 1 → (r ≡ true) × (after ≡ set env (slot_variable slot) 0)
+  pub next : get_or env own.variable 0 + 1 < own.size → (r ≡ false) × (after ≡ set env own.variable (get_or env own.variable 0 + 1))
+  pub last : own.size ≤ get_or env own.variable 0 + 1 → (r ≡ true) × (after ≡ set env own.variable 0)
+
+abbrev pub Turned : Option Own → List ℕ → List ℕ → Bool → Type 0
+Turned None env after r = (r ≡ true) × (after ≡ env)
+Turned (Some own) env after r = TurnedOne own env after r
 
 -- a slot's variable went on by so many colours, going round its set r times; a slot that is not used hands them on
-pub record Skipped (slot many : ℕ) (env after : List ℕ) (r : ℕ) : Type 0 where
+pub record SkippedOne (own : Own) (many : ℕ) (env after : List ℕ) (r : ℕ) : Type 0 where
   pub room : length env ≡ 32
-  pub unused : slot_size slot < 1 → (r ≡ many) × (after ≡ env)
-  pub stored : 1 ≤ slot_size slot → after ≡ set env (slot_variable slot) ((get_or env (slot_variable slot) 0 + many) % slot_size slot)
-  pub rounds : get_or env (slot_variable slot) 0 < slot_size slot → r ≡ (get_or env (slot_variable slot) 0 + many) / slot_size slot
+  pub stored : after ≡ set env own.variable ((get_or env own.variable 0 + many) % own.size)
+  pub rounds : get_or env own.variable 0 < own.size → r ≡ (get_or env own.variable 0 + many) / own.size
+
+abbrev pub Skipped : Option Own → ℕ → List ℕ → List ℕ → ℕ → Type 0
+Skipped None many env after r = (r ≡ many) × (after ≡ env)
+Skipped (Some own) many env after r = SkippedOne own many env after r
 
 -- a slot's variable was given a colour, if it is one of its set; a slot that is not used has the colour 0
-pub record Given (slot colour : ℕ) (env after : List ℕ) (r : Bool) : Type 0 where
+pub record GivenOne (own : Own) (colour : ℕ) (env after : List ℕ) (r : Bool) : Type 0 where
   pub room : length env ≡ 32
-  pub unused : slot < 1 → (r ≡ ltb colour 1) × (after ≡ env)
-  pub used : 1 ≤ slot → r ≡ ltb colour (slot_size slot)
-  pub stored : 1 ≤ slot → r ≡ true → after ≡ set env (slot_variable slot) colour
+  pub is : r ≡ ltb colour own.size
+  pub stored : r ≡ true → after ≡ set env own.variable colour
+
+abbrev pub Given : Option Own → ℕ → List ℕ → List ℕ → Bool → Type 0
+Given None colour env after r = (r ≡ ltb colour 1) × (after ≡ env)
+Given (Some own) colour env after r = GivenOne own colour env after r

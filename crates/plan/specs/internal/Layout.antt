@@ -1,6 +1,7 @@
 -- Where each thing stands in the table of a prepared net, of 3,584 entries.
-use Rattle.std.specs.Prelude.{◌≡◌, ◌≤◌, ◌<◌, ◌+◌, ◌*◌, ◌/◌, ◌%◌, if◌then◌else◌}
+use Rattle.std.specs.Prelude.{◌≡◌, ◌≤◌, ◌<◌, ◌+◌, ◌*◌, ◌/◌, ◌%◌, if◌then◌else◌, Option, Some, None}
 use Rattle.reading.specs.Basics.{ℕ, Bool, List, map, length, get_or, take, drop, leb, ltb, eqb}
+use Rattle.plan.specs.declared.own.Own.{Own}
 
 -- ---- entries 0 to 7: counts
 -- 0 sets, 1 variables, 2 places, 3 flat places, 4 transitions, 5 bindings, 6 the edition; a count past its limit is read as the limit
@@ -32,6 +33,18 @@ guards_in plan = drop 120 plan
 
 unfoldable pub own_in : List ℕ → List ℕ
 own_in plan = drop 152 plan
+
+-- a slot of them: the variable times 256, and the size of its set; no size where the slot is not used
+abbrev pub slot_variable : ℕ → ℕ
+slot_variable slot = slot / 256 % 32
+
+abbrev pub slot_size : ℕ → ℕ
+slot_size slot = slot % 256
+
+-- what is told of a slot
+abbrev pub OwnTold : ℕ → Option Own → Type 0
+OwnTold slot None = slot_size slot ≡ 0
+OwnTold slot (Some own) = (own.variable ≡ slot_variable slot) × (own.size ≡ slot_size slot)
 
 -- 280 to 511 are free; 512 to 3583: its arcs, three kinds of 32 entries each: 32 times where the expression stands, and the place. Behind the last of a kind is a 0.
 -- An arc is told together with what its place is like, 0 where there is none

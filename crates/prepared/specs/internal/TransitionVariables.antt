@@ -1,5 +1,5 @@
 -- The table of each transition's own variables, four slots each.
-use Rattle.std.specs.Prelude.{◌≡◌, ◌≤◌, ◌<◌, ◌+◌, ◌*◌, ◌/◌, ◌%◌}
+use Rattle.std.specs.Prelude.{◌≡◌, ◌≤◌, ◌<◌, ◌+◌, ◌*◌}
 use Rattle.reading.specs.Basics.{ℕ, Bool, List, map, length, get_or, below, keep}
 use Rattle.net.specs.Net.{Transition, Net, size_of, variables_of, transition_at}
 use Rattle.net.specs.internal.ReaderEnums.{bits, size_in}
@@ -11,13 +11,6 @@ own_of n t = map (λ v. v * 256 + size_of n (get_or n.variables v 0)) (variables
 -- the table has them, by rising number, and 0 in the slots that are not used
 pub record Owned (n : Net) (own : List ℕ) : Type 0 where
   pub slot : (t k : ℕ) → t < length n.transitions → k < 4 → get_or own (t * 4 + k) 0 ≡ get_or (own_of n (transition_at n t)) k 0
-
--- the variable and the size in a slot
-abbrev pub slot_variable : ℕ → ℕ
-slot_variable slot = slot / 256 % 32
-
-abbrev pub slot_size : ℕ → ℕ
-slot_size slot = slot % 256
 
 -- the entry of a variable, by tables of sizes and of sets
 abbrev pub slot_of : List ℕ → List ℕ → ℕ → ℕ

@@ -8,8 +8,8 @@ use Rattle.bindings.proofs.own.next_binding.Goals as goal
 pub loop-k-init : goal.loop-k-init
 loop-k-init c = sets_out c.args.transition.now c.args.env.now 1
 
-pub returns-then-not-turn_slot : goal.returns-then-not-turn_slot
-returns-then-not-turn_slot c = λ i less b. let (p, lt) = c.own.ensures.known in walk_is _ _ (i + 1) (its_form p) lt (omega arith) (walk_stops _ _ (i + 1) (its_limits p) lt (omega arith) (omega arith) c.own.ensures.is (c.loop-k.invariant.1 i c.own.ensures.known less b) refl c.turn_slot.ensures c.if-not-turn_slot.true)
+pub returns-then-not-turn : goal.returns-then-not-turn
+returns-then-not-turn c = λ i less b. let (p, lt) = c.own.ensures.known in walk_is _ _ (i + 1) (its_form p) lt (omega arith) (walk_stops _ _ (i + 1) (its_limits p) lt (omega arith) (c.loop-k.invariant.1 i c.own.ensures.known less b) refl _ c.own.ensures.is c.turn.ensures c.if-not-turn.true)
 
 pub loop-k-preserved : goal.loop-k-preserved
-loop-k-preserved c = (λ lt. c.own.ensures.known, λ i stands less b. walk_turns _ _ (i + 1) (its_limits stands.0) stands.1 (omega arith) (omega arith) c.own.ensures.is (c.loop-k.invariant.1 i stands less b) refl c.turn_slot.ensures c.if-not-turn_slot.false)
+loop-k-preserved c = (λ lt. c.own.ensures.known, λ i stands less b. walk_turns _ _ (i + 1) (its_limits stands.0) stands.1 (omega arith) (c.loop-k.invariant.1 i stands less b) refl _ c.own.ensures.is c.turn.ensures c.if-not-turn.false)
