@@ -6,7 +6,7 @@ use native.Mathlib.Omega.{arith}
 use borrow.Rule.Slice.PartMut.{put_mid, post_of}
 use Rattle.std.proofs.Math.ListN.{length-append, length-drop, length-take}
 use Rattle.std.proofs.Math.Seq.{take-append-add}
-use Rattle.std.proofs.lemmas.List.{take_at, drop_at, take-append-le, length-take-le}
+use Rattle.std.proofs.lemmas.List.{take_at, drop_at, drop-take, take-append-le, take-append-drop, take-take, length-take-le}
 use Rattle.reading.specs.Basics.{ℕ, List, [], length, take, drop}
 use Rattle.firing.specs.declared.Arc.{Arc}
 use Rattle.firing.specs.internal.RowLists.{arcs_in}
@@ -21,16 +21,21 @@ pub laid_one : (l : List Arc) (a : Arc) → 0 < length l → Laid (a ∷ []) l (
 laid_one [] a h = absurd (omega arith)
 laid_one (b ∷ l) a h = record { are = refl; many = refl; size = refl }
 
--- ---- what was laid into the part of a room behind its first u slots
+-- ---- the part of a room behind its first u slots
+-- how long it is, and the room with another part of that length
+pub part_long : (l : List Arc) (u : ℕ) → length (take (length l - u) (drop u l)) ≡ length l - u
+part_long l u = simp (length-take, length-drop) (omega arith)
+
+pub put_long : (l part : List Arc) (u : ℕ) → u ≤ length l → length part ≡ length (take (length l - u) (drop u l)) → length (put_mid u (length l - u) l part) ≡ length l
+put_long l part u le e = simp (length-append, length-take, length-drop) (omega (arith, e, part_long l u))
+
+-- what was laid into it
 module _ (ys l part : List Arc) (u v : ℕ) (le : u ≤ length l) (put : Laid ys (take (length l - u) (drop u l)) part v) where
   abbrev whole : List Arc
   whole = put_mid u (length l - u) l part
 
-  long : length part ≡ length l - u
-  long = let n = put.size in let m = length-take (length l - u) (drop u l) in omega (arith, n, m, length-drop u l)
-
   pub laid_size : length whole ≡ length l
-  laid_size = simp (length-append, length-take, length-drop) (omega (arith, long))
+  laid_size = put_long l part u le put.size
 
   -- those slots are kept
   pub laid_first : take u whole ≡ take u l
@@ -54,3 +59,15 @@ module _ (ys l part : List Arc) (u v : ℕ) (le : u ≤ length l) (put : Laid ys
 pub laid_join : {xs ys l l' part : List Arc} {u v : ℕ} → Laid xs l l' u → u ≤ length l' → Laid ys (take (length l' - u) (drop u l')) part v → Laid (xs ++ ys) l (put_mid u (length l' - u) l' part) (u + v)
 laid_join {xs} {ys} {l} {l'} {part} {u} {v} f le g =
     record { are = laid_both ys l' part u v le g ∙ ap (λ m. m ++ ys) f.are; many = omega (arith, length-append xs ys, f.many, g.many); size = laid_size ys l' part u v le g ∙ f.size }
+
+-- ---- arcs that lie there already
+-- those up to an end behind some
+pub arcs_behind : (l : List Arc) (first both : ℕ) → first ≤ both → drop first (take both l) ≡ arcs_in l first both
+unfolding arcs_in
+arcs_behind l first both le = let n : both ≡ first + (both - first) = omega arith in ap (λ k. drop first (take k l)) n ∙ drop-take first (both - first) l
+
+-- two runs, one behind the other
+pub laid_there : {xs : List Arc} (l : List Arc) (first both : ℕ) → first ≤ both → both ≤ length l → xs ≡ take first l ++ arcs_in l first both → Laid xs l l both
+laid_there l first both le fits e =
+    let are = sym (take-append-drop first (take both l)) ∙ ap₂ ◌++◌ (take-take first both l le) (arcs_behind l first both le) ∙ sym e in
+    record { are = are; many = omega (arith, length-take-le both l fits, ap length are); size = refl }

@@ -3,8 +3,9 @@ use Rattle.std.specs.Prelude.{◌+◌, ◌-◌, ◌∷◌, ◌++◌}
 use mathlib.Core.Path.{◌≡◌, refl, sym, ap, ap₂, subst, ◌∙◌}
 use Prim.Native.Nat.{◌≤◌, ◌<◌}
 use native.Mathlib.Omega.{arith}
+use borrow.Rule.Slice.PartMut.{put_mid}
 use Rattle.std.proofs.Math.ListN.{length-append, length-map, length-drop}
-use Rattle.std.proofs.lemmas.List.{append_assoc, map_more, drop_more, drop_all, get_or-drop, length-take-le, take-take, take-append-le, drop_at}
+use Rattle.std.proofs.lemmas.List.{append_assoc, map_more, drop_more, drop_all, get_or-drop, length-take-le, take-take, drop_at}
 use Rattle.std.proofs.lemmas.List.Edits.{take-paste, length-paste}
 use Rattle.reading.specs.Basics.{ℕ, zero, suc, List, [], map, length, get_or, take, drop}
 use Rattle.firing.specs.declared.Arc.{Arc}
@@ -17,10 +18,9 @@ use borrow.Author.Tests.{ltb-true, ltb-false}
 use native.Mathlib.Numerals.{lt_of_le_of_ne}
 use Rattle.reading.specs.Basics.{ltb}
 use Rattle.firing.specs.internal.RowLists.{arcs_in}
-use Rattle.firing.proofs.Rows.{arcs_first, arcs_front, arcs_join, length_arcs}
 use Rattle.arc_expressions.specs.declared.operator.Operator.{Operator}
-use Rattle.runs.specs.internal.Terms.{term, Terms, none, more, joined, join_by, ArcsAppended, FirstCount, Apart}
-use Rattle.runs.proofs.Appending.{append_join, append_front, append_by}
+use Rattle.runs.specs.internal.Terms.{term, Terms, none, more, joined, join_by, Laid, FirstCount, Apart}
+use Rattle.runs.proofs.Laying.{laid_size, laid_both, laid_join, arcs_behind}
 use Rattle.runs.proofs.Joining.{terms_split, terms_weight, terms_under, joined_few, joined_apart, joined_last, joined-first, joined_second, joined_both}
 
 -- ---- terms of the second run alone, each joined with the count p of every rank of the first
@@ -29,12 +29,13 @@ module _ (f : ℕ → ℕ → ℕ) (p : ℕ) where
   unfolding joined
   rest_length m = length-map m (λ b. term b.place (f p b.weight))
 
-  pub rest_goes : {arcs₀ arcs arcs' : List Arc} {used end end' : ℕ} (m : List Arc) (i w : ℕ) (d : Arc) → i < length m → ArcsAppended (joined f p 0 [] (take i m)) arcs₀ used arcs end
-      → w ≡ f p (get_or m i d).weight → ArcsAppended (term (get_or m i d).place w ∷ []) arcs end arcs' end' → ArcsAppended (joined f p 0 [] (take (i + 1) m)) arcs₀ used arcs' end'
+  pub rest_goes : {room₀ room part : List Arc} {end v : ℕ} (m : List Arc) (i w : ℕ) (d : Arc) → i < length m → Laid (joined f p 0 [] (take i m)) room₀ room end
+      → w ≡ f p (get_or m i d).weight → end ≤ length room → Laid (term (get_or m i d).place w ∷ []) (take (length room - end) (drop end room)) part v
+      → Laid (joined f p 0 [] (take (i + 1) m)) room₀ (put_mid end (length room - end) room part) (end + v)
   unfolding joined
-  rest_goes {arcs₀} {arcs} {arcs'} {used} {end} {end'} m i w d h lie e one =
+  rest_goes {room₀} {room} {part} {end} {v} m i w d h lie e le one =
       let next = map_more (λ b. term b.place (f p b.weight)) m i d h in
-      subst (λ l. ArcsAppended l arcs₀ used arcs' end') (ap (λ v. map (λ b. term b.place (f p b.weight)) (take i m) ++ (term (get_or m i d).place v ∷ [])) e ∙ sym next) (append_join lie one)
+      subst (λ l. Laid l room₀ (put_mid end (length room - end) room part) (end + v)) (ap (λ v. map (λ b. term b.place (f p b.weight)) (take i m) ++ (term (get_or m i d).place v ∷ [])) e ∙ sym next) (laid_join lie le one)
 
 -- ---- both runs
 module _ (f : ℕ → ℕ → ℕ) (p q : ℕ) where
@@ -63,9 +64,6 @@ pub record Merging (f : ℕ → ℕ → ℕ) (p q : ℕ) (first second : List Ar
   pub room : end + (length first - i) + length rest ≤ length first + length second
 
 module _ (f : ℕ → ℕ → ℕ) (p q : ℕ) (first second : List Arc) where
-  pub merging_begins : (room : List Arc) → Merging f p q first second 0 second room 0
-  merging_begins room = record { left = refl; room = omega arith }
-
   -- the next term of the first, whose rank the second's next term has or not
   joined_step : (a : Arc) (l behind : List Arc) (o : Option ℕ) → FirstCount behind a.place o → (0 < length behind → a.place ≤ (get_or behind 0 (term 0 0)).place)
       → joined f p q (a ∷ l) behind ≡ term a.place (f a.weight (unwrap_or o q)) ∷ joined f p q l (drop (from_bool (is_some o)) behind)
@@ -76,12 +74,13 @@ module _ (f : ℕ → ℕ → ℕ) (p q : ℕ) (first second : List Arc) where
   step_room behind place (Some w) (h, e, is) = h
   step_room behind place None not = omega arith
 
-  pub merging_goes : {rest room room₁ room₂ : List Arc} {end end₁ end₂ : ℕ} (i n w : ℕ) (before behind : List Arc) (o : Option ℕ) → Merging f p q first second i rest room end → i < length first
+  pub merging_goes : {rest room part part₁ : List Arc} {end v v₁ : ℕ} (i n w : ℕ) (before behind : List Arc) (o : Option ℕ) → Merging f p q first second i rest room end → i < length first
       → n ≡ prefix_len (λ b. ltb b.place (get_or first i (term 0 0)).place) rest → before ≡ take n rest → behind ≡ drop n rest → FirstCount behind (get_or first i (term 0 0)).place o
       → w ≡ f (get_or first i (term 0 0)).weight (unwrap_or o q)
-      → ArcsAppended (joined f p 0 [] before) room end room₁ end₁ → ArcsAppended (term (get_or first i (term 0 0)).place w ∷ []) room₁ end₁ room₂ end₂
-      → Merging f p q first second (i + 1) (drop (from_bool (is_some o)) behind) room₂ end₂
-  merging_goes {rest} {room} {room₁} {room₂} {end} {end₁} {end₂} i n w before behind o m lt en eb ed here ew lower one =
+      → end ≤ length room → Laid (joined f p 0 [] before) (take (length room - end) (drop end room)) part v
+      → end + v ≤ length room → (let room₁ = put_mid end (length room - end) room part in Laid (term (get_or first i (term 0 0)).place w ∷ []) (take (length room₁ - (end + v)) (drop (end + v) room₁)) part₁ v₁
+      → Merging f p q first second (i + 1) (drop (from_bool (is_some o)) behind) (put_mid (end + v) (length room₁ - (end + v)) room₁ part₁) (end + v + v₁))
+  merging_goes {rest} {room} {part} {part₁} {end} {v} {v₁} i n w before behind o m lt en eb ed here ew le lower le₁ one =
       let a : Arc = get_or first i (term 0 0) in
       let low : n ≤ length rest = rw en (prefix_len-le-length (λ b. ltb b.place a.place) rest) in
       let less : (k : ℕ) → k < n → (get_or rest k (term 0 0)).place < a.place = λ k h. ltb-true _ _ (prefix_len_passes (λ b. ltb b.place a.place) rest k (term 0 0) (omega (arith, en))) in
@@ -97,53 +96,58 @@ module _ (f : ℕ → ℕ → ℕ) (p q : ℕ) (first second : List Arc) where
       ∙ ap (λ v. term a.place v ∷ joined f p q (drop (i + 1) first) (drop (from_bool (is_some o)) behind)) (sym ew)) in
       record {
         left =
-            ap (λ v. v ++ joined f p q (drop (i + 1) first) (drop (from_bool (is_some o)) behind)) (append_front (append_join lower one))
+            ap (λ r. r ++ joined f p q (drop (i + 1) first) (drop (from_bool (is_some o)) behind))
+            (laid_both (term a.place w ∷ []) (put_mid end (length room - end) room part) part₁ (end + v) v₁ (omega (arith, le₁, laid_size (joined f p 0 [] before) room part end v le lower)) one
+            ∙ ap (λ r. r ++ (term a.place w ∷ [])) (laid_both (joined f p 0 [] before) room part end v le lower) ∙ append_assoc (take end room) (joined f p 0 [] before) (term a.place w ∷ []))
             ∙ append_assoc (take end room) (joined f p 0 [] before ++ (term a.place w ∷ [])) (joined f p q (drop (i + 1) first) (drop (from_bool (is_some o)) behind))
             ∙ ap (λ v. take end room ++ v) (append_assoc (joined f p 0 [] before) (term a.place w ∷ []) (joined f p q (drop (i + 1) first) (drop (from_bool (is_some o)) behind)) ∙ sym put) ∙ m.left;
         room =
             let k = step_room behind a.place o here in
             let b : length before ≡ n = ap length eb ∙ length-take-le n rest low in
-            omega (arith, m.room, lower.end, one.end, rest_length f p before, length-drop (from_bool (is_some o)) behind, ap length ed, length-drop n rest);
+            omega (arith, m.room, lower.many, one.many, rest_length f p before, length-drop (from_bool (is_some o)) behind, ap length ed, length-drop n rest);
       }
 
-  pub merging_ends : {rest room room' : List Arc} {end end' i : ℕ} → Merging f p q first second i rest room end → length first ≤ i → length first + length second ≤ length room
-      → end ≤ length room → ArcsAppended (joined f p 0 [] rest) room end room' end' → ArcsAppended (joined f p q first second) room 0 room' end'
+  pub merging_ends : {rest room₀ room part : List Arc} {end v i : ℕ} → Merging f p q first second i rest room end → length first ≤ i → length room ≡ length room₀
+      → end ≤ length room → Laid (joined f p 0 [] rest) (take (length room - end) (drop end room)) part v
+      → Laid (joined f p q first second) room₀ (put_mid end (length room - end) room part) (end + v)
   unfolding joined
-  merging_ends {rest} {room} {room'} {end} {end'} {i} m h big le g =
-      let is : take end' room' ≡ joined f p q first second =
-      append_front g ∙ ap (λ l. take end room ++ joined f p q l rest) (sym (drop_all i first h)) ∙ m.left in
-      let long : end' ≤ length room' = omega (arith, m.room, g.end, g.size, rest_length f p rest) in
-      append_by (omega arith) (omega (arith, length-take-le end' room' long, ap length is)) g.size is
+  merging_ends {rest} {room₀} {room} {part} {end} {v} {i} m h size le put =
+      let is : take end room ++ joined f p 0 [] rest ≡ joined f p q first second = ap (λ l. take end room ++ joined f p q l rest) (sym (drop_all i first h)) ∙ m.left in
+      record {
+        are = laid_both (joined f p 0 [] rest) room part end v le put ∙ is;
+        many = omega (arith, put.many, length-take-le end room le, length-append (take end room) (joined f p 0 [] rest), ap length is);
+        size = laid_size (joined f p 0 [] rest) room part end v le put ∙ size;
+      }
 
--- ---- two runs joined behind them, and moved down to the start
-pub merged : (f : ℕ → ℕ → ℕ) (p q : ℕ) (arcs terms room room' : List Arc) (start middle end many : ℕ) → start ≤ middle → middle ≤ end → end + (end - start) ≤ length arcs
-    → terms ≡ take end arcs → room ≡ drop end arcs
-    → (length (take (middle - start) (drop start terms)) + length (take (end - middle) (drop middle terms)) ≤ length room
-    → ArcsAppended (joined f p q (take (middle - start) (drop start terms)) (take (end - middle) (drop middle terms))) room 0 room' many)
-    → ArcsAppended (joined f p q (arcs_in arcs start middle) (arcs_in arcs middle end)) arcs start (copy_within (terms ++ room') end (end + many) start) (start + many)
-unfolding arcs_in
-merged f p q arcs terms room room' start middle end many le up fits et er put =
-    let lists : List Arc = terms ++ room' in
-    let first : take (middle - start) (drop start terms) ≡ arcs_in arcs start middle =
-    ap (λ t. take (middle - start) (drop start t)) et ∙ arcs_front (take end arcs) arcs start middle (take-take middle end arcs up) in
-    let second : take (end - middle) (drop middle terms) ≡ arcs_in arcs middle end =
-    ap (λ t. take (end - middle) (drop middle t)) et ∙ arcs_front (take end arcs) arcs middle end (take-take end end arcs (omega arith)) in
-    let many_first = length_arcs arcs start middle (omega arith) in
-    let many_second = length_arcs arcs middle end (omega arith) in
-    let long : length terms ≡ end = ap length et ∙ length-take-le end arcs (omega arith) in
-    let behind_terms = ap length er ∙ length-drop end arcs in
-    let g = put (omega (arith, ap length first, ap length second, many_first, many_second, behind_terms)) in
-    let both : joined f p q (take (middle - start) (drop start terms)) (take (end - middle) (drop middle terms)) ≡ joined f p q (arcs_in arcs start middle) (arcs_in arcs middle end) = ap₂ (joined f p q) first second in
-    let few = joined_few f p q (arcs_in arcs start middle) (arcs_in arcs middle end) in
-    let n : end + many - end ≡ many = omega arith in
-    let rest : drop end lists ≡ room' = drop_at terms room' end long in
-    let size : length lists ≡ length arcs = omega (arith, length-append terms room', g.size, behind_terms) in
-    append_by (omega arith) (omega (arith, g.end, ap length both))
-    (length-paste lists start (drop end lists) (end + many - end) (omega (arith, g.end, ap length both, few, many_first, many_second)) (omega (arith, g.end, ap length both, few, many_first, many_second, ap length rest, g.size, behind_terms)) ∙ size)
-    (ap (λ k. take (start + k) (copy_within lists end (end + many) start)) (sym n)
-    ∙ take-paste lists start (drop end lists) (end + many - end) (omega arith) (omega (arith, g.end, ap length both, few, many_first, many_second, ap length rest, g.size, behind_terms))
-    ∙ ap₂ ◌++◌ (take-append-le start terms room' (omega arith) ∙ ap (take start) et ∙ take-take start end arcs (omega arith))
-    (ap₂ (λ (k : ℕ) (l : List Arc). take k l) n rest ∙ sym (arcs_first room' many) ∙ g.are ∙ both))
+-- ---- two runs joined behind them, and moved down to the front
+pub merged : (f : ℕ → ℕ → ℕ) (p q : ℕ) (room terms behind behind' : List Arc) (first both many : ℕ) → first ≤ both → both + both ≤ length room
+    → terms ≡ take both room → behind ≡ drop both room
+    → (length (take first terms) + length (drop first terms) ≤ length behind → Laid (joined f p q (take first terms) (drop first terms)) behind behind' many)
+    → Laid (joined f p q (take first room) (arcs_in room first both)) room (copy_within (terms ++ behind') both (both + many) 0) many
+merged f p q room terms behind behind' first both many le fits et eb put =
+    let lists : List Arc = terms ++ behind' in
+    let size_terms : length terms ≡ both = ap length et ∙ length-take-le both room (omega arith) in
+    let size_behind = ap length eb ∙ length-drop both room in
+    let size_first = length-take-le first terms (omega arith) in
+    let size_second = length-drop first terms in
+    let g = put (omega (arith, size_first, size_second, size_behind, size_terms)) in
+    let few = joined_few f p q (take first terms) (drop first terms) in
+    let n : both + many - both ≡ many = omega arith in
+    let front : many ≡ 0 + (both + many - both) = omega arith in
+    let rest : drop both lists ≡ behind' = drop_at terms behind' both size_terms in
+    let size : length lists ≡ length room = omega (arith, length-append terms behind', g.size, size_behind, size_terms) in
+    let is : joined f p q (take first terms) (drop first terms) ≡ joined f p q (take first room) (arcs_in room first both) =
+    ap (λ t. joined f p q (take first t) (drop first t)) et ∙ ap₂ (joined f p q) (take-take first both room le) (arcs_behind room first both le) in
+    record {
+      are =
+          ap (λ k. take k (copy_within lists both (both + many) 0)) front
+          ∙ take-paste lists 0 (drop both lists) (both + many - both) (omega arith) (omega (arith, g.many, few, size_first, size_second, size_terms, ap length rest, g.size, size_behind))
+          ∙ ap₂ take n rest ∙ g.are ∙ is;
+      many = g.many ∙ ap length is;
+      size =
+          length-paste lists 0 (drop both lists) (both + many - both) (omega (arith, g.many, few, size_first, size_second, size_terms, size))
+          (omega (arith, g.many, few, size_first, size_second, size_terms, ap length rest, g.size, size_behind)) ∙ size;
+    }
 
 -- ---- runs that lie joined
 pub apart_joined : (op : Operator) (first second : List Arc) (below p q : ℕ) → Terms below 0 first → Terms below 0 second → Apart op first second p q → joined (join_by op) p q first second ≡ first ++ second
@@ -154,9 +158,3 @@ apart_joined op (a ∷ l) (b ∷ m) below p q t u h =
     let (x, y, v) = terms_split u in
     let high : Terms below b.place (b ∷ m) = more {a = b} (omega arith) y (terms_weight u) v in
     rw (h.sum, h.none_first, h.none_second) (joined_apart (a ∷ l) (b ∷ m) low high)
-
--- terms that lie there already
-pub append_there : (arcs l : List Arc) (start middle end : ℕ) → start ≤ middle → middle ≤ end → end ≤ length arcs → l ≡ arcs_in arcs start middle ++ arcs_in arcs middle end → ArcsAppended l arcs start arcs end
-append_there arcs l start middle end le up fits e =
-    let are : arcs_in arcs start end ≡ l = arcs_join arcs start middle end le up ∙ sym e in
-    record { front = refl; are = are; end = omega (arith, length_arcs arcs start end fits, ap length are); size = refl }

@@ -153,14 +153,7 @@ fn merge_runs(
 
 // Joins two runs behind them, and moves what comes out down to the front. Kept apart: runs that lie joined already do not come here.
 #[inline(never)]
-fn merge_behind(
-    op: Operator,
-    room: &mut [Arc],
-    first: usize,
-    both: usize,
-    p: u16,
-    q: u16,
-) -> usize
+fn merge_behind(op: Operator, room: &mut [Arc], first: usize, both: usize, p: u16, q: u16) -> usize
     requires { (first ≤ both) × (both ≤ length room.old) }
     ensures is { both + both ≤ length room.old
         → Laid (joined (join_by op) p q (take first room.old) (arcs_in room.old first both)) room.old room.new result }
@@ -175,14 +168,7 @@ fn merge_behind(
 
 // Joins two runs of terms at a room's front, one of so many and one from there up to both, to one: how many it has. p and q are what every other
 // rank has.
-pub fn merge(
-    op: Operator,
-    room: &mut [Arc],
-    first: usize,
-    both: usize,
-    p: u16,
-    q: u16,
-) -> usize
+pub fn merge(op: Operator, room: &mut [Arc], first: usize, both: usize, p: u16, q: u16) -> usize
     requires { first ≤ both }
     ensures is { (below : ℕ) → Terms below 0 (take first room.old) → Terms below 0 (arcs_in room.old first both)
         → both + both ≤ length room.old

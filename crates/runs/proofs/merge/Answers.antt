@@ -1,14 +1,12 @@
 use Rattle.std.proofs.Common.{arith}
-use Rattle.firing.specs.internal.RowLists.{arcs_in}
-use Rattle.runs.proofs.Merging.{apart_joined, append_there}
+use Rattle.std.proofs.lemmas.List.{take-take}
+use Rattle.runs.proofs.Laying.{arcs_behind, laid_there}
+use Rattle.runs.proofs.Merging.{apart_joined}
 use Rattle.runs.proofs.merge.Goals as goal
-use Rattle.runs.proofs.merge.Goals.{then-arcs-end-via-then-arcs-end, then-arcs-end-via-else-arcs-end+then-apart}
 
-pub returns-then-arcs-end-clause-is : goal.returns-then-arcs-end-clause-is
-unfolding arcs_in
-returns-then-arcs-end-clause-is c = λ below t u h.
-    elim c.then-arcs-end.branch [
-      | then-arcs-end-via-then-arcs-end w ↦ absurd (omega (arith, w.if-arcs-end.true))
-      | then-arcs-end-via-else-arcs-end+then-apart w ↦
-          append_there _ _ _ c.args.middle _ c.requires.0 c.requires.1 (omega arith) (apart_joined _ _ _ below _ _ t u (w.apart.ensures w.if-apart.true))
-    ]
+pub returns-then-apart-clause-is : goal.returns-then-apart-clause-is
+returns-then-apart-clause-is c = λ below t u h.
+    let a = c.args in
+    let runs = c.split_at.ensures in
+    let are = rw (runs.front, runs.back, take-take a.first a.both a.room.now c.requires, arcs_behind a.room.now a.first a.both c.requires) at (c.apart.ensures c.if-apart.true) in
+    laid_there a.room.now a.first a.both c.requires (omega arith) (apart_joined a.op _ _ below a.p a.q t u are)
