@@ -25,7 +25,8 @@ use Rattle.evaluation.proofs.Weights.{weight_le, joined_by, times_by, one_by, tw
 use Rattle.sums.specs.internal.Loaded.{terms, Counted, Listed, ListedTold, byte_of}
 use Rattle.sums.specs.declared.terms.Multiset.{Multiset}
 use borrow.Rule.Slice.PartMut.{put_mid}
-use Rattle.std.proofs.Math.ListN.{length-drop, length-take}
+use Rattle.std.proofs.Math.ListN.{length-append, length-drop, length-take}
+use Rattle.std.proofs.lemmas.List.{take_at}
 use Rattle.runs.proofs.Laying.{laid_none, laid_size, laid_first, laid_second}
 use Rattle.runs.proofs.Joining.{join_fits, joined_counts, joined_rises, joined_few, times_counts, times_rises, times_few}
 
@@ -88,7 +89,8 @@ laid_over f g = record { are = g.are; many = g.many; size = g.size ∙ f.size }
 
 -- those that a run's length tells, changed where they lie
 pub laid_front : {xs l l' ys : List Arc} {u : ℕ} → Laid xs l l' u → u ≤ length l' → length ys ≡ u → Laid ys l (put_mid 0 u l' ys) u
-laid_front {xs} {l} {l'} {ys} {u} f le e = ?
+laid_front {xs} {l} {l'} {ys} {u} f le e =
+    record { are = take_at ys (drop u l') u e; many = sym e; size = omega (arith, length-append ys (drop u l'), length-drop u l', e, le, f.size) }
 
 -- ---- a factor times the expression that was listed, and two listed one after the other
 module _ (n : Net) (env : List ℕ) (count : ℕ) (room : List Arc) (inner : ℕ → Answer Expression) (at next : ℕ) (room₁ : List Arc) (p : Multiset)
@@ -149,7 +151,6 @@ module _ (n : Net) (env : List ℕ) (count : ℕ) (room : List Arc) (inner : ℕ
           let t = joins-terms op a b in
           let told : ListedTold n env count room room₁ p (fine a mid) = subst (ListedTold n env count room room₁ p) e first in
           let g = told (omega (arith, t, i)) in
-          let behind = length-drop p.many room₁ in
           let told' : ListedTold n env count (take (length room₁ - p.many) (drop p.many room₁)) part q (fine b end) =
           subst (ListedTold n env count (take (length room₁ - p.many) (drop p.many room₁)) part q) (ap inner g.after ∙ f) second in
           let h = told' (omega (arith, t, i, length-take (length room₁ - p.many) (drop p.many room₁), length-drop p.many room₁, g.lie.many, g.lie.size, g.counted.few)) in
