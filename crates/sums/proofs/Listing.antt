@@ -9,7 +9,7 @@ use Rattle.reading.specs.Basics.{ℕ, Bool, true, false, List, [], length, take,
 use Rattle.reading.specs.Reading.{Answer, fine, fault, under, needed}
 use Rattle.firing.specs.declared.Arc.{Arc}
 use Rattle.firing.specs.internal.RowLists.{arcs_in}
-use Rattle.net.specs.Net.{Colour, Expression, all, plus, minus, times, Place, single, pair, Net, ceiling}
+use Rattle.net.specs.Net.{Colour, Expression, all, times, Place, single, pair, Net, ceiling}
 use Rattle.net.specs.Reader.{read_colour, read_expression, expression_commands, two_of, amount, capped}
 use Rattle.net.specs.Values.{weight}
 use Rattle.evaluation.specs.internal.Evaluated.{bound, Ranks}
@@ -87,10 +87,31 @@ module _ (n : Net) (env : List ℕ) (count : ℕ) where
 pub laid_over : {xs ys l l' l'' : List Arc} {u v : ℕ} → Laid xs l l' u → Laid ys l' l'' v → Laid ys l l'' v
 laid_over f g = record { are = g.are; many = g.many; size = g.size ∙ f.size }
 
--- those that a run's length tells, changed where they lie
+-- so many of them changed where they lie
 pub laid_front : {xs l l' ys : List Arc} {u : ℕ} → Laid xs l l' u → u ≤ length l' → length ys ≡ u → Laid ys l (put_mid 0 u l' ys) u
 laid_front {xs} {l} {l'} {ys} {u} f le e =
     record { are = take_at ys (drop u l') u e; many = sym e; size = omega (arith, length-append ys (drop u l'), length-drop u l', e, le, f.size) }
+
+-- what is left of the room behind them
+pub laid_left : {xs l l' : List Arc} {u : ℕ} → Laid xs l l' u → length (take (length l' - u) (drop u l')) ≡ length l - length xs
+laid_left {l' = l'} {u} f = omega (arith, f.many, f.size, length-take (length l' - u) (drop u l'), length-drop u l')
+
+-- ---- two runs at a room's front joined
+abbrev pub Merged : Operator → ℕ → ℕ → ℕ → ℕ → List Arc → List Arc → ℕ → Type 0
+Merged op p q u v room room' r =
+    (below : ℕ) → Terms below 0 (take u room) → Terms below 0 (arcs_in room u (u + v)) → u + v + (u + v) ≤ length room
+    → Laid (joined (join_by op) p q (take u room) (arcs_in room u (u + v))) room room' r
+
+-- the first was laid into a room, the second behind it
+pub laid_merged : {xs ys l l₁ part l₃ : List Arc} {u v r : ℕ} (op : Operator) (p q count : ℕ) → Laid xs l l₁ u → Laid ys (take (length l₁ - u) (drop u l₁)) part v → Terms count 0 xs → Terms count 0 ys
+    → 2 * (length xs + length ys) ≤ length l → Merged op p q u v (put_mid u (length l₁ - u) l₁ part) l₃ r → Laid (joined (join_by op) p q xs ys) l l₃ r
+laid_merged {xs} {ys} {l} {l₁} {part} {l₃} {u} {v} op p q count f g t t' i merged =
+    let le : u ≤ length l₁ = omega (arith, f.many, f.size) in
+    let size = laid_size ys l₁ part u v le g in
+    let one : take u (put_mid u (length l₁ - u) l₁ part) ≡ xs = laid_first ys l₁ part u v le g ∙ f.are in
+    let other = laid_second ys l₁ part u v le g in
+    let h = rw (one, other) at (merged count (rw one t) (rw other t') (omega (arith, size, f.many, f.size, g.many))) in
+    record { are = h.are; many = h.many; size = h.size ∙ size ∙ f.size }
 
 -- ---- a factor times the expression that was listed, and two listed one after the other
 module _ (n : Net) (env : List ℕ) (count : ℕ) (room : List Arc) (inner : ℕ → Answer Expression) (at next : ℕ) (room₁ : List Arc) (p : Multiset)
@@ -113,48 +134,38 @@ module _ (n : Net) (env : List ℕ) (count : ℕ) (room : List Arc) (inner : ℕ
         after = g.after;
       })
 
-  -- where both were listed, and their terms joined; room₂ is the room after the second
-  module _ (part : List Arc) (q : Multiset) (second : ListedTold n env count (take (length room₁ - p.many) (drop p.many room₁)) part q (inner p.next)) (op : Operator) (fits : p.rest ≤ 65535) where
-    abbrev room₂ : List Arc
-    room₂ = put_mid p.many (length room₁ - p.many) room₁ part
+  -- where both were listed, and their terms joined
+  module _ (part : List Arc) (q : Multiset) (second : ListedTold n env count (take (length room₁ - p.many) (drop p.many room₁)) part q (inner p.next)) (op : Operator) (fits : p.rest ≤ 65535)
+      (room₃ : List Arc) (r : ℕ) (merged : Merged op p.rest q.rest p.many q.many (put_mid p.many (length room₁ - p.many) room₁ part) room₃ r) where
+    abbrev whole : Multiset
+    whole = record { many = r; rest = join_by op p.rest q.rest; next = q.next }
 
-    module _ (room₃ : List Arc) (r : ℕ)
-        (merged : (below : ℕ) → Terms below 0 (take p.many room₂) → Terms below 0 (arcs_in room₂ p.many (p.many + q.many)) → (p.many + q.many) + (p.many + q.many) ≤ length room₂
-        → Laid (joined (join_by op) p.rest q.rest (take p.many room₂) (arcs_in room₂ p.many (p.many + q.many))) room₂ room₃ r) where
-      abbrev whole : Multiset
-      whole = record { many = r; rest = join_by op p.rest q.rest; next = q.next }
+    both_listed : (a b : Expression) (mid end : ℕ) → Listed n env count room room₁ p a mid → Listed n env count (take (length room₁ - p.many) (drop p.many room₁)) part q b end
+        → ceiling (joins op a b) ≤ 65535 → 2 * (terms a + terms b) ≤ length room → Listed n env count room room₃ whole (joins op a b) end
+    both_listed a b mid end g h small i =
+        record {
+          list = joined (join_by op) p.rest q.rest g.list h.list;
+          lie = laid_merged op p.rest q.rest count g.lie h.lie g.counted.rising h.counted.rising (omega (arith, i, g.counted.few, h.counted.few)) merged;
+          counted = joined_counted n env count a b g.list h.list p.rest q.rest g.counted h.counted op fits small;
+          after = h.after;
+        }
 
-      both_listed : (a b : Expression) (mid end : ℕ) → Listed n env count room room₁ p a mid → Listed n env count (take (length room₁ - p.many) (drop p.many room₁)) part q b end
-          → ceiling (joins op a b) ≤ 65535 → 2 * (terms a + terms b) ≤ length room → Listed n env count room room₃ whole (joins op a b) end
-      both_listed a b mid end g h small i =
-          let le : p.many ≤ length room₁ = omega (arith, g.lie.many, g.lie.size, g.counted.few) in
-          let size = laid_size h.list room₁ part p.many q.many le h.lie in
-          let one : take p.many room₂ ≡ g.list = laid_first h.list room₁ part p.many q.many le h.lie ∙ g.lie.are in
-          let other : arcs_in room₂ p.many (p.many + q.many) ≡ h.list = laid_second h.list room₁ part p.many q.many le h.lie in
-          let both = merged count (rw one g.counted.rising) (rw other h.counted.rising) (omega (arith, size, g.lie.many, h.lie.many, g.lie.size, g.counted.few, h.counted.few)) in
-          record {
-            list = joined (join_by op) p.rest q.rest g.list h.list;
-            lie = record { are = both.are ∙ rw (one, other) refl; many = both.many ∙ rw (one, other) refl; size = both.size ∙ size ∙ g.lie.size };
-            counted = joined_counted n env count a b g.list h.list p.rest q.rest g.counted h.counted op fits small;
-            after = h.after;
-          }
+    joins-terms : (o : Operator) (a b : Expression) → terms (joins o a b) ≡ terms a + terms b
+    unfolding terms
+    joins-terms Plus a b = refl
+    joins-terms Minus a b = refl
 
-      joins-terms : (o : Operator) (a b : Expression) → terms (joins o a b) ≡ terms a + terms b
-      unfolding terms
-      joins-terms Plus a b = refl
-      joins-terms Minus a b = refl
-
-      pub joined_listed : ListedTold n env count room room₃ whole (capped at (two_of inner (joins op) next))
-      joined_listed =
-          joined_by (ListedTold n env count room room₃ whole) (λ k i. tt) at inner next (joins op)
-          (λ a b mid end e f small i.
-          let t = joins-terms op a b in
-          let told : ListedTold n env count room room₁ p (fine a mid) = subst (ListedTold n env count room room₁ p) e first in
-          let g = told (omega (arith, t, i)) in
-          let told' : ListedTold n env count (take (length room₁ - p.many) (drop p.many room₁)) part q (fine b end) =
-          subst (ListedTold n env count (take (length room₁ - p.many) (drop p.many room₁)) part q) (ap inner g.after ∙ f) second in
-          let h = told' (omega (arith, t, i, length-take (length room₁ - p.many) (drop p.many room₁), length-drop p.many room₁, g.lie.many, g.lie.size, g.counted.few)) in
-          both_listed a b mid end g h small (omega (arith, t, i)))
+    pub joined_listed : ListedTold n env count room room₃ whole (capped at (two_of inner (joins op) next))
+    joined_listed =
+        joined_by (ListedTold n env count room room₃ whole) (λ k i. tt) at inner next (joins op)
+        (λ a b mid end e f small i.
+        let t = joins-terms op a b in
+        let told : ListedTold n env count room room₁ p (fine a mid) = subst (ListedTold n env count room room₁ p) e first in
+        let g = told (omega (arith, t, i)) in
+        let left : List Arc = take (length room₁ - p.many) (drop p.many room₁) in
+        let told' : ListedTold n env count left part q (fine b end) = subst (ListedTold n env count left part q) (ap inner g.after ∙ f) second in
+        let h = told' (omega (arith, t, i, laid_left g.lie, g.counted.few)) in
+        both_listed a b mid end g h small (omega (arith, t, i)))
 
 -- ---- a count of one rank
 abbrev pub OneTerm : Answer Expression → Type 0

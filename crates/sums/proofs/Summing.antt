@@ -11,7 +11,6 @@ use Rattle.std.proofs.lemmas.Bool.{false≢true}
 use Rattle.reading.proofs.Commands.{known, needed_at}
 use Rattle.reading.proofs.Keeps.{no_value, then_went, under_went, needed_went}
 use Rattle.firing.specs.declared.Arc.{Arc}
-use Rattle.firing.specs.internal.RowLists.{arcs_in}
 use Rattle.net.specs.Net.{Colour, variable, constant, successor, predecessor, Expression, plus, Place, single, pair, Net, size_of, ceiling}
 use Rattle.net.specs.Reader.{width_of, opening, colour_commands, read_colour, read_expression, amount}
 use Rattle.net.specs.Values.{weight}
@@ -30,10 +29,9 @@ use Rattle.sums.specs.internal.Sums as sums
 use Rattle.sums.specs.declared.terms.Multiset.{Multiset}
 use Rattle.arc_expressions.specs.declared.operator.Operator.TheVariants.{Plus}
 use borrow.Rule.Slice.PartMut.{put_mid}
-use Rattle.std.proofs.Math.ListN.{length-drop, length-take}
-use Rattle.runs.proofs.Laying.{laid_none, laid_size, laid_first, laid_second}
+use Rattle.runs.proofs.Laying.{laid_none}
 use Rattle.runs.proofs.Joining.{join_fits, joined_counts, joined_rises, joined_few}
-use Rattle.sums.proofs.Listing.{laid_over, amount-term, OneTerm}
+use Rattle.sums.proofs.Listing.{laid_over, laid_left, Merged, laid_merged, amount-term, OneTerm}
 
 -- ---- what is read with some levels left is read the same with more
 -- one reading gives what another gives
@@ -266,27 +264,13 @@ module _ (s : List ℕ) (n : Net) (place : Place) (env : List ℕ) where
                   small = omega (arith, g.small, o.ceilings);
                 }
 
-        -- another run follows behind them, and both are joined; room₂ is the room after it
-        module _ (part : List Arc) (many₂ next₂ ahead₂ : ℕ) (follows : SumTold s n place env count next ahead (take (length room₁ - many) (drop many room₁)) part many₂ next₂ ahead₂) where
-          abbrev room₂ : List Arc
-          room₂ = put_mid many (length room₁ - many) room₁ part
-
-          pub sum-joins : (room₃ : List Arc) (r : ℕ)
-              → ((below : ℕ) → Terms below 0 (take many room₂) → Terms below 0 (arcs_in room₂ many (many + many₂)) → (many + many₂) + (many + many₂) ≤ length room₂
-              → Laid (joined (join_by Plus) 0 0 (take many room₂) (arcs_in room₂ many (many + many₂))) room₂ room₃ r)
-              → SumTold s n place env count at operands room room₃ r next₂ ahead₂
-          sum-joins room₃ r merged es stop t l small i =
-              let g = told es stop t l small i in
-              let le : many ≤ length room₁ = omega (arith, g.lie.many, g.lie.size, g.few) in
-              let h =
-                  follows g.others stop g.turn g.still (omega (arith, g.small))
-                  (omega (arith, length-take (length room₁ - many) (drop many room₁), length-drop many room₁, g.lie.many, g.lie.size, g.few)) in
-              let size = laid_size h.list room₁ part many many₂ le h.lie in
-              let one : take many room₂ ≡ g.list = laid_first h.list room₁ part many many₂ le h.lie ∙ g.lie.are in
-              let other : arcs_in room₂ many (many + many₂) ≡ h.list = laid_second h.list room₁ part many many₂ le h.lie in
-              let both = merged count (rw one g.rising) (rw other h.rising) (omega (arith, size, g.lie.many, h.lie.many, g.lie.size, g.few, h.few)) in
-              joins_more es h.others stop g small h.rising h.turn h.still h.counted h.few h.small
-              (record { are = both.are ∙ rw (one, other) refl; many = both.many ∙ rw (one, other) refl; size = both.size ∙ size ∙ g.lie.size })
+        -- another run follows behind them, and both are joined
+        pub sum-joins : (part : List Arc) (many₂ next₂ ahead₂ : ℕ) → SumTold s n place env count next ahead (take (length room₁ - many) (drop many room₁)) part many₂ next₂ ahead₂ → (room₃ : List Arc) (r : ℕ)
+            → Merged Plus 0 0 many many₂ (put_mid many (length room₁ - many) room₁ part) room₃ r → SumTold s n place env count at operands room room₃ r next₂ ahead₂
+        sum-joins part many₂ next₂ ahead₂ follows room₃ r merged es stop t l small i =
+            let g = told es stop t l small i in
+            let h = follows g.others stop g.turn g.still (omega (arith, g.small)) (omega (arith, laid_left g.lie, g.few)) in
+            joins_more es h.others stop g small h.rising h.turn h.still h.counted h.few h.small (laid_merged Plus 0 0 count g.lie h.lie g.rising h.rising (omega (arith, i, g.few, h.few)) merged)
 
     -- ---- the one expression that stands at a place
     -- nothing is to come: the terms are its own
