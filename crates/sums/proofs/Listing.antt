@@ -88,7 +88,7 @@ pub laid_over : {xs ys l l' l'' : List Arc} {u v : ℕ} → Laid xs l l' u → L
 laid_over f g = record { are = g.are; many = g.many; size = g.size ∙ f.size }
 
 -- so many of them changed where they lie
-pub laid_front : {xs l l' ys : List Arc} {u : ℕ} → Laid xs l l' u → u ≤ length l' → length ys ≡ u → Laid ys l (put_mid 0 u l' ys) u
+laid_front : {xs l l' ys : List Arc} {u : ℕ} → Laid xs l l' u → u ≤ length l' → length ys ≡ u → Laid ys l (put_mid 0 u l' ys) u
 laid_front {xs} {l} {l'} {ys} {u} f le e =
     record { are = take_at ys (drop u l') u e; many = sym e; size = omega (arith, length-append ys (drop u l'), length-drop u l', e, le, f.size) }
 
