@@ -5,15 +5,16 @@ use Prim.Native.Nat.{◌≤◌, ◌<◌}
 use native.Mathlib.Omega.{arith}
 use native.Mathlib.Nat.{mul-le-mul_left, le_trans}
 use borrow.Author.Tests.{le-leb, ne_eqb, ltb-true, ltb-false}
-use Rattle.reading.specs.Basics.{ℕ, Bool, true, false, List, [], length, ltb, eqb, byte_at, word_at}
+use Rattle.reading.specs.Basics.{ℕ, Bool, true, false, List, [], length, take, drop, ltb, eqb, byte_at, word_at}
 use Rattle.reading.specs.Reading.{Answer, fine, fault, under, needed}
 use Rattle.firing.specs.declared.Arc.{Arc}
 use Rattle.firing.specs.internal.RowLists.{arcs_in}
-use Rattle.net.specs.Net.{Colour, Expression, all, plus, minus, times, Place, single, pair, Net, ceiling}
+use Rattle.net.specs.Net.{Colour, Expression, all, times, Place, single, pair, Net, ceiling}
 use Rattle.net.specs.Reader.{read_colour, read_expression, expression_commands, two_of, amount, capped}
 use Rattle.net.specs.Values.{weight}
 use Rattle.evaluation.specs.internal.Evaluated.{bound, Ranks}
-use Rattle.runs.specs.internal.Terms.{limit, term, count_in, Terms, none, more, joined, join_by, times_all, ArcsAppended}
+use Rattle.runs.specs.internal.Terms.{limit, term, count_in, Terms, none, more, joined, join_by, times_all, Laid}
+use Rattle.arc_expressions.specs.internal.ReaderEnums.{joins}
 use Rattle.arc_expressions.specs.declared.operator.Operator.{Operator}
 use Rattle.arc_expressions.specs.declared.operator.Operator.TheVariants.{Plus, Minus}
 use Rattle.evaluation.specs.declared.evaluate.Ranked.{Ranked}
@@ -23,14 +24,11 @@ use Rattle.arc_expressions.proofs.Expressions.{expression_step, expression_in_le
 use Rattle.evaluation.proofs.Weights.{weight_le, joined_by, times_by, one_by, two_by, expression_past, expression_shut, expression_stray}
 use Rattle.sums.specs.internal.Loaded.{terms, Counted, Listed, ListedTold, byte_of}
 use Rattle.sums.specs.declared.terms.Multiset.{Multiset}
-use Rattle.firing.proofs.Rows.{arcs_front}
-use Rattle.runs.proofs.Appending.{append_none, append_join}
+use borrow.Rule.Slice.PartMut.{put_mid}
+use Rattle.std.proofs.Math.ListN.{length-append, length-drop, length-take}
+use Rattle.std.proofs.lemmas.List.{take_at}
+use Rattle.runs.proofs.Laying.{laid_none, laid_size, laid_first, laid_second}
 use Rattle.runs.proofs.Joining.{join_fits, joined_counts, joined_rises, joined_few, times_counts, times_rises, times_few}
-
--- the sum of two expressions, or the first less the second
-abbrev pub joins : Operator → Expression → Expression → Expression
-joins Plus a b = plus a b
-joins Minus a b = minus a b
 
 -- ---- the parts of an expression, counted
 module _ (n : Net) (env : List ℕ) (count : ℕ) where
@@ -85,44 +83,69 @@ module _ (n : Net) (env : List ℕ) (count : ℕ) where
           few = join_few (join_by Plus);
         }
 
--- ---- terms that take the place of others
-pub append-over : {xs ys l l' l'' : List Arc} {used end end' : ℕ} → ArcsAppended xs l used l' end → ArcsAppended ys l' used l'' end' → ArcsAppended ys l used l'' end'
-append-over f g = record { front = g.front ∙ f.front; are = g.are; end = g.end; size = g.size ∙ f.size }
+-- ---- terms laid over others
+pub laid_over : {xs ys l l' l'' : List Arc} {u v : ℕ} → Laid xs l l' u → Laid ys l' l'' v → Laid ys l l'' v
+laid_over f g = record { are = g.are; many = g.many; size = g.size ∙ f.size }
+
+-- so many of them changed where they lie
+laid_front : {xs l l' ys : List Arc} {u : ℕ} → Laid xs l l' u → u ≤ length l' → length ys ≡ u → Laid ys l (put_mid 0 u l' ys) u
+laid_front {xs} {l} {l'} {ys} {u} f le e =
+    record { are = take_at ys (drop u l') u e; many = sym e; size = omega (arith, length-append ys (drop u l'), length-drop u l', e, le, f.size) }
+
+-- what is left of the room behind them
+pub laid_left : {xs l l' : List Arc} {u : ℕ} → Laid xs l l' u → length (take (length l' - u) (drop u l')) ≡ length l - length xs
+laid_left {l' = l'} {u} f = omega (arith, f.many, f.size, length-take (length l' - u) (drop u l'), length-drop u l')
+
+-- ---- two runs at a room's front joined
+abbrev pub Merged : Operator → ℕ → ℕ → ℕ → ℕ → List Arc → List Arc → ℕ → Type 0
+Merged op p q u v room room' r =
+    (below : ℕ) → Terms below 0 (take u room) → Terms below 0 (arcs_in room u (u + v)) → u + v + (u + v) ≤ length room
+    → Laid (joined (join_by op) p q (take u room) (arcs_in room u (u + v))) room room' r
+
+-- the first was laid into a room, the second behind it
+pub laid_merged : {xs ys l l₁ part l₃ : List Arc} {u v r : ℕ} (op : Operator) (p q count : ℕ) → Laid xs l l₁ u → Laid ys (take (length l₁ - u) (drop u l₁)) part v → Terms count 0 xs → Terms count 0 ys
+    → 2 * (length xs + length ys) ≤ length l → Merged op p q u v (put_mid u (length l₁ - u) l₁ part) l₃ r → Laid (joined (join_by op) p q xs ys) l l₃ r
+laid_merged {xs} {ys} {l} {l₁} {part} {l₃} {u} {v} op p q count f g t t' i merged =
+    let le : u ≤ length l₁ = omega (arith, f.many, f.size) in
+    let size = laid_size ys l₁ part u v le g in
+    let one : take u (put_mid u (length l₁ - u) l₁ part) ≡ xs = laid_first ys l₁ part u v le g ∙ f.are in
+    let other = laid_second ys l₁ part u v le g in
+    let h = rw (one, other) at (merged count (rw one t) (rw other t') (omega (arith, size, f.many, f.size, g.many))) in
+    record { are = h.are; many = h.many; size = h.size ∙ size ∙ f.size }
 
 -- ---- a factor times the expression that was listed, and two listed one after the other
-module _ (n : Net) (env : List ℕ) (count : ℕ) (arcs : List Arc) (used : ℕ) (inner : ℕ → Answer Expression) (at next : ℕ) (arcs₁ : List Arc) (p : Multiset)
-    (first : ListedTold n env count arcs used arcs₁ p (inner next)) where
-  pub times_listed : (factor : ℕ) (arcs₂ : List Arc) → ((l₀ l : List Arc) → ArcsAppended l l₀ used arcs₁ p.end → p.end ≤ length arcs₁ → ArcsAppended (times_all factor l) l₀ used arcs₂ p.end)
-      → ListedTold n env count arcs used arcs₂ (record { end = p.end; rest = limit (factor * p.rest); next = p.next }) (capped at (under (times factor) (inner next)))
+module _ (n : Net) (env : List ℕ) (count : ℕ) (room : List Arc) (inner : ℕ → Answer Expression) (at next : ℕ) (room₁ : List Arc) (p : Multiset)
+    (first : ListedTold n env count room room₁ p (inner next)) where
+  pub times_listed : (factor : ℕ) (run : List Arc) → run ≡ times_all factor (take p.many room₁)
+      → ListedTold n env count room (put_mid 0 p.many room₁ run) (record { many = p.many; rest = limit (factor * p.rest); next = p.next }) (capped at (under (times factor) (inner next)))
   unfolding terms
-  times_listed factor arcs₂ scaled =
-      times_by (ListedTold n env count arcs used arcs₂ (record { end = p.end; rest = limit (factor * p.rest); next = p.next })) (λ k i. tt) at inner next factor
+  times_listed factor run scaled =
+      let room₂ = put_mid 0 p.many room₁ run in
+      times_by (ListedTold n env count room room₂ (record { many = p.many; rest = limit (factor * p.rest); next = p.next })) (λ k i. tt) at inner next factor
       (λ a end e small i.
-      let told : ListedTold n env count arcs used arcs₁ p (fine a end) = subst (ListedTold n env count arcs used arcs₁ p) e first in
+      let told : ListedTold n env count room room₁ p (fine a end) = subst (ListedTold n env count room room₁ p) e first in
       let g = told i in
+      let is : run ≡ times_all factor g.list = scaled ∙ ap (times_all factor) g.lie.are in
+      let fits : length run ≡ p.many = ap length is ∙ times_few factor g.list ∙ sym g.lie.many in
       record {
         list = times_all factor g.list;
-        lie = scaled arcs g.list g.lie (omega (arith, g.lie.end, g.lie.size, g.counted.few));
+        lie = subst (λ xs. Laid xs room room₂ p.many) is (laid_front g.lie (omega (arith, g.lie.many, g.lie.size, g.counted.few)) fits);
         counted = times_counted n env count factor a g.list p.rest small g.counted;
         after = g.after;
       })
 
   -- where both were listed, and their terms joined
-  module _ (arcs₂ : List Arc) (q : Multiset) (second : ListedTold n env count arcs₁ p.end arcs₂ q (inner p.next)) (op : Operator) (fits : p.rest ≤ 65535) (arcs₃ : List Arc) (r : ℕ)
-      (merged : (below : ℕ) → Terms below 0 (arcs_in arcs₂ used p.end) → Terms below 0 (arcs_in arcs₂ p.end q.end) → q.end + (q.end - used) ≤ length arcs₂
-      → ArcsAppended (joined (join_by op) p.rest q.rest (arcs_in arcs₂ used p.end) (arcs_in arcs₂ p.end q.end)) arcs₂ used arcs₃ r) where
+  module _ (part : List Arc) (q : Multiset) (second : ListedTold n env count (take (length room₁ - p.many) (drop p.many room₁)) part q (inner p.next)) (op : Operator) (fits : p.rest ≤ 65535)
+      (room₃ : List Arc) (r : ℕ) (merged : Merged op p.rest q.rest p.many q.many (put_mid p.many (length room₁ - p.many) room₁ part) room₃ r) where
     abbrev whole : Multiset
-    whole = record { end = r; rest = join_by op p.rest q.rest; next = q.next }
+    whole = record { many = r; rest = join_by op p.rest q.rest; next = q.next }
 
-    both_listed : (a b : Expression) (mid end : ℕ) → Listed n env count arcs used arcs₁ p a mid → Listed n env count arcs₁ p.end arcs₂ q b end
-        → ceiling (joins op a b) ≤ 65535 → used + 2 * (terms a + terms b) ≤ length arcs → Listed n env count arcs used arcs₃ whole (joins op a b) end
+    both_listed : (a b : Expression) (mid end : ℕ) → Listed n env count room room₁ p a mid → Listed n env count (take (length room₁ - p.many) (drop p.many room₁)) part q b end
+        → ceiling (joins op a b) ≤ 65535 → 2 * (terms a + terms b) ≤ length room → Listed n env count room room₃ whole (joins op a b) end
     both_listed a b mid end g h small i =
-        let both = append_join g.lie h.lie in
-        let first_kept : arcs_in arcs₂ used p.end ≡ g.list = arcs_front arcs₂ arcs₁ used p.end h.lie.front ∙ g.lie.are in
-        let room = merged count (rw first_kept g.counted.rising) (rw h.lie.are h.counted.rising) (omega (arith, g.lie.end, h.lie.end, g.counted.few, h.counted.few, both.size)) in
         record {
           list = joined (join_by op) p.rest q.rest g.list h.list;
-          lie = append-over both (rw (first_kept, h.lie.are) at room);
+          lie = laid_merged op p.rest q.rest count g.lie h.lie g.counted.rising h.counted.rising (omega (arith, i, g.counted.few, h.counted.few)) merged;
           counted = joined_counted n env count a b g.list h.list p.rest q.rest g.counted h.counted op fits small;
           after = h.after;
         }
@@ -132,15 +155,16 @@ module _ (n : Net) (env : List ℕ) (count : ℕ) (arcs : List Arc) (used : ℕ)
     joins-terms Plus a b = refl
     joins-terms Minus a b = refl
 
-    pub joined_listed : ListedTold n env count arcs used arcs₃ whole (capped at (two_of inner (joins op) next))
+    pub joined_listed : ListedTold n env count room room₃ whole (capped at (two_of inner (joins op) next))
     joined_listed =
-        joined_by (ListedTold n env count arcs used arcs₃ whole) (λ k i. tt) at inner next (joins op)
+        joined_by (ListedTold n env count room room₃ whole) (λ k i. tt) at inner next (joins op)
         (λ a b mid end e f small i.
         let t = joins-terms op a b in
-        let told : ListedTold n env count arcs used arcs₁ p (fine a mid) = subst (ListedTold n env count arcs used arcs₁ p) e first in
+        let told : ListedTold n env count room room₁ p (fine a mid) = subst (ListedTold n env count room room₁ p) e first in
         let g = told (omega (arith, t, i)) in
-        let told' : ListedTold n env count arcs₁ p.end arcs₂ q (fine b end) = subst (ListedTold n env count arcs₁ p.end arcs₂ q) (ap inner g.after ∙ f) second in
-        let h = told' (omega (arith, t, i, g.lie.end, g.lie.size, g.counted.few)) in
+        let left : List Arc = take (length room₁ - p.many) (drop p.many room₁) in
+        let told' : ListedTold n env count left part q (fine b end) = subst (ListedTold n env count left part q) (ap inner g.after ∙ f) second in
+        let h = told' (omega (arith, t, i, laid_left g.lie, g.counted.few)) in
         both_listed a b mid end g h small (omega (arith, t, i)))
 
 -- ---- a count of one rank
@@ -153,13 +177,14 @@ unfolding terms
 amount-term n inner (single set) count at next = one_by OneTerm (λ k p. tt) at n inner count next set (λ k end e. refl)
 amount-term n inner (pair set other) count at next = two_by OneTerm (λ k p. tt) at n inner count next set other (λ a b mid end e f. refl)
 
-module _ (n : Net) (env : List ℕ) (count : ℕ) (arcs : List Arc) (used : ℕ) (arcs' : List Arc) (end : ℕ) (k : Ranked) (number : ℕ) (fits : number ≤ 65535)
-    (inside : k.rank < count → used < length arcs → ArcsAppended (term k.rank number ∷ []) arcs used arcs' end)
-    (outside : count ≤ k.rank → ArcsAppended [] arcs used arcs' end) where
-  one_listed : (x : Answer Expression) → OneTerm x → Ranks n env number k x → ListedTold n env count arcs used arcs' (record { end = end; rest = 0; next = k.next }) x
+-- it was stored, where its rank is below the number
+module _ (n : Net) (env : List ℕ) (count : ℕ) (room room' : List Arc) (many : ℕ) (k : Ranked) (number : ℕ) (fits : number ≤ 65535)
+    (inside : k.rank < count → 0 < length room → Laid (term k.rank number ∷ []) room room' many)
+    (outside : count ≤ k.rank → (room' ≡ room) × (many ≡ 0)) where
+  one_listed : (x : Answer Expression) → OneTerm x → Ranks n env number k x → ListedTold n env count room room' (record { many = many; rest = 0; next = k.next }) x
   one_listed (fine e next) t h = λ i. go (ltb k.rank count) refl i
     where
-      go : (b : Bool) → ltb k.rank count ≡ b → used + 2 * terms e ≤ length arcs → Listed n env count arcs used arcs' (record { end = end; rest = 0; next = k.next }) e next
+      go : (b : Bool) → ltb k.rank count ≡ b → 2 * terms e ≤ length room → Listed n env count room room' (record { many = many; rest = 0; next = k.next }) e next
       go true f i =
           let lt = ltb-true k.rank count f in
           record {
@@ -170,19 +195,19 @@ module _ (n : Net) (env : List ℕ) (count : ℕ) (arcs : List Arc) (used : ℕ)
           }
       go false f i =
           let le = ltb-false k.rank count f in
-          record { list = []; lie = outside le; counted = past_counted n env count e k.rank number t h.1 le; after = h.0 }
+          record { list = []; lie = rw ((outside le).0, (outside le).1) (laid_none room); counted = past_counted n env count e k.rank number t h.1 le; after = h.0 }
   one_listed (fault i p) t h = tt
 
 -- ---- by the byte that stands at a place
-module _ (s : List ℕ) (n : Net) (env : List ℕ) (place : Place) (left at count : ℕ) (arcs : List Arc) (used : ℕ) where
+module _ (s : List ℕ) (n : Net) (env : List ℕ) (place : Place) (left at count : ℕ) (room : List Arc) where
   -- 0x41
-  pub all_listed : byte_at s at ≡ 0x41 → ListedTold n env count arcs used arcs (record { end = used; rest = word_at s (at + 1); next = at + 3 }) (read_expression s n place left at)
+  pub all_listed : byte_at s at ≡ 0x41 → ListedTold n env count room room (record { many = 0; rest = word_at s (at + 1); next = at + 3 }) (read_expression s n place left at)
   unfolding commands
   all_listed e =
-      rw (expression_step s n place left at) (needed_by (ListedTold n env count arcs used arcs (record { end = used; rest = word_at s (at + 1); next = at + 3 })) (λ k p. tt) s at 0x41 _ e refl
-      (λ i. record { list = []; lie = append_none arcs used; counted = all_counted n env count (word_at s (at + 1)); after = refl }))
+      rw (expression_step s n place left at) (needed_by (ListedTold n env count room room (record { many = 0; rest = word_at s (at + 1); next = at + 3 })) (λ k p. tt) s at 0x41 _ e refl
+      (λ i. record { list = []; lie = laid_none room; counted = all_counted n env count (word_at s (at + 1)); after = refl }))
 
-  module _ (arcs' : List Arc) where
+  module _ (room' : List Arc) where
     -- the others, with so many levels left for what is inside
     inside : read_expression s n place (left + 1) at ≡ needed s (expression_commands s n place (left + 1) (read_expression s n place left) (read_colour s n left) at) at
     inside =
@@ -190,39 +215,39 @@ module _ (s : List ℕ) (n : Net) (env : List ℕ) (place : Place) (left at coun
         expression_in_lem s n place (left + 1) at (omega arith) ∙ ap (λ k. needed s (expression_commands s n place (left + 1) (read_expression s n place k) (read_colour s n k) at) at) e
 
     -- 0x40
-    pub amount_listed : (end : ℕ) (k : Ranked) → word_at s (at + 1) ≤ 65535
-        → (k.rank < count → used < length arcs → ArcsAppended (term k.rank (word_at s (at + 1)) ∷ []) arcs used arcs' end)
-        → (count ≤ k.rank → ArcsAppended [] arcs used arcs' end)
+    pub amount_listed : (many : ℕ) (k : Ranked) → word_at s (at + 1) ≤ 65535
+        → (k.rank < count → 0 < length room → Laid (term k.rank (word_at s (at + 1)) ∷ []) room room' many)
+        → (count ≤ k.rank → (room' ≡ room) × (many ≡ 0))
         → Ranks n env (word_at s (at + 1)) k (amount n (read_colour s n left) place (word_at s (at + 1)) at (at + 3)) → byte_at s at ≡ 0x40
-        → ListedTold n env count arcs used arcs' (record { end = end; rest = 0; next = k.next }) (read_expression s n place (left + 1) at)
+        → ListedTold n env count room room' (record { many = many; rest = 0; next = k.next }) (read_expression s n place (left + 1) at)
     unfolding commands
-    amount_listed end k fits under_count past h e =
-        rw inside (needed_by (ListedTold n env count arcs used arcs' (record { end = end; rest = 0; next = k.next })) (λ k p. tt) s at 0x40 _ e refl
-        (one_listed n env count arcs used arcs' end k (word_at s (at + 1)) fits under_count past
+    amount_listed many k fits under_count past h e =
+        rw inside (needed_by (ListedTold n env count room room' (record { many = many; rest = 0; next = k.next })) (λ k p. tt) s at 0x40 _ e refl
+        (one_listed n env count room room' many k (word_at s (at + 1)) fits under_count past
         (amount n (read_colour s n left) place (word_at s (at + 1)) at (at + 3)) (amount-term n (read_colour s n left) place (word_at s (at + 1)) at (at + 3)) h))
 
     module _ (r : Multiset) where
       -- 0x44
-      pub times_told : byte_at s at ≡ 0x44 → ListedTold n env count arcs used arcs' r (capped at (under (times (word_at s (at + 1))) (read_expression s n place left (at + 3))))
-          → ListedTold n env count arcs used arcs' r (read_expression s n place (left + 1) at)
+      pub times_told : byte_at s at ≡ 0x44 → ListedTold n env count room room' r (capped at (under (times (word_at s (at + 1))) (read_expression s n place left (at + 3))))
+          → ListedTold n env count room room' r (read_expression s n place (left + 1) at)
       unfolding commands
-      times_told e h = rw inside (needed_by (ListedTold n env count arcs used arcs' r) (λ k p. tt) s at 0x44 _ e refl h)
+      times_told e h = rw inside (needed_by (ListedTold n env count room room' r) (λ k p. tt) s at 0x44 _ e refl h)
 
       -- 0x42 and 0x43
-      pub joined_told : (op : Operator) → byte_at s at ≡ byte_of op → ListedTold n env count arcs used arcs' r (capped at (two_of (read_expression s n place left) (joins op) (at + 1)))
-          → ListedTold n env count arcs used arcs' r (read_expression s n place (left + 1) at)
+      pub joined_told : (op : Operator) → byte_at s at ≡ byte_of op → ListedTold n env count room room' r (capped at (two_of (read_expression s n place left) (joins op) (at + 1)))
+          → ListedTold n env count room room' r (read_expression s n place (left + 1) at)
       unfolding commands
-      joined_told Minus e h = rw inside (needed_by (ListedTold n env count arcs used arcs' r) (λ k p. tt) s at 0x43 _ e refl h)
-      joined_told Plus e h = rw inside (needed_by (ListedTold n env count arcs used arcs' r) (λ k p. tt) s at 0x42 _ e refl h)
+      joined_told Minus e h = rw inside (needed_by (ListedTold n env count room room' r) (λ k p. tt) s at 0x43 _ e refl h)
+      joined_told Plus e h = rw inside (needed_by (ListedTold n env count room room' r) (λ k p. tt) s at 0x42 _ e refl h)
 
     -- nothing is promised past the end, where no level is left for what is inside, and at a stray byte
     module _ (r : Multiset) where
-      pub listed_past : length s ≤ at → ListedTold n env count arcs used arcs' r (read_expression s n place left at)
-      listed_past = expression_past (ListedTold n env count arcs used arcs' r) (λ k p. tt) s n left at place
+      pub listed_past : length s ≤ at → ListedTold n env count room room' r (read_expression s n place left at)
+      listed_past = expression_past (ListedTold n env count room room' r) (λ k p. tt) s n left at place
 
-      pub listed_shut : left < 1 → (byte_at s at ≡ 0x41 → ⊥) → ListedTold n env count arcs used arcs' r (read_expression s n place left at)
-      listed_shut = expression_shut (ListedTold n env count arcs used arcs' r) (λ k p. tt) s n left at place
+      pub listed_shut : left < 1 → (byte_at s at ≡ 0x41 → ⊥) → ListedTold n env count room room' r (read_expression s n place left at)
+      listed_shut = expression_shut (ListedTold n env count room room' r) (λ k p. tt) s n left at place
 
       pub listed_stray : (byte_at s at ≡ 0x40 → ⊥) → (byte_at s at ≡ 0x41 → ⊥) → (byte_at s at ≡ 0x42 → ⊥) → (byte_at s at ≡ 0x43 → ⊥) → (byte_at s at ≡ 0x44 → ⊥)
-          → ListedTold n env count arcs used arcs' r (read_expression s n place left at)
-      listed_stray = expression_stray (ListedTold n env count arcs used arcs' r) (λ k p. tt) s n left at place
+          → ListedTold n env count room room' r (read_expression s n place left at)
+      listed_stray = expression_stray (ListedTold n env count room room' r) (λ k p. tt) s n left at place

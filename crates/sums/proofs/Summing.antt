@@ -1,18 +1,16 @@
 -- A sum of counts gone through operand after operand: what each step adds to the terms, and two runs joined. Assumes nothing.
 use Rattle.std.specs.Prelude.{◌+◌, ◌-◌, ◌*◌, ◌&&◌, ◌∷◌, if◌then◌else◌}
 use mathlib.Core.Path.{◌≡◌, refl, sym, ap, subst, ◌∙◌}
-use mathlib.Core.List.{append-nil}
 use Prim.Native.Nat.{◌≤◌, ◌<◌}
 use native.Mathlib.Omega.{arith}
 use borrow.Author.Tests.{le-leb, ne_eqb, lt-ltb, ltb-true, ltb-false}
-use Rattle.reading.specs.Basics.{ℕ, zero, suc, Bool, true, false, List, [], Option, some, none, length, ltb, eqb, given, with, byte_at, word_at}
+use Rattle.reading.specs.Basics.{ℕ, zero, suc, Bool, true, false, List, [], Option, some, none, length, take, drop, ltb, eqb, given, with, byte_at, word_at}
 use Rattle.reading.specs.Reading.{Answer, fine, fault, under, Check, ◌unless◌, failing, Command, command, obey}
 use Rattle.reading.proofs.Lists.{end, also}
 use Rattle.std.proofs.lemmas.Bool.{false≢true}
 use Rattle.reading.proofs.Commands.{known, needed_at}
 use Rattle.reading.proofs.Keeps.{no_value, then_went, under_went, needed_went}
 use Rattle.firing.specs.declared.Arc.{Arc}
-use Rattle.firing.specs.internal.RowLists.{arcs_in}
 use Rattle.net.specs.Net.{Colour, variable, constant, successor, predecessor, Expression, plus, Place, single, pair, Net, size_of, ceiling}
 use Rattle.net.specs.Reader.{width_of, opening, colour_commands, read_colour, read_expression, amount}
 use Rattle.net.specs.Values.{weight}
@@ -24,16 +22,16 @@ use Rattle.net.proofs.Colours.{colour_step}
 use Rattle.arc_expressions.proofs.Expressions.{expression_in_lem}
 use Rattle.evaluation.proofs.Weights.{weight_le, joined_by, expression_shut}
 use Rattle.runs.specs.internal.Terms as spec
-use Rattle.runs.specs.internal.Terms.{term, count_in, Terms, joined, join_by, ArcsAppended}
+use Rattle.runs.specs.internal.Terms.{term, count_in, Terms, joined, join_by, Laid}
 use Rattle.sums.specs.internal.Loaded.{terms, ListedTold}
 use Rattle.sums.specs.internal.Sums.{InTurn, together, Summing, SumTold}
 use Rattle.sums.specs.internal.Sums as sums
 use Rattle.sums.specs.declared.terms.Multiset.{Multiset}
-use Rattle.firing.proofs.Rows.{arcs_front}
 use Rattle.arc_expressions.specs.declared.operator.Operator.TheVariants.{Plus}
-use Rattle.runs.proofs.Appending.{append_none, append_join, behind}
+use borrow.Rule.Slice.PartMut.{put_mid}
+use Rattle.runs.proofs.Laying.{laid_none}
 use Rattle.runs.proofs.Joining.{join_fits, joined_counts, joined_rises, joined_few}
-use Rattle.sums.proofs.Listing.{append-over, amount-term, OneTerm}
+use Rattle.sums.proofs.Listing.{laid_over, laid_left, Merged, laid_merged, amount-term, OneTerm}
 
 -- ---- what is read with some levels left is read the same with more
 -- one reading gives what another gives
@@ -187,37 +185,37 @@ module _ (s : List ℕ) (n : Net) (place : Place) (env : List ℕ) where
         joined_counts (join_by Plus) 0 0 t u rank ∙ rw (le-leb (count_in l 0 rank + count_in m 0 rank) 65535 (omega arith)) in
         omega arith
 
-    module _ (at many : ℕ) (arcs : List Arc) (used : ℕ) where
+    module _ (at operands : ℕ) (room : List Arc) where
       -- nothing is gone through yet
-      pub sum_begins : SumTold s n place env count at many arcs used arcs used at many
+      pub sum_begins : SumTold s n place env count at operands room room 0 at operands
       unfolding count_in
       sum_begins es stop t l small i =
-          record { list = []; others = es; lie = append_none arcs used; rising = spec.none; turn = t; many = l; counted = λ rank lt. omega arith; few = omega arith; small = omega arith }
+          record { list = []; others = es; lie = laid_none room; rising = spec.none; turn = t; still = l; counted = λ rank lt. omega arith; few = omega arith; small = omega arith }
 
-      module _ (arcs₁ : List Arc) (end next ahead : ℕ) (told : SumTold s n place env count at many arcs used arcs₁ end next ahead) where
+      module _ (room₁ : List Arc) (many next ahead : ℕ) (told : SumTold s n place env count at operands room room₁ many next ahead) where
         -- 0x42 opens two in the stead of one
-        pub sum_opens : 1 ≤ ahead → byte_at s next ≡ 0x42 → SumTold s n place env count at many arcs used arcs₁ end (next + 1) (ahead + 1)
+        pub sum_opens : 1 ≤ ahead → byte_at s next ≡ 0x42 → SumTold s n place env count at operands room room₁ many (next + 1) (ahead + 1)
         sum_opens lt b es stop t l small i =
             let g = told es stop t l small i in
-            let o = opens g.turn (omega (arith, g.many)) b in
+            let o = opens g.turn (omega (arith, g.still)) b in
             record {
               list = g.list;
               others = o.inner;
               lie = g.lie;
               rising = g.rising;
               turn = o.turn;
-              many = omega (arith, o.many, g.many);
+              still = omega (arith, o.many, g.still);
               counted = λ rank h. omega (arith, g.counted rank h, o.weighs rank);
               few = omega (arith, g.few, o.same);
               small = omega (arith, g.small, o.ceilings);
             }
 
         -- more terms are joined to those so far, and others are still to come
-        joins_more : {m arcs' : List Arc} {next' ahead' end' : ℕ} (es others : List Expression) (stop : ℕ) (g : Summing s n place env count es stop arcs used arcs₁ end next ahead)
+        joins_more : {m room' : List Arc} {next' ahead' many' : ℕ} (es others : List Expression) (stop : ℕ) (g : Summing s n place env count es stop room room₁ many next ahead)
             → together ceiling es ≤ 65535 → Terms count 0 m → InTurn s n place others next' stop → length others ≡ ahead'
             → ((rank : ℕ) → rank < count → weights rank g.others ≡ count_in m 0 rank + weights rank others) → length m + together terms others ≤ together terms g.others
-            → together ceiling others ≤ together ceiling g.others → ArcsAppended (joined (join_by Plus) 0 0 g.list m) arcs used arcs' end'
-            → Summing s n place env count es stop arcs used arcs' end' next' ahead'
+            → together ceiling others ≤ together ceiling g.others → Laid (joined (join_by Plus) 0 0 g.list m) room room' many'
+            → Summing s n place env count es stop room room' many' next' ahead'
         joins_more {m} es others stop g small rise t l w f c lie =
             record {
               list = joined (join_by Plus) 0 0 g.list m;
@@ -225,64 +223,60 @@ module _ (s : List ℕ) (n : Net) (place : Place) (env : List ℕ) where
               lie = lie;
               rising = joined_rises (join_by Plus) 0 0 (join_fits Plus) (omega arith) g.rising rise;
               turn = t;
-              many = l;
+              still = l;
               counted = λ rank h. both_counted es g.others others g.rising rise small rank (g.counted rank h) (w rank h);
               few = omega (arith, joined_few (join_by Plus) 0 0 g.list m, g.few);
               small = omega (arith, g.small);
             }
 
-        module _ (arcs₂ : List Arc) where
-          -- 0x40 adds its one term, or none where its rank is not below the number
-          pub sum_takes : (k : Ranked) (end' : ℕ) → 1 ≤ ahead → byte_at s next ≡ 0x40
-              → Ranks n env (word_at s (next + 1)) k (amount n (read_colour s n 15) place (word_at s (next + 1)) next (next + 3))
-              → word_at s (next + 1) ≤ 65535
-              → (k.rank < count → end < length arcs₁ → Terms count 0 (arcs_in arcs₁ used end)
-              → ArcsAppended (joined (join_by Plus) 0 0 (arcs_in arcs₁ used end) (term k.rank (word_at s (next + 1)) ∷ [])) arcs₁ used arcs₂ end')
-              → (count ≤ k.rank → ArcsAppended [] arcs₁ end arcs₂ end')
-              → SumTold s n place env count at many arcs used arcs₂ end' k.next (ahead - 1)
-          unfolding count_in
-          sum_takes k end' lt b ranked fits inside outside es stop t l small i = go (ltb k.rank count) refl (told es stop t l small i)
-            where
-              go : (y : Bool) → ltb k.rank count ≡ y → Summing s n place env count es stop arcs used arcs₁ end next ahead → Summing s n place env count es stop arcs used arcs₂ end' k.next (ahead - 1)
-              go true f g =
-                  let h = ltb-true k.rank count f in
-                  let o = takes k g.turn (omega (arith, g.many)) b ranked in
-                  let are = g.lie.are in
-                  joins_more {m = term k.rank (word_at s (next + 1)) ∷ []} es o.others stop g small (spec.more {from = 0} {a = term k.rank (word_at s (next + 1))} (omega arith) h fits spec.none) o.turn (omega (arith, o.many, g.many))
-                  (λ rank _. o.weighs rank) (omega (arith, o.one)) o.ceilings
-                  (append-over g.lie (rw are at (inside h (omega (arith, g.lie.end, g.lie.size, g.few, o.one)) (rw are g.rising))))
-              go false f g =
-                  let h = ltb-false k.rank count f in
-                  let o = takes k g.turn (omega (arith, g.many)) b ranked in
-                  record {
-                    list = g.list;
-                    others = o.others;
-                    lie = subst (λ xs. ArcsAppended xs arcs used arcs₂ end') (append-nil g.list) (append_join g.lie (outside h));
-                    rising = g.rising;
-                    turn = o.turn;
-                    many = omega (arith, o.many, g.many);
-                    counted = λ rank i. let z : (if eqb k.rank rank then word_at s (next + 1) else 0) ≡ 0 = rw (ne_eqb k.rank rank (λ e. omega arith)) refl in omega (arith, g.counted rank i, o.weighs rank);
-                    few = omega (arith, g.few, o.one);
-                    small = omega (arith, g.small, o.ceilings);
-                  }
+        -- 0x40 adds its one term, or none where its rank is not below the number
+        pub sum_takes : (room₂ : List Arc) (k : Ranked) (many' : ℕ) → 1 ≤ ahead → byte_at s next ≡ 0x40
+            → Ranks n env (word_at s (next + 1)) k (amount n (read_colour s n 15) place (word_at s (next + 1)) next (next + 3))
+            → word_at s (next + 1) ≤ 65535
+            → (k.rank < count → many < length room₁ → Terms count 0 (take many room₁)
+            → Laid (joined (join_by Plus) 0 0 (take many room₁) (term k.rank (word_at s (next + 1)) ∷ [])) room₁ room₂ many')
+            → (count ≤ k.rank → (room₂ ≡ room₁) × (many' ≡ many))
+            → SumTold s n place env count at operands room room₂ many' k.next (ahead - 1)
+        unfolding count_in
+        sum_takes room₂ k many' lt b ranked fits inside outside es stop t l small i = go (ltb k.rank count) refl (told es stop t l small i)
+          where
+            go : (y : Bool) → ltb k.rank count ≡ y → Summing s n place env count es stop room room₁ many next ahead → Summing s n place env count es stop room room₂ many' k.next (ahead - 1)
+            go true f g =
+                let h = ltb-true k.rank count f in
+                let o = takes k g.turn (omega (arith, g.still)) b ranked in
+                let are = g.lie.are in
+                joins_more {m = term k.rank (word_at s (next + 1)) ∷ []} es o.others stop g small (spec.more {from = 0} {a = term k.rank (word_at s (next + 1))} (omega arith) h fits spec.none) o.turn (omega (arith, o.many, g.still))
+                (λ rank _. o.weighs rank) (omega (arith, o.one)) o.ceilings
+                (laid_over g.lie (rw are at (inside h (omega (arith, g.lie.many, g.lie.size, g.few, o.one)) (rw are g.rising))))
+            go false f g =
+                let h = ltb-false k.rank count f in
+                let o = takes k g.turn (omega (arith, g.still)) b ranked in
+                let same = outside h in
+                record {
+                  list = g.list;
+                  others = o.others;
+                  lie = rw (same.0, same.1) g.lie;
+                  rising = g.rising;
+                  turn = o.turn;
+                  still = omega (arith, o.many, g.still);
+                  counted = λ rank i. let z : (if eqb k.rank rank then word_at s (next + 1) else 0) ≡ 0 = rw (ne_eqb k.rank rank (λ e. omega arith)) refl in omega (arith, g.counted rank i, o.weighs rank);
+                  few = omega (arith, g.few, o.one);
+                  small = omega (arith, g.small, o.ceilings);
+                }
 
-          -- another run follows, and both are joined
-          module _ (end₂ next₂ ahead₂ : ℕ) (follows : SumTold s n place env count next ahead arcs₁ end arcs₂ end₂ next₂ ahead₂) (arcs₃ : List Arc) (r : ℕ)
-              (merged : (below : ℕ) → Terms below 0 (arcs_in arcs₂ used end) → Terms below 0 (arcs_in arcs₂ end end₂) → end₂ + (end₂ - used) ≤ length arcs₂
-              → ArcsAppended (joined (join_by Plus) 0 0 (arcs_in arcs₂ used end) (arcs_in arcs₂ end end₂)) arcs₂ used arcs₃ r) where
-            pub sum-joins : SumTold s n place env count at many arcs used arcs₃ r next₂ ahead₂
-            sum-joins es stop t l small i =
-                let g = told es stop t l small i in
-                let h = follows g.others stop g.turn g.many (omega (arith, g.small)) (omega (arith, g.lie.end, g.lie.size, g.few)) in
-                let both = append_join g.lie h.lie in
-                let kept : arcs_in arcs₂ used end ≡ g.list = arcs_front arcs₂ arcs₁ used end h.lie.front ∙ g.lie.are in
-                let room = merged count (rw kept g.rising) (rw h.lie.are h.rising) (omega (arith, g.lie.end, h.lie.end, g.few, h.few, both.size)) in
-                joins_more es h.others stop g small h.rising h.turn h.many h.counted h.few h.small (append-over both (rw (kept, h.lie.are) at room))
+        -- another run follows behind them, and both are joined
+        pub sum-joins : (part : List Arc) (many₂ next₂ ahead₂ : ℕ) → SumTold s n place env count next ahead (take (length room₁ - many) (drop many room₁)) part many₂ next₂ ahead₂ → (room₃ : List Arc) (r : ℕ)
+            → Merged Plus 0 0 many many₂ (put_mid many (length room₁ - many) room₁ part) room₃ r → SumTold s n place env count at operands room room₃ r next₂ ahead₂
+        sum-joins part many₂ next₂ ahead₂ follows room₃ r merged es stop t l small i =
+            let g = told es stop t l small i in
+            let h = follows g.others stop g.turn g.still (omega (arith, g.small)) (omega (arith, laid_left g.lie, g.few)) in
+            joins_more es h.others stop g small h.rising h.turn h.still h.counted h.few h.small (laid_merged Plus 0 0 count g.lie h.lie g.rising h.rising (omega (arith, i, g.few, h.few)) merged)
 
     -- ---- the one expression that stands at a place
-    module _ (at : ℕ) (arcs : List Arc) (used : ℕ) (arcs₁ : List Arc) (end next ahead : ℕ) (told : SumTold s n place env count at 1 arcs used arcs₁ end next ahead) (b : byte_at s at ≡ 0x42) where
-      alone : (e : Expression) (stop : ℕ) → read_expression s n place 16 at ≡ fine e stop → used + 2 * terms e ≤ length arcs
-          → Summing s n place env count (e ∷ []) stop arcs used arcs₁ end next ahead
+    -- nothing is to come: the terms are its own
+    module _ (at : ℕ) (room room₁ : List Arc) (many next ahead : ℕ) (told : SumTold s n place env count at 1 room room₁ many next ahead) (b : byte_at s at ≡ 0x42) where
+      alone : (e : Expression) (stop : ℕ) → read_expression s n place 16 at ≡ fine e stop → 2 * terms e ≤ length room
+          → Summing s n place env count (e ∷ []) stop room room₁ many next ahead
       alone e stop reads i =
           let h : Halves s n place e (at + 1) stop = subst (HalvesOf s n place (at + 1)) reads (halves s n place 16 at (omega arith) b) in
           told (e ∷ []) stop (sums.more 16 (omega arith) reads sums.none) refl (omega (arith, h.small)) (omega arith)
@@ -291,14 +285,13 @@ module _ (s : List ℕ) (n : Net) (place : Place) (env : List ℕ) where
       turn_none sums.none lt = (refl, refl)
       turn_none (sums.more left le reads t) lt = absurd (omega arith)
 
-      -- nothing is to come: the terms are its own
-      pub sum_listed : ahead < 1 → ListedTold n env count arcs used arcs₁ (record { end = end; rest = 0; next = next }) (read_expression s n place 16 at)
+      pub sum_listed : ahead < 1 → ListedTold n env count room room₁ (record { many = many; rest = 0; next = next }) (read_expression s n place 16 at)
       sum_listed lt = go (read_expression s n place 16 at) refl
         where
-          go : (x : Answer Expression) → read_expression s n place 16 at ≡ x → ListedTold n env count arcs used arcs₁ (record { end = end; rest = 0; next = next }) x
+          go : (x : Answer Expression) → read_expression s n place 16 at ≡ x → ListedTold n env count room room₁ (record { many = many; rest = 0; next = next }) x
           go (fine e stop) reads = λ i.
               let g = alone e stop reads i in
-              let z = turn_none g.turn (omega (arith, g.many)) in
+              let z = turn_none g.turn (omega (arith, g.still)) in
               let few : length g.list + together terms [] ≤ terms e + 0 = subst (λ es. length g.list + together terms es ≤ terms e + 0) z.0 g.few in
               record {
                 list = g.list;
@@ -314,46 +307,10 @@ module _ (s : List ℕ) (n : Net) (place : Place) (env : List ℕ) where
               }
           go (fault number p) reads = tt
 
-      -- something is: they were stored behind so many, and others may take their place
-      pub sum_over : (arcs₂ : List Arc) (m : Multiset) → ListedTold n env count arcs₁ used arcs₂ m (read_expression s n place 16 at)
-          → ListedTold n env count arcs used arcs₂ m (read_expression s n place 16 at)
-      sum_over arcs₂ m listed = go (read_expression s n place 16 at) refl listed
-        where
-          go : (x : Answer Expression) → read_expression s n place 16 at ≡ x → ListedTold n env count arcs₁ used arcs₂ m x → ListedTold n env count arcs used arcs₂ m x
-          go (fine e stop) reads h = λ i.
-              let g = alone e stop reads i in
-              let k = h (omega (arith, g.lie.size)) in
-              record { list = k.list; lie = append-over g.lie k.lie; counted = k.counted; after = k.after }
-          go (fault number p) reads h = tt
-
--- ---- one term added to those from a number up to an end, if its rank is below a number
-module _ (arcs arcs₁ : List Arc) (start end below rank number stop : ℕ) (low : start ≤ end)
-    (inside : rank < below → end < length arcs → ArcsAppended (term rank number ∷ []) arcs end arcs₁ stop)
-    (outside : below ≤ rank → ArcsAppended [] arcs end arcs₁ stop) where
-  abbrev Added : List Arc → ℕ → Type 0
-  Added arcs' r =
-      (rank < below → end < length arcs → Terms below 0 (arcs_in arcs start end)
-      → ArcsAppended (joined (join_by Plus) 0 0 (arcs_in arcs start end) (term rank number ∷ [])) arcs start arcs' r)
-      × (below ≤ rank → ArcsAppended [] arcs end arcs' r)
-
-  -- it was stored behind them, and put in
-  pub add_goes : (arcs₂ : List Arc) (r : ℕ) → end < stop
-      → ((b : ℕ) → Terms b 0 (arcs_in arcs₁ start end) → end < length arcs₁
-      → ArcsAppended (joined (join_by Plus) 0 0 (arcs_in arcs₁ start end) (arcs_in arcs₁ end (end + 1))) arcs₁ start arcs₂ r)
-      → Added arcs₂ r
-  add_goes arcs₂ r lt put = (
-    λ h i t.
-        let g = inside h i in
-        let one : stop ≡ end + 1 = omega (arith, g.end) in
-        let are : arcs_in arcs₁ end (end + 1) ≡ term rank number ∷ [] = subst (λ k. arcs_in arcs₁ end k ≡ term rank number ∷ []) one g.are in
-        let kept : arcs_in arcs₁ start end ≡ arcs_in arcs start end = arcs_front arcs₁ arcs start end g.front in
-        behind start end r low g.front g.size (rw (kept, are) at (put below (rw kept t) (omega (arith, g.size)))),
-    λ h. absurd (omega (arith, (outside h).end)),
-  )
-
-  -- it was not
-  pub add_none : (end < stop → ⊥) → Added arcs₁ end
-  add_none not = (
-    λ h i t. absurd (not (omega (arith, (inside h i).end))),
-    λ h. let e : stop ≡ end = omega (arith, (outside h).end) in subst (ArcsAppended [] arcs end arcs₁) e (outside h),
-  )
+-- something is: other terms may be laid over those, for the room is as long as it was
+pub sum_over : (n : Net) (env : List ℕ) (count : ℕ) (room room₁ room₂ : List Arc) (m : Multiset) (x : Answer Expression) → length room₁ ≡ length room
+    → ListedTold n env count room₁ room₂ m x → ListedTold n env count room room₂ m x
+sum_over n env count room room₁ room₂ m (fine e stop) size h = λ i.
+    let k = h (omega (arith, size)) in
+    record { list = k.list; lie = record { are = k.lie.are; many = k.lie.many; size = k.lie.size ∙ size }; counted = k.counted; after = k.after }
+sum_over n env count room room₁ room₂ m (fault number p) size h = tt

@@ -7,7 +7,6 @@ loop-level-preserved c =
     let so = c.loop-level.invariant in
     let more = c.sum_runs-more in
     record {
-      low = c.merge.ensures.low;
-      within = λ h. omega (arith, so.within h, more.ensures.within, c.merge.ensures.within, c.loop-level.auto.arcs, more.auto.arcs, c.sum_counts-sum.auto.arcs);
-      told = λ known first second. sum-joins _ _ _ _ _ _ _ _ _ _ _ _ _ (so.told known first second) _ _ _ _ (more.ensures.is known first second) _ _ c.merge.ensures.is;
+      within = omega (arith, so.within, more.ensures.within, c.merge.ensures.within, c.loop-level.auto.room, more.auto.room, c.sum_counts-sum.auto.room);
+      told = λ known first second. sum-joins _ _ _ _ _ _ _ _ _ _ _ _ (so.told known first second) _ _ _ _ (more.ensures.is known first second) _ _ c.merge.ensures.is;
     }
