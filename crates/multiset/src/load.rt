@@ -107,7 +107,10 @@ pub fn load_arc(arc: &BoundArc, room: &mut [Arc]) -> usize
     if byte_at(file, entry.expression) != 0x40 {
         return load_listed(arc, room, true);
     }
-    let rank = arc.bound.rank_at(entry.paired, 15, entry.expression + 3).rank;
+    let rank = arc
+        .bound
+        .rank_at(entry.paired, 15, entry.expression + 3)
+        .rank;
     if entry.ranks <= rank {
         return 0;
     }

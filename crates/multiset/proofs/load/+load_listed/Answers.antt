@@ -1,15 +1,10 @@
-use borrow.Author.Tests.{ltb-false}
-use mathlib.Core.Path.{sym, ◌∙◌}
-use Prim.Native.Nat.{◌+◌, ◌≤◌}
-use lib.ListN.{length}
-use Rattle.plan.specs.internal.Layout.{sets_in, variables_in, pair_in, expression_in}
+use native.Mathlib.Omega.{arith}
+use Rattle.plan.specs.internal.Layout.{sets_in, variables_in}
 use Rattle.multiset.proofs.Counted.{listed_loads}
 use Rattle.multiset.proofs.load.+load_listed.Goals as goal
 
 pub returns-clause-is : goal.returns-clause-is
 returns-clause-is t c =
-    let a = c.args in
-    let fits : a.used + c.ranks_of-count.result ≤ length a.arcs.now = ltb-false (length a.arcs.now) (a.used + c.ranks_of-count.result) (sym c.lacks.ensures ∙ c.if-lacks.false) in
-    rw (← c.start_of.ensures.is, ← c.ranks_of-count.ensures.is) (listed_loads a.file.now (sets_in a.plan.now) (variables_in a.plan.now) a.env.now (pair_in a.entry) c.start_of.result c.ranks_of-count.result (expression_in a.entry) a.arcs.now a.used c.requires
-    c.list_all-m.new.arcs _ _ _ c.list_all-m.result _ (rw (← c.ranks_of-count.ensures.is) at c.list_all-m.ensures.is) fits (c.list_all-m.ensures.within fits)
-    c.split_at_mut-room.ensures.front c.split_at_mut-room.ensures.back c.load_terms.ensures.is)
+    let a = c.args.arc.now in
+    listed_loads a.bound.file.now (sets_in a.bound.plan.now) (variables_in a.bound.plan.now) a.bound.env.now a.entry.paired a.entry.start a.entry.ranks a.entry.expression c.args.room.now c.requires
+    _ _ c.list_all-m.result _ (rw c.split_at_mut-front.ensures.back at c.list_all-m.ensures.is) (omega arith) (omega arith) (rw c.split_at_mut-front.ensures.front at c.load_terms.ensures.is)

@@ -1,11 +1,8 @@
 use native.Mathlib.Omega.{arith}
-use Rattle.std.proofs.Common.{inl, inr}
+use Rattle.std.proofs.Common.{rules, inl, inr}
 use Rattle.std.proofs.lemmas.List.{drop_all}
-use Rattle.multiset.proofs.Walking.{next_left, walking_begins, walking_stray, walking_goes, walking_ends}
+use Rattle.multiset.proofs.Walking.{next_left, walking_stray, walking_goes, walking_ends}
 use Rattle.multiset.proofs.load.load_terms.Goals as goal
-
-pub loop-term-init : goal.loop-term-init
-loop-term-init c = record { walking = walking_begins; below = omega arith; low = omega arith; within = λ h. h }
 
 pub returns-then-next-rank-clause-is : goal.returns-then-next-rank-clause-is
 returns-then-next-rank-clause-is c =
@@ -16,8 +13,7 @@ pub loop-term-preserved : goal.loop-term-preserved
 loop-term-preserved c = record {
   walking = walking_goes (rw (next_left c.args.terms.now c.loop-term.term-index (record { place = 0; weight = 0 }) c.loop-term-test.true) at c.loop-term.invariant.walking) c.fill-end.ensures.is c.append-end.ensures.is;
   below = omega arith;
-  low = omega arith;
-  within = λ h. omega (arith, c.append-end.ensures.within, c.fill-end.ensures.within);
+  within = search rules;
 }
 
 pub returns-clause-is : goal.returns-clause-is

@@ -6,8 +6,7 @@ use Rattle.multiset.proofs.load.load_terms.Given as goal
 
 abbrev pub invariant-loop-term : goal.invariant-loop-term
 invariant-loop-term l = record {
-  walking : Walking l.start l.count l.rest l.terms l.initial.arcs l.used (drop l.term-index l.terms) l.arcs l.end l.rank;
+  walking : Walking l.start l.count l.rest l.terms l.initial.room (drop l.term-index l.terms) l.room l.end l.rank;
   below : l.rank ≤ l.count;
-  low : l.used ≤ l.end;
-  within : l.used ≤ length l.initial.arcs → l.end ≤ length l.arcs;
+  within : l.end ≤ length l.room;
 }
