@@ -4,7 +4,7 @@ use mathlib.Core.Path.{◌≡◌, refl, sym, ap, subst, fun_ext, ◌∙◌}
 use Prim.Native.Nat.{◌≤◌, ◌<◌}
 use native.Mathlib.Omega.{arith}
 use borrow.Author.Tests.{eq-eqb, ne_eqb, ltb-true, ltb-false}
-use lib.ListN.{get_or-eq_default, length-take, length-drop}
+use lib.ListN.{get_or-eq_default}
 use lib.Seq.{take_all}
 use borrow.Rule.Slice.PartMut.{put_mid}
 use Rattle.reading.specs.Basics.{ℕ, Bool, true, false, List, [], flat_map, Option, none, some, option_map, length, get_or, take, drop, ltb}
@@ -37,6 +37,7 @@ use Rattle.rows.specs.internal.EntrySteps.{Begun, Told}
 use Rattle.rows.specs.declared.entries.Entries.{Entries as Left}
 use Rattle.prepared.proofs.Starts.{start_next, start_low}
 use Rattle.rows.proofs.Split.{kind_more, place_none}
+use Rattle.rows.proofs.Free.{behind, length-behind}
 use Rattle.prepared.proofs.Packing.{HoldingAt, holding_at, holding-with, holding_few, holding_give, entries_many, entry_at}
 
 -- a place by whether it is a pair
@@ -201,10 +202,6 @@ module _ {s : List ℕ} {n : Net} {sizes vars guards arcs : List ℕ} (d : Drawi
 abbrev EntryLoaded : List ℕ → List ℕ → List ℕ → Entry → List Arc → List Arc → ℕ → Type 0
 EntryLoaded s plan env entry = ExpressionLoaded s (sets_in plan) (variables_in plan) env entry.paired entry.start entry.ranks entry.expression
 
--- what is free of it behind so many
-abbrev behind : List Arc → ℕ → List Arc
-behind room end = take (length room - end) (drop end room)
-
 -- one entry more was loaded
 module _ {s : List ℕ} {n : Net} {plan : List ℕ} (env : List ℕ) (prepared : Prepared s n plan)
     {t k : ℕ} (ht : t < length n.transitions) (hk : k < 3) where
@@ -243,13 +240,10 @@ module _ {s : List ℕ} {n : Net} {plan : List ℕ} (env : List ℕ) (prepared :
       subst (λ l. Laid l room₀ (put_mid end (length room - end) room part) (end + more)) (sym (given_with_it d ht hk (bound env) en)) (laid_join before le (entry_arc d ht hk en (λ a next q reads.
       let needs : place_slots n (transition_at n t) (0x16 + k) p ≡ expression_slots (colours_of n (place_at n p)) a.expression = rw q refl in
       subst (λ l. Laid l (behind room end) part more) (arcs_given d ht hk (bound env) p a q)
-      (place_loads entry p a.expression en.starts_at en.ranks en.paired loaded reads (omega (arith, needs, wide, long, before.size))))))
+      (place_loads entry p a.expression en.starts_at en.ranks en.paired loaded reads (omega (arith, needs, wide, length-behind room end, before.size))))))
     where
       p : ℕ
       p = en.place
-
-      long : length (behind room end) ≡ length room - end
-      long = let m = length-take (length room - end) (drop end room) in omega (arith, m, length-drop end room)
 
       before : Laid (kind_arcs n (transition_at n t) (bound env) (0x16 + k) p) room₀ room end
       before = subst (λ l. Laid l room₀ room end) (given_before d ht hk (bound env) en) so_far

@@ -5,7 +5,6 @@ use mathlib.Core.List.Memᴰ
 use Prim.Native.Nat.{◌≤◌, ◌<◌}
 use native.Mathlib.Omega.{arith}
 use borrow.Rule.Slice.PartMut.{put_mid}
-use Rattle.std.proofs.Math.ListN.{length-take, length-drop}
 use Rattle.std.proofs.lemmas.List.{take-take}
 use Rattle.reading.specs.Basics.{ℕ, Bool, true, false, List, [], Option, none, some, length, get_elem?, given, any, find, take, drop}
 use Rattle.reading.proofs.Lists.{In, here, there, in_cases}
@@ -32,6 +31,7 @@ use Rattle.rows.specs.internal.Loading.{KindLoaded}
 use Rattle.rows.proofs.Needing.{kind_low, kind_arcs_lem, row_room}
 use Rattle.prepared.proofs.Starts.{start_low}
 use Rattle.rows.proofs.Split.{split, kind_few}
+use Rattle.rows.proofs.Free.{behind, length-behind}
 use Rattle.bindings.proofs.Legal.{effect_weighs}
 
 -- ---- what stands somewhere
@@ -108,24 +108,24 @@ module _ (s : List ℕ) (n : Net) (env : List ℕ) (t : ℕ) (ht : t < length n.
       }
 
   -- the puts and hinders were laid behind the takes, one after the other
-  module _ {list puts_part hinders_part : List Arc} {takes u v : ℕ} where
+  module _ (list puts_part hinders_part : List Arc) (takes u v : ℕ) where
     abbrev with_puts : List Arc
     with_puts = put_mid takes (length list - takes) list puts_part
 
-    abbrev with_all : List Arc
-    with_all = put_mid (takes + u) (length with_puts - (takes + u)) with_puts hinders_part
+    abbrev whole : List Arc
+    whole = put_mid (takes + u) (length with_puts - (takes + u)) with_puts hinders_part
 
     pub effect_rest : room s n ≤ length list → takes ≤ length list
         → TakesLoaded n (binding t colours) list takes
-        → KindLoaded s n env t 1 (take (length list - takes) (drop takes list)) puts_part u
-        → KindLoaded s n env t 2 (take (length with_puts - (takes + u)) (drop (takes + u) with_puts)) hinders_part v
-        → RowLoaded n (binding t colours) with_all takes (takes + u) (takes + u + v)
+        → KindLoaded s n env t 1 (behind list takes) puts_part u
+        → KindLoaded s n env t 2 (behind with_puts (takes + u)) hinders_part v
+        → RowLoaded n (binding t colours) whole takes (takes + u) (takes + u + v)
     effect_rest x le k k2 k3 =
         record {
           row = λ w is.
               let same = effect_weighs n (binding t colours) is in
-              rows (arcs_front with_all list 0 takes (front ∙ laid_first _ list puts_part takes u le second) ∙ k.takes w is)
-              (arcs_front with_all with_puts takes (takes + u) third_first ∙ laid_second _ list puts_part takes u le second ∙ rows_of 0x17 ∙ ap (λ w. arcs_of (flat_place_count n) w.put) same)
+              rows (arcs_front whole list 0 takes (front ∙ laid_first _ list puts_part takes u le second) ∙ k.takes w is)
+              (arcs_front whole with_puts takes (takes + u) first ∙ laid_second _ list puts_part takes u le second ∙ rows_of 0x17 ∙ ap (λ w. arcs_of (flat_place_count n) w.put) same)
               (laid_second _ with_puts hinders_part (takes + u) v reach third ∙ rows_of 0x18 ∙ ap (λ w. arcs_of (flat_place_count n) w.hinder) same);
           puts_after = omega arith;
           hinders_after = omega arith;
@@ -133,8 +133,8 @@ module _ (s : List ℕ) (n : Net) (env : List ℕ) (t : ℕ) (ht : t < length n.
           inside = omega (arith, k.few, low 0x17, low 0x18, second.many, third.many);
         }
       where
-        second : Laid (arcs_of_lem 0x17) (take (length list - takes) (drop takes list)) puts_part u
-        second = let m = length-take (length list - takes) (drop takes list) in k2 (omega (arith, wide, k.few, m, length-drop takes list))
+        second : Laid (arcs_of_lem 0x17) (behind list takes) puts_part u
+        second = k2 (omega (arith, wide, k.few, length-behind list takes))
 
         size : length with_puts ≡ length list
         size = laid_size _ list puts_part takes u le second
@@ -142,16 +142,17 @@ module _ (s : List ℕ) (n : Net) (env : List ℕ) (t : ℕ) (ht : t < length n.
         reach : takes + u ≤ length with_puts
         reach = omega (arith, wide, k.few, low 0x17, second.many, size)
 
-        third : Laid (arcs_of_lem 0x18) (take (length with_puts - (takes + u)) (drop (takes + u) with_puts)) hinders_part v
-        third = let m = length-take (length with_puts - (takes + u)) (drop (takes + u) with_puts) in k3 (omega (arith, wide, k.few, low 0x17, second.many, size, m, length-drop (takes + u) with_puts))
+        third : Laid (arcs_of_lem 0x18) (behind with_puts (takes + u)) hinders_part v
+        third = k3 (omega (arith, wide, k.few, low 0x17, second.many, size, length-behind with_puts (takes + u)))
 
-        third_first : take (takes + u) with_all ≡ take (takes + u) with_puts
-        third_first = laid_first _ with_puts hinders_part (takes + u) v reach third
+        -- the takes and puts are kept, and so the takes alone
+        first : take (takes + u) whole ≡ take (takes + u) with_puts
+        first = laid_first _ with_puts hinders_part (takes + u) v reach third
 
-        front : take takes with_all ≡ take takes with_puts
+        front : take takes whole ≡ take takes with_puts
         front =
             let h : takes ≤ takes + u = omega arith in
-            sym (take-take takes (takes + u) with_all h) ∙ ap (take takes) third_first ∙ take-take takes (takes + u) with_puts h
+            sym (take-take takes (takes + u) whole h) ∙ ap (take takes) first ∙ take-take takes (takes + u) with_puts h
 
         rows : {a b c a' b' c' : List Arc} → a ≡ a' → b ≡ b' → c ≡ c' → row a b c ≡ row a' b' c'
         rows f g h = cc
