@@ -7,7 +7,7 @@ use borrow.Author.Tests.{eq-eqb, ne_eqb, ltb-true, ltb-false}
 use lib.ListN.{get_or-eq_default}
 use lib.Seq.{take_all}
 use borrow.Rule.Slice.PartMut.{put_mid}
-use Rattle.reading.specs.Basics.{ℕ, Bool, true, false, List, [], flat_map, Option, none, some, option_map, length, get_or, take, drop, ltb}
+use Rattle.reading.specs.Basics.{ℕ, Bool, true, false, List, [], flat_map, Option, none, some, option_map, length, get_or, take, ltb}
 use Rattle.reading.specs.Reading.{fine}
 use Rattle.firing.specs.declared.Arc.{Arc}
 use Rattle.net.specs.Net as net

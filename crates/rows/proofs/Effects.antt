@@ -6,7 +6,7 @@ use Prim.Native.Nat.{◌≤◌, ◌<◌}
 use native.Mathlib.Omega.{arith}
 use borrow.Rule.Slice.PartMut.{put_mid}
 use Rattle.std.proofs.lemmas.List.{take-take}
-use Rattle.reading.specs.Basics.{ℕ, Bool, true, false, List, [], Option, none, some, length, get_elem?, given, any, find, take, drop}
+use Rattle.reading.specs.Basics.{ℕ, Bool, true, false, List, [], Option, none, some, length, get_elem?, given, any, find, take}
 use Rattle.reading.proofs.Lists.{In, here, there, in_cases}
 use Rattle.firing.specs.Firing.{Weights, fired, fire}
 use Rattle.firing.specs.internal.Steps.{lacking}

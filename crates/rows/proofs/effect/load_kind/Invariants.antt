@@ -1,6 +1,5 @@
 use Prim.Native.Nat.{◌≤◌}
 use lib.ListN.{length}
-use mathlib.Core.Path.{◌≡◌}
 use Rattle.firing.specs.internal.Kinds.{kind_number}
 use Rattle.rows.proofs.Drawn.{Upto, PlacesLoaded}
 use Rattle.rows.proofs.effect.load_kind.Given as goal
