@@ -1,12 +1,13 @@
 -- What the tables of a net give the code that loads an effect: one entry of the packed table, one kind. Assumes nothing.
-use Rattle.std.specs.Prelude.{◌+◌, ◌-◌, ◌*◌, ◌/◌, ◌%◌, ◌++◌}
+use Rattle.std.specs.Prelude.{◌+◌, ◌-◌, ◌*◌, ◌/◌, ◌%◌, ◌++◌, Some, None}
 use mathlib.Core.Path.{◌≡◌, refl, sym, ap, subst, fun_ext, ◌∙◌}
 use Prim.Native.Nat.{◌≤◌, ◌<◌}
 use native.Mathlib.Omega.{arith}
 use borrow.Author.Tests.{eq-eqb, ne_eqb, ltb-true, ltb-false}
 use lib.ListN.{get_or-eq_default}
 use lib.Seq.{take_all}
-use Rattle.reading.specs.Basics.{ℕ, Bool, true, false, List, [], flat_map, Option, none, some, option_map, length, get_or, take, ltb, eqb}
+use borrow.Rule.Slice.PartMut.{put_mid}
+use Rattle.reading.specs.Basics.{ℕ, Bool, true, false, List, [], flat_map, Option, none, some, option_map, length, get_or, take, ltb}
 use Rattle.reading.specs.Reading.{fine}
 use Rattle.firing.specs.declared.Arc.{Arc}
 use Rattle.net.specs.Net as net
@@ -18,12 +19,14 @@ use Rattle.net_transitions.specs.internal.TransitionTables.{Slot}
 use Rattle.net.proofs.Alike.{weight_alike}
 use Rattle.bindings.specs.Effect.{arc_weight}
 use Rattle.prepared.specs.internal.Packed.{shape_of, entry_of, holding, entries_of}
-use Rattle.runs.specs.internal.Terms.{ArcsAppended}
-use Rattle.sums.specs.internal.Loaded.{rank_arcs, ArcLoaded}
+use Rattle.runs.specs.internal.Terms.{Laid}
+use Rattle.sums.specs.internal.Loaded.{rank_arcs, ExpressionLoaded}
 use Rattle.sums.specs.internal.Slots.{expression_slots, slots_for}
 use Rattle.multiset.proofs.Slots.{slots_told}
-use Rattle.runs.proofs.Appending.{append_join}
-use Rattle.plan.specs.internal.Layout.{sets_in, variables_in, guards_in, packed_in}
+use Rattle.runs.proofs.Laying.{laid_join}
+use Rattle.plan.specs.internal.Layout.{sets_in, variables_in, guards_in, packed_in, expression_in, start_in, ranks_in, pair_in}
+use Rattle.plan.specs.declared.entry.Entry.{Entry}
+use Rattle.plan.specs.internal.Entries.{Tells}
 use Rattle.prepared.specs.internal.Drawing.{start_of, Drawing}
 use Rattle.prepared.specs.internal.Prepared.{Prepared}
 use Rattle.prepared.specs.internal.Drawn.{DrawnTransition, its_net, IsInside}
@@ -32,9 +35,9 @@ use Rattle.rows.proofs.Needing.{slots_next, slots_rise, kind_arcs_lem}
 use Rattle.rows.specs.internal.Loading.{KindLoaded}
 use Rattle.rows.specs.internal.EntrySteps.{Begun, Told}
 use Rattle.rows.specs.declared.entries.Entries.{Entries as Left}
-use Rattle.std.specs.Prelude.{Some, None}
 use Rattle.prepared.proofs.Starts.{start_next, start_low}
 use Rattle.rows.proofs.Split.{kind_more, place_none}
+use Rattle.rows.proofs.Free.{behind, length-behind}
 use Rattle.prepared.proofs.Packing.{HoldingAt, holding_at, holding-with, holding_few, holding_give, entries_many, entry_at}
 
 -- a place by whether it is a pair
@@ -42,21 +45,21 @@ pub place_by_lem : (q : Place) → (first : ℕ) × (second : ℕ) × (place_by 
 place_by_lem (single a) = (a, 0, refl)
 place_by_lem (pair a b) = (a, b, refl)
 
--- what an entry tells, taken apart
-entry_told : (entry slot start count : ℕ) (paired : Bool) → entry ≡ entry_of 134217728 slot (shape_of start count paired) → start + count ≤ 4096
-    → (entry / 134217728 ≡ slot) × (entry / 16384 % 8192 ≡ start) × (entry / 2 % 8192 ≡ count) × (eqb (entry % 2) 1 ≡ paired)
-entry_told entry slot start count paired e h = go paired e
+-- what the number of an entry tells, taken apart
+entry_told : (number slot start count : ℕ) (paired : Bool) → number ≡ entry_of 134217728 slot (shape_of start count paired) → start + count ≤ 4096
+    → (expression_in number ≡ slot) × (start_in number ≡ start) × (ranks_in number ≡ count) × (pair_in number ≡ paired)
+entry_told number slot start count paired e h = go paired e
   where
     -- what stands before the last bit
-    front : (bit : ℕ) → bit ≤ 1 → entry ≡ slot * 134217728 + (start * 16384 + count * 2 + bit) → (entry / 134217728 ≡ slot) × (entry / 16384 % 8192 ≡ start) × (entry / 2 % 8192 ≡ count)
+    front : (bit : ℕ) → bit ≤ 1 → number ≡ slot * 134217728 + (start * 16384 + count * 2 + bit) → (expression_in number ≡ slot) × (start_in number ≡ start) × (ranks_in number ≡ count)
     front bit small q =
-        let by : entry / 16384 ≡ slot * 8192 + start = omega arith in
-        let half : entry / 2 ≡ (slot * 8192 + start) * 8192 + count = omega arith in
+        let by : number / 16384 ≡ slot * 8192 + start = omega arith in
+        let half : number / 2 ≡ (slot * 8192 + start) * 8192 + count = omega arith in
         (omega arith, omega (arith, by), omega (arith, half))
 
-    go : (b : Bool) → entry ≡ entry_of 134217728 slot (shape_of start count b) → (entry / 134217728 ≡ slot) × (entry / 16384 % 8192 ≡ start) × (entry / 2 % 8192 ≡ count) × (eqb (entry % 2) 1 ≡ b)
-    go true q = let f = front 1 (omega arith) q in (f.0, f.1, f.2, eq-eqb (entry % 2) 1 (omega arith))
-    go false q = let f = front 0 (omega arith) q in (f.0, f.1, f.2, ne_eqb (entry % 2) 1 (λ odd. omega arith))
+    go : (b : Bool) → number ≡ entry_of 134217728 slot (shape_of start count b) → (expression_in number ≡ slot) × (start_in number ≡ start) × (ranks_in number ≡ count) × (pair_in number ≡ b)
+    go true q = let f = front 1 (omega arith) q in (f.0, f.1, f.2, eq-eqb (number % 2) 1 (omega arith))
+    go false q = let f = front 0 (omega arith) q in (f.0, f.1, f.2, ne_eqb (number % 2) 1 (λ odd. omega arith))
 
 -- the same arcs from equal parts
 rank_same : (start start' count count' : ℕ) (w w' : ℕ → ℕ) → start ≡ start' → count ≡ count' → ((r : ℕ) → w r ≡ w' r) → rank_arcs start count w ≡ rank_arcs start' count' w'
@@ -108,52 +111,56 @@ module _ {s : List ℕ} {n : Net} {sizes vars guards arcs : List ℕ} (d : Drawi
           absurd (omega (arith, row_at i h far, get_or-eq_default entries 0 all))
 
   -- entry number i: its place's shape and where the expression stands
-  pub record Entered (i entry : ℕ) : Type 0 where
+  pub record Entered (i : ℕ) (entry : Entry) : Type 0 where
     pub place : ℕ
     pub inside : place < length n.places
     pub there : i < length row
     pub held : 0 < get_or d.slots (t * 96 + k * 32 + place) 0
-    pub stands_at : entry / 134217728 ≡ get_or d.slots (t * 96 + k * 32 + place) 0
-    pub starts_at : entry / 16384 % 8192 ≡ start_of n place
-    pub ranks : entry / 2 % 8192 ≡ colours_of n (place_at n place)
-    pub paired : eqb (entry % 2) 1 ≡ is_pair (place_at n place)
+    pub stands_at : entry.expression ≡ get_or d.slots (t * 96 + k * 32 + place) 0
+    pub starts_at : entry.start ≡ start_of n place
+    pub ranks : entry.ranks ≡ colours_of n (place_at n place)
+    pub paired : entry.paired ≡ is_pair (place_at n place)
     pub below : take i row ≡ holding d.slots (t * 96 + k * 32) place
     pub upto : take (i + 1) row ≡ holding d.slots (t * 96 + k * 32) (place + 1)
 
-  entered : (i entry : ℕ) → i < 32 → i ≤ length row → entry ≡ get_or arcs (t * 96 + k * 32 + i) 0 → 1 ≤ entry → Entered i entry
-  entered i entry h far e has =
+  -- its number
+  abbrev number : ℕ → ℕ
+  number i = get_or arcs (t * 96 + k * 32 + i) 0
+
+  entered : (i : ℕ) (entry : Entry) → i < 32 → i ≤ length row → Tells (number i) entry → Entered i entry
+  entered i entry h far tells =
       record {
         place = at.place;
         inside = at.inside;
         there = there;
         held = at.held;
-        stands_at = told.0;
-        starts_at = told.1;
-        ranks = told.2;
-        paired = told.3;
+        stands_at = tells.expression ∙ told.0;
+        starts_at = tells.start ∙ told.1;
+        ranks = tells.ranks ∙ told.2;
+        paired = tells.paired ∙ told.3;
         below = at.before;
         upto = holding-with d.slots (t * 96 + k * 32) there at;
       }
     where
       there : i < length row
-      there = entry_there i h far (omega arith)
+      there = entry_there i h far tells.there
 
       at : HoldingAt d.slots (t * 96 + k * 32) (length n.places) i
       at = holding_at d.slots (t * 96 + k * 32) (length n.places) i there
 
-      is : entry ≡ entry_of 134217728 (get_or d.slots (t * 96 + k * 32 + at.place) 0) (shape_of (start_of n at.place) (colours_of n (place_at n at.place)) (is_pair (place_at n at.place)))
-      is = e ∙ row_at i h far ∙ entry_at d.slots (t * 96 + k * 32) 134217728 d.shape (length n.places) i there at
+      is : number i ≡ entry_of 134217728 (get_or d.slots (t * 96 + k * 32 + at.place) 0) (shape_of (start_of n at.place) (colours_of n (place_at n at.place)) (is_pair (place_at n at.place)))
+      is = row_at i h far ∙ entry_at d.slots (t * 96 + k * 32) 134217728 d.shape (length n.places) i there at
           ∙ ap (entry_of 134217728 (get_or d.slots (t * 96 + k * 32 + at.place) 0)) (d.shaped at.place at.inside)
 
-      told : (entry / 134217728 ≡ get_or d.slots (t * 96 + k * 32 + at.place) 0) × (entry / 16384 % 8192 ≡ start_of n at.place)
-          × (entry / 2 % 8192 ≡ colours_of n (place_at n at.place)) × (eqb (entry % 2) 1 ≡ is_pair (place_at n at.place))
-      told = entry_told entry (get_or d.slots (t * 96 + k * 32 + at.place) 0) (start_of n at.place) (colours_of n (place_at n at.place)) (is_pair (place_at n at.place)) is
+      told : (expression_in (number i) ≡ get_or d.slots (t * 96 + k * 32 + at.place) 0) × (start_in (number i) ≡ start_of n at.place)
+          × (ranks_in (number i) ≡ colours_of n (place_at n at.place)) × (pair_in (number i) ≡ is_pair (place_at n at.place))
+      told = entry_told (number i) (get_or d.slots (t * 96 + k * 32 + at.place) 0) (start_of n at.place) (colours_of n (place_at n at.place)) (is_pair (place_at n at.place)) is
           (omega (arith, start_next n at.place at.inside, start_low n (at.place + 1), d.limits.flat_places_lem))
 
   -- its place's arc
-  pub entry_arc : {A : Type 0} {i entry : ℕ} (en : Entered i entry)
+  pub entry_arc : {A : Type 0} {i : ℕ} {entry : Entry} (en : Entered i entry)
       → ((a : net.Arc) (next : ℕ) → arc_on (transition_at n t).arcs (0x16 + k) en.place ≡ some a
-      → read_expression s (scope sizes vars n.places) (place_at n en.place) 16 (entry / 134217728) ≡ fine a.expression next → A) → A
+      → read_expression s (scope sizes vars n.places) (place_at n en.place) 16 entry.expression ≡ fine a.expression next → A) → A
   entry_arc {A} {i} {entry} en with_arc = go (arc_on (transition_at n t).arcs (0x16 + k) en.place) refl (slot en.place en.inside)
     where
       go : (o : Option net.Arc) → arc_on (transition_at n t).arcs (0x16 + k) en.place ≡ o
@@ -176,7 +183,7 @@ module _ {s : List ℕ} {n : Net} {sizes vars guards arcs : List ℕ} (d : Drawi
         go p none q sl free = place_none n (transition_at n t) value (0x16 + k) p q
         go p (some a) q sl free = absurd (omega (arith, sl.0))
 
-    module _ {i entry : ℕ} (en : Entered i entry) where
+    module _ {i : ℕ} {entry : Entry} (en : Entered i entry) where
       -- the arcs of an entry's place follow those of the places before it
       pub given_before : flat_map gives (take i row) ≡ kind_arcs n (transition_at n t) value (0x16 + k) en.place
       given_before = ap (flat_map gives) en.below ∙ row_gives en.place (omega (arith, en.inside))
@@ -191,6 +198,10 @@ module _ {s : List ℕ} {n : Net} {sizes vars guards arcs : List ℕ} (d : Drawi
         rank_same (start_of n p) (start_of n p) (colours_of n (place_at n p)) (colours_of n (place_at n p)) (λ rank. weight n value rank a.expression)
         (λ rank. arc_weight n (transition_at n t) value (0x16 + k) (record { place = p; rank = rank })) refl refl (λ rank. rw q refl)
 
+-- the arcs of an entry were laid into a room
+abbrev EntryLoaded : List ℕ → List ℕ → List ℕ → Entry → List Arc → List Arc → ℕ → Type 0
+EntryLoaded s plan env entry = ExpressionLoaded s (sets_in plan) (variables_in plan) env entry.paired entry.start entry.ranks entry.expression
+
 -- one entry more was loaded
 module _ {s : List ℕ} {n : Net} {plan : List ℕ} (env : List ℕ) (prepared : Prepared s n plan)
     {t k : ℕ} (ht : t < length n.transitions) (hk : k < 3) where
@@ -202,46 +213,46 @@ module _ {s : List ℕ} {n : Net} {plan : List ℕ} (env : List ℕ) (prepared :
   over = scope_in plan n.places
 
   -- the expression of an arc on a place was
-  place_loads : (entry p : ℕ) (e : Expression) {list list' : List Arc} {used r next : ℕ} → entry / 16384 % 8192 ≡ start_of n p
-      → entry / 2 % 8192 ≡ colours_of n (place_at n p) → eqb (entry % 2) 1 ≡ is_pair (place_at n p)
-      → ArcLoaded s plan env entry list used list' r
-      → read_expression s over (place_at n p) 16 (entry / 134217728) ≡ fine e next
-      → used + expression_slots (colours_of n (place_at n p)) e + length s / 2 ≤ length list
-      → ArcsAppended (rank_arcs (start_of n p) (colours_of n (place_at n p)) (λ rank. weight n (bound env) rank e)) list used list' r
-  place_loads entry p e {list} {list'} {used} {r} {next} begins many paired loaded reads x =
+  place_loads : (entry : Entry) (p : ℕ) (e : Expression) {room room' : List Arc} {r next : ℕ} → entry.start ≡ start_of n p
+      → entry.ranks ≡ colours_of n (place_at n p) → entry.paired ≡ is_pair (place_at n p)
+      → EntryLoaded s plan env entry room room' r
+      → read_expression s over (place_at n p) 16 entry.expression ≡ fine e next
+      → expression_slots (colours_of n (place_at n p)) e + length s / 2 ≤ length room
+      → Laid (rank_arcs (start_of n p) (colours_of n (place_at n p)) (λ rank. weight n (bound env) rank e)) room room' r
+  place_loads entry p e {room} {room'} {r} {next} begins many paired loaded reads x =
       let by = place_by_lem (place_at n p) in
-      subst (λ l. ArcsAppended l list used list' r)
-      (rank_same (entry / 16384 % 8192) (start_of n p) (entry / 2 % 8192) (colours_of n (place_at n p)) (λ rank. weight over (bound env) rank e) (λ rank. weight n (bound env) rank e) begins many
+      subst (λ l. Laid l room room' r)
+      (rank_same entry.start (start_of n p) entry.ranks (colours_of n (place_at n p)) (λ rank. weight over (bound env) rank e) (λ rank. weight n (bound env) rank e) begins many
       (λ rank. weight_alike over n (sym d.sets) (sym d.variables) (bound env) rank e))
       (loaded n.places by.0 by.1 next e
-      (ap (λ b. read_expression s over (place_by b by.0 by.1) 16 (entry / 134217728)) paired ∙ ap (λ q. read_expression s over q 16 (entry / 134217728)) by.2 ∙ reads)
+      (ap (λ b. read_expression s over (place_by b by.0 by.1) 16 entry.expression) paired ∙ ap (λ q. read_expression s over q 16 entry.expression) by.2 ∙ reads)
       (omega (arith, few)))
     where
-      few : slots_for s (entry / 134217728) (entry / 2 % 8192) ≡ expression_slots (colours_of n (place_at n p)) e
-      few = slots_told s over (place_at n p) (entry / 134217728) (entry / 2 % 8192) reads ∙ ap (λ c. expression_slots c e) many
+      few : slots_for s entry.expression entry.ranks ≡ expression_slots (colours_of n (place_at n p)) e
+      few = slots_told s over (place_at n p) entry.expression entry.ranks reads ∙ ap (λ c. expression_slots c e) many
 
-  row_loads : {i entry : ℕ} (en : Entered d ht hk i entry) {list₀ list list' : List Arc} {used end end' : ℕ}
-      → ArcsAppended (flat_map (place_arcs n (transition_at n t) (bound env) (0x16 + k)) (take i (holding d.slots (t * 96 + k * 32) (length n.places)))) list₀ used list end
-      → ArcLoaded s plan env entry list end list' end'
-      → used + kind_slots n (transition_at n t) (0x16 + k) + length s / 2 ≤ length list₀
-      → ArcsAppended (flat_map (place_arcs n (transition_at n t) (bound env) (0x16 + k)) (take (i + 1) (holding d.slots (t * 96 + k * 32) (length n.places)))) list₀ used list' end'
-  row_loads {i} {entry} en {list₀} {list} {list'} {used} {end} {end'} so_far loaded x =
-      subst (λ l. ArcsAppended l list₀ used list' end') (sym (given_with_it d ht hk (bound env) en)) (append_join before (entry_arc d ht hk en (λ a next q reads.
+  row_loads : {i : ℕ} {entry : Entry} (en : Entered d ht hk i entry) {room₀ room part : List Arc} {end more : ℕ}
+      → Laid (flat_map (place_arcs n (transition_at n t) (bound env) (0x16 + k)) (take i (holding d.slots (t * 96 + k * 32) (length n.places)))) room₀ room end
+      → EntryLoaded s plan env entry (behind room end) part more → end ≤ length room
+      → kind_slots n (transition_at n t) (0x16 + k) + length s / 2 ≤ length room₀
+      → Laid (flat_map (place_arcs n (transition_at n t) (bound env) (0x16 + k)) (take (i + 1) (holding d.slots (t * 96 + k * 32) (length n.places)))) room₀ (put_mid end (length room - end) room part) (end + more)
+  row_loads {i} {entry} en {room₀} {room} {part} {end} {more} so_far loaded le x =
+      subst (λ l. Laid l room₀ (put_mid end (length room - end) room part) (end + more)) (sym (given_with_it d ht hk (bound env) en)) (laid_join before le (entry_arc d ht hk en (λ a next q reads.
       let needs : place_slots n (transition_at n t) (0x16 + k) p ≡ expression_slots (colours_of n (place_at n p)) a.expression = rw q refl in
-      subst (λ l. ArcsAppended l list end list' end') (arcs_given d ht hk (bound env) p a q)
-      (place_loads entry p a.expression en.starts_at en.ranks en.paired loaded reads (omega (arith, needs, room, before.size))))))
+      subst (λ l. Laid l (behind room end) part more) (arcs_given d ht hk (bound env) p a q)
+      (place_loads entry p a.expression en.starts_at en.ranks en.paired loaded reads (omega (arith, needs, wide, length-behind room end, before.size))))))
     where
       p : ℕ
       p = en.place
 
-      before : ArcsAppended (kind_arcs n (transition_at n t) (bound env) (0x16 + k) p) list₀ used list end
-      before = subst (λ l. ArcsAppended l list₀ used list end) (given_before d ht hk (bound env) en) so_far
+      before : Laid (kind_arcs n (transition_at n t) (bound env) (0x16 + k) p) room₀ room end
+      before = subst (λ l. Laid l room₀ room end) (given_before d ht hk (bound env) en) so_far
 
-      room : end + place_slots n (transition_at n t) (0x16 + k) p ≤ used + kind_slots n (transition_at n t) (0x16 + k)
-      room =
+      wide : end + place_slots n (transition_at n t) (0x16 + k) p ≤ kind_slots n (transition_at n t) (0x16 + k)
+      wide =
           let e : p + 1 + (length n.places - (p + 1)) ≡ length n.places = omega (arith, en.inside) in
           let rest = subst (λ q. slots_below n (transition_at n t) (0x16 + k) (p + 1) ≤ slots_below n (transition_at n t) (0x16 + k) q) e (slots_rise n (transition_at n t) (0x16 + k) (p + 1) (length n.places - (p + 1))) in
-          omega (arith, before.end, kind_arcs_lem n (transition_at n t) (0x16 + k) (bound env) p, slots_next n (transition_at n t) (0x16 + k) p, rest)
+          omega (arith, before.many, kind_arcs_lem n (transition_at n t) (0x16 + k) (bound env) p, slots_next n (transition_at n t) (0x16 + k) p, rest)
 
 -- ---- the code's walk over the entries of a transition's kind, one after the other up to the first 0
 -- the row's places that hold an arc
@@ -267,12 +278,12 @@ upto_begins e b holds =
 
 module _ {d : DrawnTransition} {k : ℕ} {left : Left} {P : ℕ → List ℕ → Type 0} (u : Upto d k left P) where
   -- an entry more
-  pub upto_goes : {left' : Left} {Q : ℕ → List ℕ → Type 0} {entry : ℕ} → Told left.plan.now left.at left.end (Some entry) left'.plan.now left'.at left'.end
+  pub upto_goes : {left' : Left} {Q : ℕ → List ℕ → Type 0} {entry : Entry} → Told left.plan.now left.at left.end (Some entry) left'.plan.now left'.at left'.end
       → (Entered u.ready.0.drawing u.ready.1 u.kind u.i entry → P u.i (take u.i (row_of {d = d} u.ready k)) → Q (u.i + 1) (take (u.i + 1) (row_of {d = d} u.ready k))) → Upto d k left' Q
   upto_goes {entry = entry} told step =
-      let (before, is, has, next) = told.entry in
+      let (before, tells, next) = told.entry in
       let lt : u.i < 32 = omega arith in
-      let en = entered u.ready.0.drawing u.ready.1 u.kind u.i entry lt u.far (rw (u.plan_is, u.at_is) at is) has in
+      let en = entered u.ready.0.drawing u.ready.1 u.kind u.i entry lt u.far (rw (u.plan_is, u.at_is) at tells) in
       record {
         ready = u.ready;
         kind = u.kind;
@@ -294,18 +305,19 @@ module _ {d : DrawnTransition} {k : ℕ} {left : Left} {P : ℕ → List ℕ →
       go false e = omega (arith, row_few u.ready.0.drawing u.ready.1 u.kind, ltb-false u.i 32 e)
 
 -- ---- one kind loaded, entry after entry
--- where the list has the room, the arcs of these places were appended
-abbrev pub PlacesLoaded : DrawnTransition → ℕ → List ℕ → List Arc → ℕ → List Arc → ℕ → ℕ → List ℕ → Type 0
-PlacesLoaded d k env list₀ used list end i places =
-    used + kind_slots (its_net d) (transition_at (its_net d) d.number) (0x16 + k) + length d.drawing.file / 2 ≤ length list₀
-    → ArcsAppended (flat_map (place_arcs (its_net d) (transition_at (its_net d) d.number) (bound env) (0x16 + k)) places) list₀ used list end
+-- where the room is enough, the arcs of these places were laid into it
+abbrev pub PlacesLoaded : DrawnTransition → ℕ → List ℕ → List Arc → List Arc → ℕ → ℕ → List ℕ → Type 0
+PlacesLoaded d k env room₀ room end i places =
+    kind_slots (its_net d) (transition_at (its_net d) d.number) (0x16 + k) + length d.drawing.file / 2 ≤ length room₀
+    → Laid (flat_map (place_arcs (its_net d) (transition_at (its_net d) d.number) (bound env) (0x16 + k)) places) room₀ room end
 
-module _ {d : DrawnTransition} {k : ℕ} {left : Left} (env : List ℕ) {list₀ list : List Arc} {used end : ℕ} (u : Upto d k left (PlacesLoaded d k env list₀ used list end)) where
-  pub kind_goes : {left' : Left} {list' : List Arc} {entry end' : ℕ} → Told left.plan.now left.at left.end (Some entry) left'.plan.now left'.at left'.end
-      → ArcLoaded d.drawing.file d.drawing.plan env entry list end list' end' → Upto d k left' (PlacesLoaded d k env list₀ used list' end')
-  kind_goes told loaded = upto_goes u told (λ en so_far x. row_loads env u.ready.0 u.ready.1 u.kind en (so_far x) loaded x)
+module _ {d : DrawnTransition} {k : ℕ} {left : Left} (env : List ℕ) {room₀ room : List Arc} {end : ℕ} (u : Upto d k left (PlacesLoaded d k env room₀ room end)) where
+  pub kind_goes : {left' : Left} {part : List Arc} {entry : Entry} {more : ℕ} → Told left.plan.now left.at left.end (Some entry) left'.plan.now left'.at left'.end
+      → EntryLoaded d.drawing.file d.drawing.plan env entry (behind room end) part more → end ≤ length room
+      → Upto d k left' (PlacesLoaded d k env room₀ (put_mid end (length room - end) room part) (end + more))
+  kind_goes told loaded le = upto_goes u told (λ en so_far x. row_loads env u.ready.0 u.ready.1 u.kind en (so_far x) loaded le x)
 
   -- the arcs of its places are the kind's
-  pub kind_ends : {plan' : List ℕ} {at' end' : ℕ} → Told left.plan.now left.at left.end None plan' at' end' → KindLoaded d.drawing.file (its_net d) env d.number k list₀ used list end
+  pub kind_ends : {plan' : List ℕ} {at' end' : ℕ} → Told left.plan.now left.at left.end None plan' at' end' → KindLoaded d.drawing.file (its_net d) env d.number k room₀ room end
   kind_ends told x =
-      subst (λ arcs. ArcsAppended arcs list₀ used list end) (row_gives u.ready.0.drawing u.ready.1 u.kind (bound env) (length (its_net d).places) (omega arith)) (upto_ends u told x)
+      subst (λ arcs. Laid arcs room₀ room end) (row_gives u.ready.0.drawing u.ready.1 u.kind (bound env) (length (its_net d).places) (omega arith)) (upto_ends u told x)

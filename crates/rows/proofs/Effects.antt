@@ -1,10 +1,12 @@
 -- The effect of a binding, from its guard and the arcs of its three kinds; and what firing its row gives. Assumes nothing.
-use Rattle.std.specs.Prelude.{◌+◌, ◌/◌, ◌||◌, ◌∷◌, if◌then◌else◌}
+use Rattle.std.specs.Prelude.{◌+◌, ◌-◌, ◌/◌, ◌||◌, ◌∷◌, if◌then◌else◌}
 use mathlib.Core.Path.{◌≡◌, refl, sym, ap, subst, fun_ext, ◌∙◌}
 use mathlib.Core.List.Memᴰ
 use Prim.Native.Nat.{◌≤◌, ◌<◌}
 use native.Mathlib.Omega.{arith}
-use Rattle.reading.specs.Basics.{ℕ, Bool, true, false, List, [], Option, none, some, length, get_elem?, given, any, find}
+use borrow.Rule.Slice.PartMut.{put_mid}
+use Rattle.std.proofs.lemmas.List.{take-take}
+use Rattle.reading.specs.Basics.{ℕ, Bool, true, false, List, [], Option, none, some, length, get_elem?, given, any, find, take}
 use Rattle.reading.proofs.Lists.{In, here, there, in_cases}
 use Rattle.firing.specs.Firing.{Weights, fired, fire}
 use Rattle.firing.specs.internal.Steps.{lacking}
@@ -19,9 +21,9 @@ use Rattle.net.specs.Net.{Transition, Net, net, flat_place_count, arc_on, variab
 use Rattle.net.specs.Values.{weight}
 use Rattle.evaluation.specs.internal.Evaluated.{bound}
 use Rattle.net.proofs.Alike.{weight-bound}
-use Rattle.runs.specs.internal.Terms.{ArcsAppended}
-use Rattle.firing.proofs.Rows.{arcs_front}
-use Rattle.runs.proofs.Appending.{kept_shorter}
+use Rattle.runs.specs.internal.Terms.{Laid}
+use Rattle.firing.proofs.Rows.{arcs_first, arcs_front}
+use Rattle.runs.proofs.Laying.{laid_size, laid_first, laid_second}
 use Rattle.bindings.specs.Effect.{Binding, FlatPlace, stands_for, flat_places, arc_weight, effect, flat_row}
 use Rattle.rows.specs.internal.Effects.{kind_slots, row_slots, room, kind_arcs, TakesLoaded, RowLoaded}
 use Rattle.bindings.specs.internal.Bindings.{Binds, binding}
@@ -29,6 +31,7 @@ use Rattle.rows.specs.internal.Loading.{KindLoaded}
 use Rattle.rows.proofs.Needing.{kind_low, kind_arcs_lem, row_room}
 use Rattle.prepared.proofs.Starts.{start_low}
 use Rattle.rows.proofs.Split.{split, kind_few}
+use Rattle.rows.proofs.Free.{behind, length-behind}
 use Rattle.bindings.proofs.Legal.{effect_weighs}
 
 -- ---- what stands somewhere
@@ -94,43 +97,65 @@ module _ (s : List ℕ) (n : Net) (env : List ℕ) (t : ℕ) (ht : t < length n.
   rows_of : (kind : ℕ) → arcs_of_lem kind ≡ arcs_of (flat_place_count n) (λ p. given (get_elem? (flat_places n) p) 0 (arc_weight n (transition_at n t) other kind))
   rows_of kind = kind_row n (transition_at n t) (bound env) other binds kind
 
-  -- the takes were appended
+  -- the takes were laid into its front
   pub takes_loaded : {list list' : List Arc} {end : ℕ} → room s n ≤ length list
-      → KindLoaded s n env t 0 list 0 list' end → TakesLoaded n (binding t colours) list' end
-  takes_loaded x k1 =
+      → KindLoaded s n env t 0 list list' end → TakesLoaded n (binding t colours) list' end
+  takes_loaded {list' = list'} {end} x k1 =
       let first = k1 (omega (arith, wide)) in
       record {
-        takes = λ w is. first.are ∙ rows_of 0x16 ∙ ap (λ w. arcs_of (flat_place_count n) w.take) (effect_weighs n (binding t colours) is);
-        few = omega (arith, low 0x16, first.end);
+        takes = λ w is. arcs_first list' end ∙ first.are ∙ rows_of 0x16 ∙ ap (λ w. arcs_of (flat_place_count n) w.take) (effect_weighs n (binding t colours) is);
+        few = omega (arith, low 0x16, first.many);
       }
 
-  -- the puts and hinders were appended to the takes, one after the other
-  pub effect_rest : {l1 l2 l3 : List Arc} {takes puts hinders : ℕ} → room s n ≤ length l1
-      → TakesLoaded n (binding t colours) l1 takes
-      → KindLoaded s n env t 1 l1 takes l2 puts
-      → KindLoaded s n env t 2 l2 puts l3 hinders
-      → RowLoaded n (binding t colours) l3 takes puts hinders
-  effect_rest {l1} {l2} {l3} {takes} {puts} {hinders} x k k2 k3 =
-      record {
-        row = λ w is.
-            let same = effect_weighs n (binding t colours) is in
-            rows (arcs_front l3 l2 0 takes (kept_shorter takes puts l3 l2 (omega (arith, second.end)) third.front) ∙ arcs_front l2 l1 0 takes second.front ∙ k.takes w is)
-            (arcs_front l3 l2 takes puts third.front ∙ second.are ∙ rows_of 0x17 ∙ ap (λ w. arcs_of (flat_place_count n) w.put) same)
-            (third.are ∙ rows_of 0x18 ∙ ap (λ w. arcs_of (flat_place_count n) w.hinder) same);
-        puts_after = omega (arith, second.end);
-        hinders_after = omega (arith, third.end);
-        fits = omega (arith, k.few, kind_low n (transition_at n t) 0x16, few 0x17, few 0x18, second.end, third.end);
-        inside = omega (arith, k.few, low 0x17, low 0x18, second.end, third.end);
-      }
-    where
-      second : ArcsAppended (arcs_of_lem 0x17) l1 takes l2 puts
-      second = k2 (omega (arith, wide, k.few))
+  -- the puts and hinders were laid behind the takes, one after the other
+  module _ (list puts_part hinders_part : List Arc) (takes u v : ℕ) where
+    abbrev with_puts : List Arc
+    with_puts = put_mid takes (length list - takes) list puts_part
 
-      third : ArcsAppended (arcs_of_lem 0x18) l2 puts l3 hinders
-      third = k3 (omega (arith, wide, k.few, low 0x17, second.end, second.size))
+    abbrev whole : List Arc
+    whole = put_mid (takes + u) (length with_puts - (takes + u)) with_puts hinders_part
 
-      rows : {a b c a' b' c' : List Arc} → a ≡ a' → b ≡ b' → c ≡ c' → row a b c ≡ row a' b' c'
-      rows f g h = cc
+    pub effect_rest : room s n ≤ length list → takes ≤ length list
+        → TakesLoaded n (binding t colours) list takes
+        → KindLoaded s n env t 1 (behind list takes) puts_part u
+        → KindLoaded s n env t 2 (behind with_puts (takes + u)) hinders_part v
+        → RowLoaded n (binding t colours) whole takes (takes + u) (takes + u + v)
+    effect_rest x le k k2 k3 =
+        record {
+          row = λ w is.
+              let same = effect_weighs n (binding t colours) is in
+              rows (arcs_front whole list 0 takes (front ∙ laid_first _ list puts_part takes u le second) ∙ k.takes w is)
+              (arcs_front whole with_puts takes (takes + u) first ∙ laid_second _ list puts_part takes u le second ∙ rows_of 0x17 ∙ ap (λ w. arcs_of (flat_place_count n) w.put) same)
+              (laid_second _ with_puts hinders_part (takes + u) v reach third ∙ rows_of 0x18 ∙ ap (λ w. arcs_of (flat_place_count n) w.hinder) same);
+          puts_after = omega arith;
+          hinders_after = omega arith;
+          fits = omega (arith, k.few, kind_low n (transition_at n t) 0x16, few 0x17, few 0x18, second.many, third.many);
+          inside = omega (arith, k.few, low 0x17, low 0x18, second.many, third.many);
+        }
+      where
+        second : Laid (arcs_of_lem 0x17) (behind list takes) puts_part u
+        second = k2 (omega (arith, wide, k.few, length-behind list takes))
+
+        size : length with_puts ≡ length list
+        size = laid_size _ list puts_part takes u le second
+
+        reach : takes + u ≤ length with_puts
+        reach = omega (arith, wide, k.few, low 0x17, second.many, size)
+
+        third : Laid (arcs_of_lem 0x18) (behind with_puts (takes + u)) hinders_part v
+        third = k3 (omega (arith, wide, k.few, low 0x17, second.many, size, length-behind with_puts (takes + u)))
+
+        -- the takes and puts are kept, and so the takes alone
+        first : take (takes + u) whole ≡ take (takes + u) with_puts
+        first = laid_first _ with_puts hinders_part (takes + u) v reach third
+
+        front : take takes whole ≡ take takes with_puts
+        front =
+            let h : takes ≤ takes + u = omega arith in
+            sym (take-take takes (takes + u) whole h) ∙ ap (take takes) first ∙ take-take takes (takes + u) with_puts h
+
+        rows : {a b c a' b' c' : List Arc} → a ≡ a' → b ≡ b' → c ≡ c' → row a b c ≡ row a' b' c'
+        rows f g h = cc
 
 -- ---- for callers: firing the row that was loaded is firing the effect
 module _ {n : Net} {b : Binding} {list : List Arc} {takes puts hinders : ℕ} (l : RowLoaded n b list takes puts hinders) {w : Weights} (is : effect n b ≡ some w)

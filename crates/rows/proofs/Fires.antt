@@ -40,7 +40,7 @@ none_fires n b m {r} told e = rw (effect_none n b (sym told ∙ not_true r e))
 -- it has one, and its takes were loaded, of which the code tells whether one is lacking
 module _ (s : List ℕ) (n : Net) (env : List ℕ) (t : ℕ) (ht : t < length n.transitions) (colours : List ℕ) (binds : Binds n (binding t colours) env)
     (m : List ℕ) (sized : length m ≡ flat_place_count n) {r : Bool} (told : r ≡ legal n (binding t colours)) (has : not r ≡ false)
-    {list list' : List Arc} {end : ℕ} (x : room s n ≤ length list) (kind : KindLoaded s n env t 0 list 0 list' end)
+    {list list' : List Arc} {end : ℕ} (x : room s n ≤ length list) (kind : KindLoaded s n env t 0 list list' end)
     {lacks : Bool} (says : lacks ≡ any (lacking m) (take end list')) where
   takes : TakesLoaded n (binding t colours) list' end
   takes = takes_loaded s n env t ht colours binds x kind

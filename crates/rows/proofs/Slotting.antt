@@ -1,5 +1,5 @@
 -- What the code's loop over the entries of the packed table tells of the slots that the rows of a net need. Assumes nothing.
-use Rattle.std.specs.Prelude.{◌+◌, ◌*◌, ◌/◌, ◌%◌, ◌∷◌, ◌++◌, Some, None}
+use Rattle.std.specs.Prelude.{◌+◌, ◌*◌, ◌∷◌, ◌++◌, Some, None}
 use mathlib.Core.Path.{◌≡◌, refl, sym, ap, subst, ◌∙◌}
 use mathlib.Core.List.{append-nil}
 use Prim.Native.Nat.{◌≤◌, ◌<◌}
@@ -11,6 +11,7 @@ use Rattle.net.specs.Net.{Net, net, place_at, arc_on, no_transition, scope, tran
 use Rattle.net.specs.Reader.{read_expression}
 use Rattle.net_transitions.specs.internal.TransitionTables.{Slot}
 use Rattle.sums.specs.internal.Slots.{expression_slots, slots_for}
+use Rattle.plan.specs.declared.entry.Entry.{Entry}
 use Rattle.multiset.proofs.Slots.{slots_told}
 use Rattle.prepared.specs.internal.Packed.{if_held, holding}
 use Rattle.prepared.specs.internal.Drawing.{Drawing}
@@ -64,13 +65,13 @@ module _ {s : List ℕ} {n : Net} {sizes vars guards arcs : List ℕ} (d : Drawi
       omega (arith, ap (λ x. sum (map slots x)) one_more, snoc_sum slots l m, before))
 
   -- one entry more
-  entry_slots : {i entry : ℕ} (en : Entered d ht hk i entry) {total more : ℕ}
-      → sum (map slots (take i row)) ≤ total → more ≡ slots_for s (entry / 134217728) (entry / 2 % 8192) → sum (map slots (take (i + 1) row)) ≤ total + more
+  entry_slots : {i : ℕ} {entry : Entry} (en : Entered d ht hk i entry) {total more : ℕ}
+      → sum (map slots (take i row)) ≤ total → more ≡ slots_for s entry.expression entry.ranks → sum (map slots (take (i + 1) row)) ≤ total + more
   entry_slots {entry = entry} en so_far told =
       let p = en.place in
       let next = en.upto ∙ holding_more d.slots (t * 96 + k * 32) p ∙ ap (λ x. holding d.slots (t * 96 + k * 32) p ++ x) (held_some (get_or d.slots (t * 96 + k * 32 + p) 0) p en.held) in
-      let here : slots p ≡ slots_for s (entry / 134217728) (entry / 2 % 8192) = entry_arc d ht hk en (λ a next q reads.
-      rw q (sym (slots_told s (scope sizes vars n.places) (place_at n p) (entry / 134217728) (entry / 2 % 8192) reads ∙ ap (λ c. expression_slots c a.expression) en.ranks))) in
+      let here : slots p ≡ slots_for s entry.expression entry.ranks = entry_arc d ht hk en (λ a next q reads.
+      rw q (sym (slots_told s (scope sizes vars n.places) (place_at n p) entry.expression entry.ranks reads ∙ ap (λ c. expression_slots c a.expression) en.ranks))) in
       omega (arith, ap (λ x. sum (map slots x)) next, snoc_sum slots (holding d.slots (t * 96 + k * 32) p) p, ap (λ x. sum (map slots x)) en.below, so_far, told, here)
 
 -- ---- one kind, entry after entry
@@ -79,9 +80,9 @@ abbrev pub SlotsUpto : DrawnTransition → ℕ → ℕ → ℕ → List ℕ → 
 SlotsUpto d k total i places = (total ≤ 8192 * i) × (sum (map (place_slots (its_net d) (transition_at (its_net d) d.number) (0x16 + k)) places) ≤ total)
 
 module _ {d : DrawnTransition} {k total : ℕ} {left : Left} (u : Upto d k left (SlotsUpto d k total)) where
-  pub slots_go : {left' : Left} {entry more : ℕ} → Told left.plan.now left.at left.end (Some entry) left'.plan.now left'.at left'.end
-      → more ≡ slots_for d.drawing.file (entry / 134217728) (entry / 2 % 8192) → more ≤ entry / 2 % 8192 → Upto d k left' (SlotsUpto d k (total + more))
-  slots_go told is few = upto_goes u told (λ en so_far. (omega (arith, so_far.0), entry_slots u.ready.0.drawing u.ready.1 u.kind en so_far.1 is))
+  pub slots_go : {left' : Left} {entry : Entry} {more : ℕ} → Told left.plan.now left.at left.end (Some entry) left'.plan.now left'.at left'.end
+      → more ≡ slots_for d.drawing.file entry.expression entry.ranks → more ≤ entry.ranks → entry.ranks < 8192 → Upto d k left' (SlotsUpto d k (total + more))
+  slots_go told is few low = upto_goes u told (λ en so_far. (omega (arith, so_far.0), entry_slots u.ready.0.drawing u.ready.1 u.kind en so_far.1 is))
 
   -- what its places need is what the kind needs
   pub slots_end : {plan' : List ℕ} {at' end' : ℕ} → Told left.plan.now left.at left.end None plan' at' end' → KindSlotted (its_net d) d.number k total

@@ -9,4 +9,4 @@ pub returns-then-some_lacks-clause-told : goal.returns-then-some_lacks-clause-to
 returns-then-some_lacks-clause-told c = λ colours binds x sized. lack_fires _ _ c.args.env.now _ c.load_kind-takes.ensures.inside colours binds _ sized (c.has_effect.ensures colours binds) (ap not c.if-not-has_effect.false) x c.load_kind-takes.ensures.is c.some_lacks.ensures c.if-some_lacks.true
 
 pub returns-clause-told : goal.returns-clause-told
-returns-clause-told c = λ colours binds x sized. row_ready _ _ c.args.env.now _ c.load_kind-takes.ensures.inside colours binds _ sized (c.has_effect.ensures colours binds) (ap not c.if-not-has_effect.false) x c.load_kind-takes.ensures.is c.some_lacks.ensures c.if-some_lacks.false c.load_kind-takes.auto.arcs c.load_rest.ensures.is
+returns-clause-told c = λ colours binds x sized. row_ready _ _ c.args.env.now _ c.load_kind-takes.ensures.inside colours binds _ sized (c.has_effect.ensures colours binds) (ap not c.if-not-has_effect.false) x c.load_kind-takes.ensures.is c.some_lacks.ensures c.if-some_lacks.false c.load_kind-takes.auto.room c.load_rest.ensures.is

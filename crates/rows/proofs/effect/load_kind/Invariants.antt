@@ -1,12 +1,11 @@
 use Prim.Native.Nat.{◌≤◌}
 use lib.ListN.{length}
-use Rattle.rows.specs.internal.EntrySteps.{turn_of}
+use Rattle.firing.specs.internal.Kinds.{kind_number}
 use Rattle.rows.proofs.Drawn.{Upto, PlacesLoaded}
 use Rattle.rows.proofs.effect.load_kind.Given as goal
 
 abbrev pub invariant-loop-entry : goal.invariant-loop-entry
 invariant-loop-entry l = record {
-  upto : Upto l.transition (turn_of l.fn.kind) l.entry-iterator (PlacesLoaded l.transition (turn_of l.fn.kind) l.env l.initial.arcs l.used l.arcs l.end);
-  low : l.used ≤ l.end;
-  within : l.used ≤ length l.initial.arcs → l.end ≤ length l.arcs;
+  upto : Upto l.fn.transition (kind_number l.fn.kind) l.entry-iterator (PlacesLoaded l.fn.transition (kind_number l.fn.kind) l.env l.initial.room l.room l.end);
+  within : l.end ≤ length l.initial.room;
 }
