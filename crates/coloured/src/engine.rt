@@ -16,18 +16,19 @@ use prepared::Drawing;
 use reading::{Reason, Refusal, once_more, refused};
 use rows::{is_small, load_bound, most_slots};
 
-// A net that was read, and a list of orders on it, 6 bytes each.
+// A net that was read, and a list of orders on it, 6 bytes each. Each of its rows has room in a list of so many arcs.
 #[derive(Clone, Copy)]
-pub struct Orders<'a> {
-    pub drawing: &'a Drawing<'a>,
-    pub list: &'a [u8],
+struct Orders<'a, const ARCS: usize> {
+    drawing: &'a Drawing<'a>,
+    list: &'a [u8],
+    ghost few: { ARCS ≤ 20480 },
+    ghost roomy: { room drawing.now.file (net_of drawing.now) ≤ ARCS },
 }
 
-impl Orders<'_> {
+impl<const ARCS: usize> Orders<'_, ARCS> {
     // Fires the order number i; env is lent for the colours of its binding.
-    fn fire_nth(self, i: usize, m: &mut [u16], env: &mut [u8; 32], arcs: &mut [Arc]) -> Answer
+    fn fire_nth(self, i: usize, m: &mut [u16], env: &mut [u8; 32], arcs: &mut [Arc; ARCS]) -> Answer
         requires whole { i * 6 + 6 ≤ length self.list.now }
-        requires roomy { room self.drawing.now.file (net_of self.drawing.now) ≤ length arcs.old }
         requires sized { length m.old ≡ flat_place_count (net_of self.drawing.now) }
         ensures { fired (answer_number result) m.new ≡ fire_order (net_of self.entry.drawing.now) (take 6 (drop (i * 6) self.entry.list.now)) m.old }
     {
@@ -41,9 +42,8 @@ impl Orders<'_> {
     }
 
     // Fires each in turn, an answer each.
-    fn fire_list(self, m: &mut [u16], answers: &mut [u8], arcs: &mut [Arc])
+    fn fire_list(self, m: &mut [u16], answers: &mut [u8], arcs: &mut [Arc; ARCS])
         requires space { length self.list.now / 6 ≤ length answers.old }
-        requires roomy { room self.drawing.now.file (net_of self.drawing.now) ≤ length arcs.old }
         requires sized { length m.old ≡ flat_place_count (net_of self.drawing.now) }
         ensures { Ran (fire_order (net_of self.entry.drawing.now)) (items 6 self.entry.list.now) m.old answers.old m.new answers.new }
     {
@@ -58,9 +58,8 @@ impl Orders<'_> {
         self,
         marking: &mut [u16],
         answers: &mut [u8],
-        arcs: &mut [Arc],
+        arcs: &mut [Arc; ARCS],
     ) -> Result<usize, Refusal>
-        requires { room self.drawing.now.file (net_of self.drawing.now) ≤ length arcs.old }
         ensures { fire_called result marking.new answers.new ≡ fire_orders self.entry.drawing.now.file marking.old self.entry.list.now answers.old }
     {
         if marking.len() != self.drawing.flat_places() {
@@ -76,33 +75,30 @@ impl Orders<'_> {
         Ok(self.list.len() / 6)
     }
 
-    // With a list of so many arcs, where the rows have room in it. Kept apart (once_more).
+    // Fires them with a list of its own. Kept apart (once_more).
     #[inline(never)]
-    fn fire_in<const ARCS: usize>(
-        self,
-        marking: &mut [u16],
-        answers: &mut [u8],
-        again: bool,
-    ) -> Result<usize, Refusal>
-        requires few { ARCS ≤ 20480 }
-        requires roomy { room self.drawing.now.file (net_of self.drawing.now) ≤ ARCS }
+    fn fire_in(self, marking: &mut [u16], answers: &mut [u8], again: bool) -> Result<usize, Refusal>
         ensures { fire_called result marking.new answers.new ≡ fire_orders self.entry.drawing.now.file marking.old self.entry.list.now answers.old }
     {
         if once_more(self.drawing.file(), again) {
-            return self.fire_in::<ARCS>(marking, answers, false);
+            return self.fire_in(marking, answers, false);
         }
         let mut arcs = [Arc::default(); ARCS];
         self.fire_with(marking, answers, &mut arcs)
     }
+}
 
-    // The larger list has room for every net.
-    pub fn fire_on(self, marking: &mut [u16], answers: &mut [u8]) -> Result<usize, Refusal>
-        ensures { fire_called result marking.new answers.new ≡ fire_orders self.entry.drawing.now.file marking.old self.entry.list.now answers.old }
-    {
-        let file = self.drawing.file();
-        if is_small(most_slots(self.drawing), file.len()) {
-            return self.fire_in::<1024>(marking, answers, true);
-        }
-        self.fire_in::<20480>(marking, answers, true)
+// Fires a list of orders on a net that was read. The larger list of arcs has room for every net.
+pub fn fire_on<'a>(
+    drawing: &'a Drawing<'a>,
+    list: &'a [u8],
+    marking: &mut [u16],
+    answers: &mut [u8],
+) -> Result<usize, Refusal>
+    ensures { fire_called result marking.new answers.new ≡ fire_orders drawing.now.file marking.old list.now answers.old }
+{
+    if is_small(most_slots(drawing), drawing.file().len()) {
+        return Orders::<1024> { drawing, list }.fire_in(marking, answers, true);
     }
+    Orders::<20480> { drawing, list }.fire_in(marking, answers, true)
 }

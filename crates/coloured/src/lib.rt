@@ -7,7 +7,7 @@ ghost use Rattle.std.specs.Prelude.{◌≡◌};
 ghost use Rattle.bindings.specs.Orders.{fire_orders};
 ghost use Rattle.coloured.specs.Replies.{fire_called};
 
-use engine::Orders;
+use engine::fire_on;
 use prepared::Drawing;
 use reading::Refusal;
 
@@ -23,9 +23,5 @@ pub fn fire_orders(
 {
     let mut plan = [0u32; 3584];
     let drawing = Drawing::read(net, &mut plan, &mut [])?;
-    let orders = Orders {
-        drawing: &drawing,
-        list: orders,
-    };
-    orders.fire_on(marking, answers)
+    fire_on(&drawing, orders, marking, answers)
 }

@@ -8,7 +8,7 @@ ghost use Rattle.bindings.specs.Orders.{first_order};
 ghost use Rattle.search.specs.Replies.{first_reply};
 
 pub use bindings::Order;
-use engine::Marked;
+use engine::first_on;
 pub use firing::Searched;
 use prepared::Drawing;
 use reading::{Reason, Refusal, refused};
@@ -22,9 +22,5 @@ pub fn first_order(net: &[u8], marking: &[u16]) -> Result<Searched<Order>, Refus
     if marking.len() != drawing.flat_places() {
         return refused(Reason::WrongMarking, 0);
     }
-    let marked = Marked {
-        drawing: &drawing,
-        marking,
-    };
-    Ok(marked.first_on())
+    Ok(first_on(&drawing, marking))
 }

@@ -5,10 +5,10 @@ use Rattle.prepared.specs.internal.Drawn.{net_of}
 use Rattle.coloured.proofs.engine.Orders.fire_list.Goals as goal
 
 pub loop-i-init : goal.loop-i-init
-loop-i-init c = run_begin _ _ _ _
+loop-i-init g c = run_begin _ _ _ _
 
 pub loop-i-preserved : goal.loop-i-preserved
-loop-i-preserved c = rw c.number.ensures (run_item (fire_order (net_of c.args.self.drawing.now)) 6 c.args.self.list.now _ _ c.loop-i.invariant _ _ (omega arith) c.requires.space c.fire_nth.ensures c.fire_nth.auto.m)
+loop-i-preserved g c = rw c.number.ensures (run_item (fire_order (net_of c.args.self.drawing.now)) 6 c.args.self.list.now _ _ c.loop-i.invariant _ _ (omega arith) c.requires.space c.fire_nth.ensures c.fire_nth.auto.m)
 
 pub returns : goal.returns
-returns c = run_items_end (fire_order (net_of c.args.self.drawing.now)) 6 c.args.self.list.now _ _ c.loop-i.invariant (omega arith)
+returns g c = run_items_end (fire_order (net_of c.args.self.drawing.now)) 6 c.args.self.list.now _ _ c.loop-i.invariant (omega arith)

@@ -4,19 +4,19 @@ use Rattle.search.proofs.Searching.{seek_begin, seek_found, seek_next, seek_none
 use Rattle.search.proofs.engine.Marked.search_all.Goals as goal
 
 pub loop-t-init : goal.loop-t-init
-loop-t-init c = record { seeking = seek_begin _ _; few = omega arith }
+loop-t-init g c = record { seeking = seek_begin _ _; few = omega arith }
 
 pub returns-in-Some : goal.returns-in-Some
-returns-in-Some c =
+returns-in-Some g c =
     rw c.transition-transition.ensures (seek_found c.transitions-t-end.ensures.known c.args.self.marking.now c.loop-t.t c.loop-t.tried (omega (arith, c.transitions-t-end.ensures.is)) c.loop-t.invariant.seeking
     (rw (c.in-Some.is, c.transition-transition.ensures) at c.search_bindings-here.ensures.is))
 
 pub loop-t-preserved : goal.loop-t-preserved
-loop-t-preserved c = record {
+loop-t-preserved g c = record {
   seeking = seek_next c.transitions-t-end.ensures.known c.args.self.marking.now c.loop-t.t c.loop-t.tried (omega (arith, c.transitions-t-end.ensures.is)) c.loop-t.invariant.seeking
       (rw (c.in_default.is, c.transition-transition.ensures) at c.search_bindings-here.ensures.is);
   few = omega (arith, c.search_bindings-here.ensures.small);
 }
 
 pub returns : goal.returns
-returns c = seek_none (net_of c.args.self.drawing.now) c.args.self.marking.now c.loop-t.t c.loop-t.tried c.loop-t.invariant.seeking (omega (arith, c.transitions-t-end.ensures.is))
+returns g c = seek_none (net_of c.args.self.drawing.now) c.args.self.marking.now c.loop-t.t c.loop-t.tried c.loop-t.invariant.seeking (omega (arith, c.transitions-t-end.ensures.is))

@@ -6,18 +6,18 @@ use Rattle.firing.proofs.Running.{search_begin, below_step, below_found, below_n
 use Rattle.prepared.specs.internal.Drawn.{its_net}
 use Rattle.bindings.specs.internal.Bindings.{its_sizes}
 use Rattle.bindings.proofs.Owning.{first_binds}
-use Rattle.search.proofs.engine.search_bindings.Goals as goal
+use Rattle.search.proofs.engine.Marked.search_bindings.Goals as goal
 
 pub loop-i-init : goal.loop-i-init
-loop-i-init c = record { seeking = search_begin _ _; binds = λ some. first_binds (its_net c.args.transition.now) c.args.transition.now.number 32 }
+loop-i-init g c = record { seeking = search_begin _ _; binds = λ some. first_binds (its_net c.args.transition.now) c.args.transition.now.number 32 }
 
 pub returns-then-fires_bound-clause-is : goal.returns-then-fires_bound-clause-is
-returns-then-fires_bound-clause-is c =
+returns-then-fires_bound-clause-is g c =
     let told = c.fires_bound.ensures _ (c.loop-i.invariant.binds (omega arith)) in
     below_found _ (product (its_sizes c.args.transition.now)) c.loop-i.invariant.seeking (omega (arith, c.space_of-many.ensures.is)) (sym told ∙ c.if-fires_bound.true)
 
 pub loop-i-preserved : goal.loop-i-preserved
-loop-i-preserved c =
+loop-i-preserved g c =
     let told = c.fires_bound.ensures _ (c.loop-i.invariant.binds (omega arith)) in
     record {
       seeking = below_step _ (product (its_sizes c.args.transition.now)) c.loop-i.invariant.seeking (omega (arith, c.space_of-many.ensures.is)) (sym told ∙ c.if-fires_bound.false);
@@ -25,4 +25,4 @@ loop-i-preserved c =
     }
 
 pub returns-clause-is : goal.returns-clause-is
-returns-clause-is c = below_none _ (product (its_sizes c.args.transition.now)) c.loop-i.invariant.seeking (omega (arith, c.space_of-many.ensures.is)) ∙ ap nothing (sym c.space_of-many.ensures.is)
+returns-clause-is g c = below_none _ (product (its_sizes c.args.transition.now)) c.loop-i.invariant.seeking (omega (arith, c.space_of-many.ensures.is)) ∙ ap nothing (sym c.space_of-many.ensures.is)
