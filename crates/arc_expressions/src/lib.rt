@@ -2,5 +2,7 @@
 #![tactic(auto)]
 
 mod expression;
+mod operator;
 
 pub use expression::read_expression;
+pub use operator::Operator;

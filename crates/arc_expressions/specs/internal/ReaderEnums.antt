@@ -7,8 +7,8 @@ use Rattle.reading.specs.declared.refusal.Reason.TheVariants.{Overweight}
 use Rattle.net.specs.Net.{Expression, plus, minus, ceiling, in_expression}
 use Rattle.net.specs.internal.ReaderEnums.{told}
 use Rattle.net.specs.declared.Read.{Read}
-use Rattle.arc_expressions.specs.declared.expression.Join.{Join}
-use Rattle.arc_expressions.specs.declared.expression.Join.TheVariants.{Plus, Minus}
+use Rattle.arc_expressions.specs.declared.operator.Operator.{Operator}
+use Rattle.arc_expressions.specs.declared.operator.Operator.TheVariants.{Plus, Minus}
 
 -- an arc expression tells its ceiling
 abbrev pub expression_told : Answer Expression → Result Read Refusal
@@ -24,6 +24,6 @@ measured at ceiling next uses =
     if leb ceiling 65535 then Ok (record { next = next; set = ceiling; uses = uses }) else Err (record { reason = Overweight; place = at })
 
 -- the first less the second, or their sum
-abbrev pub joins : Join → Expression → Expression → Expression
+abbrev pub joins : Operator → Expression → Expression → Expression
 joins Plus a b = plus a b
 joins Minus a b = minus a b

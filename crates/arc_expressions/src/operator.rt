@@ -1,0 +1,6 @@
+// How two expressions are joined.
+#[derive(Clone, Copy, Debug, PartialEq, Eq)]
+pub enum Operator {
+    Plus,
+    Minus,
+}
