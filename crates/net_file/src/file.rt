@@ -67,7 +67,10 @@ impl Tables {
             vars: [0; 32],
             kinds: [PlaceSets::One { set: 0 }; 32],
             starts: [0; 33],
-            heads: [Head { uses: 0, guard: 0 }; 32],
+            heads: [Head {
+                uses: 0,
+                guard: None,
+            }; 32],
         }
     }
 }
@@ -87,10 +90,9 @@ pub struct Counts {
 pub fn read_net(
     file: &[u8],
     tables: &mut Tables,
-    arcs: &mut [u32],
+    arcs: &mut [u32; 3072],
     initial: &mut [u16],
 ) -> Result<Counts, Refusal>
-    requires { length arcs.old ≡ 3072 }
     ensures { NetTold file.now tables.new arcs.new initial.new result }
 {
     if 16384 < file.len() {

@@ -1,5 +1,6 @@
 -- How one transition is read. Assumes nothing.
 use Rattle.std.specs.Prelude.{◌+◌, ◌*◌, ◌∷◌, ◌++◌, if◌then◌else◌, Result, Ok, Err}
+use Rattle.std.specs.Prelude as std
 use mathlib.Core.Path.{◌≡◌, refl, sym, ap, ◌∙◌}
 use mathlib.Core.Bool.{Bool, true, false}
 use Prim.Native.Nat.{◌≤◌, ◌<◌}
@@ -45,15 +46,9 @@ module _ (s : List ℕ) (n : Net) (p : ℕ) where
   pub guard_holds_lem : (g : Guard) (next : ℕ) → read_guard_if s n p ≡ fine g next → GuardHolds s n g (guard_place s p)
   guard_holds_lem g next e = go (eqb (byte_at s p) 0x15) refl
     where
-      go : (t : Bool) → eqb (byte_at s p) 0x15 ≡ t → GuardHolds s n g (if t then p + 1 else 0)
-      go true q = record {
-        without = λ z. absurd (omega arith);
-        stands = λ lt. record { next = next; reads = sym (guard_there (eqb-true (byte_at s p) 0x15 q)) ∙ e };
-      }
-      go false q = let f = guard_none (eqb-false (byte_at s p) 0x15 q) in record {
-        without = λ z. cc;
-        stands = λ lt. absurd (omega arith);
-      }
+      go : (t : Bool) → eqb (byte_at s p) 0x15 ≡ t → GuardHolds s n g (if t then std.Some (p + 1) else std.None)
+      go true q = (omega arith, record { next = next; reads = sym (guard_there (eqb-true (byte_at s p) 0x15 q)) ∙ e })
+      go false q = let f = guard_none (eqb-false (byte_at s p) 0x15 q) in cc
 
   pub guard_within : (g : Guard) (next : ℕ) → read_guard_if s n p ≡ fine g next → p ≤ length s → (p ≤ next) × (next ≤ length s)
   guard_within g next e le = go (eqb (byte_at s p) 0x15) refl
