@@ -1,5 +1,5 @@
 // The whole net file, part after part, into lent tables.
-ghost use Rattle.std.specs.Prelude.{◌≡◌, ℕ, length};
+ghost use Rattle.std.specs.Prelude.{◌≡◌, ℕ};
 ghost use Rattle.reading.specs.Reading.{Answer};
 ghost use Rattle.net.specs.Net.{Net};
 ghost use Rattle.net_file.specs.internal.NetTables.{opened, open_told, closed, close_told, no_tables, NetTold};
