@@ -137,13 +137,10 @@ module _ (s : List ℕ) (at : ℕ) {next : ℕ} (is-next : (w : ℕ) → width_o
   after_mark e = is-next 0 (ap width_of e)
 
 -- ---- a row of the table of arcs
--- a part of a list that was put back: what stands in it, and before it
+-- a part of a list that was put back: what stands in it
 pub part_in : (xs ys zs : List ℕ) (a i : ℕ) → a ≤ length xs → i < length ys → get_or (take a xs ++ (ys ++ zs)) (a + i) 0 ≡ get_or ys i 0
 part_in xs ys zs a i le lt =
     ap (λ k. get_or (take a xs ++ (ys ++ zs)) (k + i) 0) (sym (length-take-le a xs le)) ∙ get_or-append-add (take a xs) (ys ++ zs) i 0 ∙ get_or-append ys zs 0 i lt
-
-pub part_before : (xs ys : List ℕ) (a i : ℕ) → a ≤ length xs → i < a → get_or (take a xs ++ ys) i 0 ≡ get_or xs i 0
-part_before xs ys a i le lt = get_or-append (take a xs) ys 0 i (rw (length-take-le a xs le) lt) ∙ get_or-take a xs i 0 lt
 
 pub part_sized : (xs : List ℕ) (a k : ℕ) → a + k ≤ length xs → length (take k (drop a xs)) ≡ k
 part_sized xs a k le = length-take-le k (drop a xs) (rw (length-drop a xs) (omega arith))
