@@ -8,7 +8,7 @@ use native.Mathlib.Omega.{arith}
 use borrow.Author.Tests.{lt-ltb, le-ltb, ne_eqb, eqb-true, eqb-false}
 use lib.Bits.{bit_or}
 use lib.ListN.{length-drop, get_or-append}
-use lib.Seq.{length-take-le, get_or-append-add, get_or-take}
+use lib.Seq.{length-take-le, get_or-append-add}
 use Rattle.reading.specs.Basics.{ℕ, List, [], Option, some, none, option_map, given, length, get_or, take, drop, with, eqb, byte_at}
 use Rattle.reading.specs.Reading.{Answer, fine, fault, standing}
 use Rattle.reading.proofs.Commands.{end, other, passes, done, fails, standing_none, stands_fails, stands_goes}
