@@ -1,5 +1,5 @@
 // The whole net file, part after part, into lent tables.
-ghost use Rattle.std.specs.Prelude.{◌≡◌, ℕ, length};
+ghost use Rattle.std.specs.Prelude.{◌≡◌, ℕ};
 ghost use Rattle.reading.specs.Reading.{Answer};
 ghost use Rattle.net.specs.Net.{Net};
 ghost use Rattle.net_file.specs.internal.NetTables.{opened, open_told, closed, close_told, no_tables, NetTold};
@@ -67,7 +67,10 @@ impl Tables {
             vars: [0; 32],
             kinds: [PlaceSets::One { set: 0 }; 32],
             starts: [0; 33],
-            heads: [Head { uses: 0, guard: 0 }; 32],
+            heads: [Head {
+                uses: 0,
+                guard: None,
+            }; 32],
         }
     }
 }
@@ -87,10 +90,9 @@ pub struct Counts {
 pub fn read_net(
     file: &[u8],
     tables: &mut Tables,
-    arcs: &mut [u32],
+    arcs: &mut [u32; 3072],
     initial: &mut [u16],
 ) -> Result<Counts, Refusal>
-    requires { length arcs.old ≡ 3072 }
     ensures { NetTold file.now tables.new arcs.new initial.new result }
 {
     if 16384 < file.len() {

@@ -62,7 +62,6 @@ transitions_kept s n few heads arcs left ts count are kept here t lt =
 
 pub record Passing (s : List ℕ) (n : Net) (start : ℕ) (heads : List Head) (arcs : List ℕ) (count space at : ℕ) : Type 0 where
   pub sized : length heads ≡ 32
-  pub arcs_sized : length arcs ≡ 3072
   pub transitions : List Transition
   pub are : length transitions ≡ count
   pub few : count ≤ 32
@@ -90,15 +89,14 @@ module _ {s : List ℕ} {n : Net} {start : ℕ} {heads : List Head} {arcs : List
   passing_stops is inside =
       let h = is here.transitions here.are here.wide in record { number = h.number; is = ap some (sym (stops s (transition_part s n) here.reading inside h.is)); reason = h.reason }
 
-  pub passing_goes : length n.places ≤ 32 → length left ≡ 3072 → {t : TransitionStep}
+  pub passing_goes : length n.places ≤ 32 → {t : TransitionStep}
       → ((ts : List Transition) → length ts ≡ count → binding_space n ts ≡ space → TransitionRead s n ts (transition_part s n ts at) (λ i. get_or left (count * 96 + i) 0) t.guard t.uses t.space t.next)
       → (t.space ≤ 65536) × (at < t.next) × (t.next ≤ length s) → count < 32
       → Passing s n start (set heads count (record { uses = t.uses; guard = t.guard })) left (count + 1) t.space t.next
-  passing_goes small left-sized {t} is b lt =
+  passing_goes small {t} is b lt =
       let h = is here.transitions here.are here.wide in
       record {
         sized = length-set heads count (record { uses = t.uses; guard = t.guard }) ∙ here.sized;
-        arcs_sized = left-sized;
         transitions = with here.transitions h.transition;
         are = length-append here.transitions (h.transition ∷ []) ∙ ap (λ k. k + 1) here.are;
         few = omega arith;

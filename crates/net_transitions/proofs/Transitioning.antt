@@ -1,5 +1,6 @@
 -- How one transition is read. Assumes nothing.
 use Rattle.std.specs.Prelude.{◌+◌, ◌*◌, ◌∷◌, ◌++◌, if◌then◌else◌, Result, Ok, Err}
+use Rattle.std.specs.Prelude as std
 use mathlib.Core.Path.{◌≡◌, refl, sym, ap, ◌∙◌}
 use mathlib.Core.Bool.{Bool, true, false}
 use Prim.Native.Nat.{◌≤◌, ◌<◌}
@@ -7,7 +8,7 @@ use native.Mathlib.Omega.{arith}
 use borrow.Author.Tests.{lt-ltb, le-ltb, ne_eqb, eqb-true, eqb-false}
 use lib.Bits.{bit_or}
 use lib.ListN.{length-drop, get_or-append}
-use lib.Seq.{length-take-le, get_or-append-add, get_or-take}
+use lib.Seq.{length-take-le, get_or-append-add}
 use Rattle.reading.specs.Basics.{ℕ, List, [], Option, some, none, option_map, given, length, get_or, take, drop, with, eqb, byte_at}
 use Rattle.reading.specs.Reading.{Answer, fine, fault, standing}
 use Rattle.reading.proofs.Commands.{end, other, passes, done, fails, standing_none, stands_fails, stands_goes}
@@ -45,15 +46,9 @@ module _ (s : List ℕ) (n : Net) (p : ℕ) where
   pub guard_holds_lem : (g : Guard) (next : ℕ) → read_guard_if s n p ≡ fine g next → GuardHolds s n g (guard_place s p)
   guard_holds_lem g next e = go (eqb (byte_at s p) 0x15) refl
     where
-      go : (t : Bool) → eqb (byte_at s p) 0x15 ≡ t → GuardHolds s n g (if t then p + 1 else 0)
-      go true q = record {
-        without = λ z. absurd (omega arith);
-        stands = λ lt. record { next = next; reads = sym (guard_there (eqb-true (byte_at s p) 0x15 q)) ∙ e };
-      }
-      go false q = let f = guard_none (eqb-false (byte_at s p) 0x15 q) in record {
-        without = λ z. cc;
-        stands = λ lt. absurd (omega arith);
-      }
+      go : (t : Bool) → eqb (byte_at s p) 0x15 ≡ t → GuardHolds s n g (if t then std.Some (p + 1) else std.None)
+      go true q = (omega arith, record { next = next; reads = sym (guard_there (eqb-true (byte_at s p) 0x15 q)) ∙ e })
+      go false q = let f = guard_none (eqb-false (byte_at s p) 0x15 q) in cc
 
   pub guard_within : (g : Guard) (next : ℕ) → read_guard_if s n p ≡ fine g next → p ≤ length s → (p ≤ next) × (next ≤ length s)
   guard_within g next e le = go (eqb (byte_at s p) 0x15) refl
@@ -142,13 +137,10 @@ module _ (s : List ℕ) (at : ℕ) {next : ℕ} (is-next : (w : ℕ) → width_o
   after_mark e = is-next 0 (ap width_of e)
 
 -- ---- a row of the table of arcs
--- a part of a list that was put back: what stands in it, and before it
+-- a part of a list that was put back: what stands in it
 pub part_in : (xs ys zs : List ℕ) (a i : ℕ) → a ≤ length xs → i < length ys → get_or (take a xs ++ (ys ++ zs)) (a + i) 0 ≡ get_or ys i 0
 part_in xs ys zs a i le lt =
     ap (λ k. get_or (take a xs ++ (ys ++ zs)) (k + i) 0) (sym (length-take-le a xs le)) ∙ get_or-append-add (take a xs) (ys ++ zs) i 0 ∙ get_or-append ys zs 0 i lt
-
-pub part_before : (xs ys : List ℕ) (a i : ℕ) → a ≤ length xs → i < a → get_or (take a xs ++ ys) i 0 ≡ get_or xs i 0
-part_before xs ys a i le lt = get_or-append (take a xs) ys 0 i (rw (length-take-le a xs le) lt) ∙ get_or-take a xs i 0 lt
 
 pub part_sized : (xs : List ℕ) (a k : ℕ) → a + k ≤ length xs → length (take k (drop a xs)) ≡ k
 part_sized xs a k le = length-take-le k (drop a xs) (rw (length-drop a xs) (omega arith))

@@ -17,8 +17,7 @@ pub struct ArcStep {
 }
 
 // The arc command at a place, over places by their sets; none where no such command stands.
-fn arc_at(ground: &Ground, row: &[u32], at: usize) -> Result<Option<ArcStep>, Refusal>
-    requires row_len { length row.now ≡ 96 }
+fn arc_at(ground: &Ground, row: &[u32; 96], at: usize) -> Result<Option<ArcStep>, Refusal>
     ensures is { (arcs : List Arc) → RowHolds ground.now.scope.file.now (over ground.now.scope ground.now.kinds.now) arcs (λ i. get_or row.now i 0)
         → ArcTold ground.now.scope.file.now (over ground.now.scope ground.now.kinds.now) arcs at row.now result }
     ensures room { ArcRoom (length ground.now.scope.file.now) at result }
@@ -49,8 +48,7 @@ fn arc_at(ground: &Ground, row: &[u32], at: usize) -> Result<Option<ArcStep>, Re
 }
 
 // The arcs of one transition: the place after them and the variables in their expressions; or the first fault.
-pub fn read_arcs(ground: &Ground, row: &mut [u32], start: usize) -> Result<Read, Refusal>
-    requires row_len { length row.old ≡ 96 }
+pub fn read_arcs(ground: &Ground, row: &mut [u32; 96], start: usize) -> Result<Read, Refusal>
     ensures is { ArcsTold ground.now.scope.file.now (over ground.now.scope ground.now.kinds.now) start row.new result }
     ensures room { ArcsRoom (length ground.now.scope.file.now) start result }
 {

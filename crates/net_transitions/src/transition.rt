@@ -12,11 +12,24 @@ use crate::space::{bindings_of, count_of};
 use net::{Scope, after, read_guard_if};
 use reading::{Reason, Refusal, byte_at, element, refused};
 
-// The end of a transition with these variables, after a binding space: the space with it, or the fault.
-fn close_at(scope: &Scope, set: u32, space: usize, at: usize, end: usize) -> Result<usize, Refusal>
-    requires space_bound { space ≤ 65536 }
+// How many transitions stand before one, and their binding space.
+#[derive(Clone, Copy)]
+pub struct Before {
+    pub count: usize,
+    pub space: usize,
+    ghost narrow: { space ≤ 65536 },
+}
+
+// The end of a transition with these variables, after others: the binding space with it, or the fault.
+fn close_at(
+    scope: &Scope,
+    set: u32,
+    before: Before,
+    at: usize,
+    end: usize,
+) -> Result<usize, Refusal>
     ensures is { (places : List Place) (transitions : List Transition) (t : Transition) → set ≡ bits (λ v. in_transition v t) 32
-        → binding_space (scope_of scope.now places) transitions ≡ space
+        → binding_space (scope_of scope.now places) transitions ≡ before.space
         → ClosedTold scope.now.file.now (scope_of scope.now places) transitions at t end result }
     ensures room { ClosedRoom result }
 {
@@ -26,29 +39,29 @@ fn close_at(scope: &Scope, set: u32, space: usize, at: usize, end: usize) -> Res
     if 4 < count_of(set, scope.vars.len()) {
         return refused(Reason::ManyVariables, at);
     }
-    let more = space + bindings_of(set, scope);
+    let more = before.space + bindings_of(set, scope);
     if 65536 < more {
         return refused(Reason::WideBinding, at);
     }
     Ok(more)
 }
 
-// Where a guard stands, or 0 without one.
-fn guard_place(file: &[u8], at: usize) -> u16
-    requires { length file.now ≤ 16384 }
-    ensures { result ≡ guard_place file.now at }
+// Where a guard stands, if there is one.
+fn guard_place(ground: &Ground, at: usize) -> Option<u16>
+    ensures { result ≡ guard_place ground.now.scope.file.now at }
 {
+    let file = ground.scope.file;
     if element(file, at, 0) == 0x15 {
-        after(file, at) as u16
+        Some(after(file, at) as u16)
     } else {
-        0
+        None
     }
 }
 
-// A transition that was read: where its guard stands, its variables, the binding space with it, and the place after it.
+// A transition that was read: where its guard stands, if it has one, its variables, the binding space with it, and the place after it.
 #[derive(Clone, Copy)]
 pub struct TransitionStep {
-    pub guard: u16,
+    pub guard: Option<u16>,
     pub uses: u32,
     pub space: usize,
     pub next: usize,
@@ -57,16 +70,14 @@ pub struct TransitionStep {
 // The transition whose command stands at a place and ends before next.
 fn transition_in(
     ground: &Ground,
-    space: usize,
-    row: &mut [u32],
+    before: Before,
+    row: &mut [u32; 96],
     at: usize,
     next: usize,
 ) -> Result<TransitionStep, Refusal>
-    requires row_len { length row.old ≡ 96 }
-    requires space_bound { space ≤ 65536 }
     requires at_lt_next { at < next }
     requires next_in_bounds { next ≤ length ground.now.scope.file.now }
-    ensures is { (transitions : List Transition) → binding_space (over ground.now.scope ground.now.kinds.now) transitions ≡ space
+    ensures is { (transitions : List Transition) → binding_space (over ground.now.scope ground.now.kinds.now) transitions ≡ before.space
         → TransitionTold ground.now.scope.file.now (over ground.now.scope ground.now.kinds.now) transitions
         (some (inside ground.now.scope.file.now (over ground.now.scope ground.now.kinds.now) transitions at next)) (λ i. get_or row.new i 0) result }
     ensures room { TransitionRoom (length ground.now.scope.file.now) at result }
@@ -74,43 +85,42 @@ fn transition_in(
     let guard = read_guard_if(&ground.scope, next)?;
     let arcs = read_arcs(ground, row, guard.next)?;
     let uses = guard.uses | arcs.uses;
-    let space = close_at(&ground.scope, uses, space, at, arcs.next)?;
+    let space = close_at(&ground.scope, uses, before, at, arcs.next)?;
     Ok(TransitionStep {
-        guard: guard_place(ground.scope.file, next),
+        guard: guard_place(ground, next),
         uses,
         space,
         next: arcs.next,
     })
 }
 
-// The transition command at a place, after so many transitions with a binding space, if it stands there; its row is the next of the table.
+// The transition command at a place, after others, if it stands there; its row is the next of the table.
 pub fn transition_at(
     ground: &Ground,
-    count: usize,
-    space: usize,
-    arcs: &mut [u32],
+    before: Before,
+    arcs: &mut [u32; 3072],
     at: usize,
 ) -> Result<Option<TransitionStep>, Refusal>
-    requires arcs_len { length arcs.old ≡ 3072 }
-    requires space_bound { space ≤ 65536 }
-    ensures is { (transitions : List Transition) → length transitions ≡ count
-        → binding_space (over ground.now.scope ground.now.kinds.now) transitions ≡ space
+    ensures is { (transitions : List Transition) → length transitions ≡ before.count
+        → binding_space (over ground.now.scope ground.now.kinds.now) transitions ≡ before.space
         → EntryTold ground.now.scope.file.now (over ground.now.scope ground.now.kinds.now) transitions
         (transition_part ground.now.scope.file.now (over ground.now.scope ground.now.kinds.now) transitions at)
-        (λ i. get_or arcs.new (count * 96 + i) 0) result }
+        (λ i. get_or arcs.new (before.count * 96 + i) 0) result }
     ensures room { EntryRoom (length ground.now.scope.file.now) at result }
-    ensures few { TransitionFew count result }
-    ensures kept { (i : ℕ) → i < count * 96 → get_or arcs.new i 0 ≡ get_or arcs.old i 0 }
+    ensures few { TransitionFew before.count result }
+    ensures kept { (i : ℕ) → i < before.count * 96 → get_or arcs.new i 0 ≡ get_or arcs.old i 0 }
 {
     if element(ground.scope.file, at, 0) != 0x14 {
         return Ok(None);
     }
-    if 32 <= count {
+    if 32 <= before.count {
         return refused(Reason::Overfull, at);
     }
-    let from = count * 96;
-    let to = from + 96;
     let next = after(ground.scope.file, at);
-    let t = transition_in(ground, space, &mut arcs[from..to], at, next)?;
+    // The row is made apart and copied in: of a part of the table lent as an array it would not be known what it ends as.
+    let mut row = [0; 96];
+    let t = transition_in(ground, before, &mut row, at, next)?;
+    let from = before.count * 96;
+    arcs[from..from + 96].copy_from_slice(&row);
     Ok(Some(t))
 }

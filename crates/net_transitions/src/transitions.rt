@@ -3,30 +3,28 @@ ghost use Rattle.std.specs.Prelude.{◌≡◌, ◌≤◌, length};
 ghost use Rattle.net_transitions.specs.internal.TransitionTables.{over, TransitionsTold};
 
 use crate::ground::Ground;
-use crate::transition::transition_at;
+use crate::transition::{Before, transition_at};
 use net::{PlaceSets, Scope};
 use net_parts::Part;
 use reading::Refusal;
 
-// What is told of a transition besides its arcs: its variables, and where its guard stands, 0 where it has none.
+// What is told of a transition besides its arcs: its variables, and where its guard stands, if it has one.
 #[derive(Clone, Copy)]
 pub struct Head {
     pub uses: u32,
-    pub guard: u16,
+    pub guard: Option<u16>,
 }
 
 // The transition part, over a scope and places by their sets; its total is the binding space.
 pub fn read_transitions(
     scope: &Scope,
     kinds: &[PlaceSets],
-    heads: &mut [Head],
-    arcs: &mut [u32],
+    heads: &mut [Head; 32],
+    arcs: &mut [u32; 3072],
     start: usize,
 ) -> Result<Part, Refusal>
     requires file_len_bound { length scope.now.file.now ≤ 16384 }
     requires kinds_len_bound { length kinds.now ≤ 32 }
-    requires heads_len { length heads.old ≡ 32 }
-    requires arcs_len { length arcs.old ≡ 3072 }
     ensures { TransitionsTold scope.now.file.now (over scope.now kinds.now) start heads.new arcs.new result }
 {
     let ground = Ground {
@@ -34,21 +32,22 @@ pub fn read_transitions(
         kinds,
     };
     // Counted by hand: how many there are is known when the part ends.
-    let mut count = 0;
-    let mut space = 0;
+    let mut before = Before { count: 0, space: 0 };
     let mut at = start;
-    while let Some(t) = transition_at(&ground, count, space, arcs, at)? {
-        heads[count] = Head {
+    while let Some(t) = transition_at(&ground, before, arcs, at)? {
+        heads[before.count] = Head {
             uses: t.uses,
             guard: t.guard,
         };
-        count += 1;
-        space = t.space;
+        before = Before {
+            count: before.count + 1,
+            space: t.space,
+        };
         at = t.next;
     }
     Ok(Part {
-        count,
-        total: space,
+        count: before.count,
+        total: before.space,
         next: at,
     })
 }

@@ -4,29 +4,29 @@ use mathlib.Core.Path.{◌≡◌, refl, sym, ap, subst, ◌∙◌}
 use Prim.Native.Nat.{◌≤◌, ◌<◌}
 use native.Mathlib.Omega.{arith}
 use borrow.Author.Tests.{le-leb, le-ltb, ltb-true, ltb-false}
-use lib.ListN.{set, length-append, length-map, length-drop, get_or-map, get_or-eq_default}
+use lib.ListN.{set, length-map, length-drop, get_or-map, get_or-eq_default}
 use lib.Seq.{length-take-le, ext_get_or, get_or-take, get_or-drop}
 use Rattle.reading.specs.Basics.{ℕ, Bool, true, false, ltb, List, [], map, length, get_or, take, drop, below}
 use Rattle.reading.proofs.Lists.{length-below, get_d_below}
 use Rattle.net.specs.Net.{Net, in_transition, tokens_on, transition_at}
 use Rattle.net.specs.internal.ReaderEnums.{bits}
 use Rattle.net_file.specs.Limits.{Limits}
-use Rattle.net_transitions.proofs.Transitioning.{part_in, part_before}
-use Rattle.plan.specs.internal.Layout.{up_to, low, arc_with, sets_in, variables_in, places_in, guards_in, own_in, packed_in, OthersKept, Placed}
+use Rattle.net_transitions.proofs.Transitioning.{part_in}
+use Rattle.plan.specs.internal.Layout.{up_to, low, arc_with, sets_in, variables_in, places_in, guards_in, own_in, packed_in, Placed}
 use Rattle.plan.proofs.Sections.{Placing, placing_goes, own_at, guard_at, arc_at_lem}
 use Rattle.net_parts.specs.internal.Tables.{count_of}
 use Rattle.net_transitions.specs.internal.TransitionTables.{no_head}
 use Rattle.net_transitions.specs.declared.transitions.Head.{Head}
 use Rattle.net_file.specs.declared.file.Tables.{Tables}
 use Rattle.net_file.specs.declared.file.Counts.{Counts}
-use Rattle.net_file.specs.internal.NetTables.{NetHolds, NetHeld}
+use Rattle.net_file.specs.internal.NetTables.{NetHolds}
 use Rattle.net_file.proofs.Limits.{limits}
-use Rattle.prepared.specs.internal.Packed.{shape_in, holding, entries_of, SlotsFit, Packed}
-use Rattle.prepared.proofs.Packing.{get_d_inside, holding_at, entries_many, entry_at, holding-same, entries-same}
+use Rattle.prepared.specs.internal.Packed.{shape_in, holding, entries_of, Packed}
+use Rattle.prepared.proofs.Packing.{get_d_inside, holding_at, entries_many, entry_at}
 use Rattle.prepared.specs.internal.Drawing.{Drawing}
 use Rattle.prepared.proofs.Tabled.{shapes, drawing}
 use Rattle.prepared.specs.internal.TransitionVariables.{Owned}
-use Rattle.prepared.specs.internal.Filled.{ListStands, HeadsPlaced, ListsPlaced, Readied}
+use Rattle.prepared.specs.internal.Filled.{ListStands, guard_number, HeadsPlaced, ListsPlaced, ReadPacked, Readied}
 
 -- ---- what each place is like
 pub values_many : (f : ℕ → ℕ) (n : ℕ) → length (map f (below n)) ≡ n
@@ -42,45 +42,21 @@ shaping_goes {i = i} shape places x here lt few room is =
 pub record Heading (heads : List Head) (before now : List ℕ) (i : ℕ) : Type 0 where
   pub long : length now ≡ length before
   pub uses : (t : ℕ) → t < i → get_or now (88 + t) 0 ≡ (get_or heads t no_head).uses
-  pub guards : (t : ℕ) → t < i → get_or now (120 + t) 0 ≡ (get_or heads t no_head).guard
+  pub guards : (t : ℕ) → t < i → get_or now (120 + t) 0 ≡ guard_number (get_or heads t no_head).guard
   pub front : (j : ℕ) → j < 88 → get_or now j 0 ≡ get_or before j 0
   pub back : (j : ℕ) → 152 ≤ j → get_or now j 0 ≡ get_or before j 0
 
 -- ---- the arcs
--- rows over slots that are the same, in entries that are the same
-pub packed_same : {shape : ℕ → ℕ} {slots others packed after : List ℕ} {places transitions : ℕ} → places ≤ 32 → transitions ≤ 32
-    → ((i : ℕ) → i < 3072 → get_or slots i 0 ≡ get_or others i 0) → ((i : ℕ) → i < 3072 → get_or after i 0 ≡ get_or packed i 0)
-    → Packed 32 shape slots packed places transitions → Packed 32 shape others after places transitions
-packed_same {shape = shape} {slots} {others} {packed} {after} {places} few few' same held packs = record {
-  row = λ t k lt of_three.
-      let b = t * 96 + k * 32 in
-      let here : (p : ℕ) → p < places → get_or slots (b + p) 0 ≡ get_or others (b + p) 0 = λ p less. same (b + p) (omega arith) in
-      record {
-        entries = λ i less far.
-            held (b + i) (omega arith) ∙ (packs.row t k lt of_three).entries i less (omega (arith, ap length (holding-same shape slots others b places here)))
-            ∙ ap (λ l. get_or l i 0) (entries-same shape slots others b places here);
-      };
+-- rows in entries that are the same
+pub packed_same : {shape : ℕ → ℕ} {slots packed after : List ℕ} {places transitions : ℕ} → places ≤ 32 → transitions ≤ 32 → ((i : ℕ) → i < 3072 → get_or after i 0 ≡ get_or packed i 0)
+    → Packed 32 shape slots packed places transitions → Packed 32 shape slots after places transitions
+packed_same few few' held packs = record {
+  row = λ t k lt of_three. record { entries = λ i less far. held (t * 96 + k * 32 + i) (omega arith) ∙ (packs.row t k lt of_three).entries i less far };
 }
 
 -- a part of 3,072 entries was lent and came back
-module _ (plan part rest : List ℕ) (room : length plan ≡ 3584) (long : length part ≡ 3072) where
-  pub part_at : (i : ℕ) → i < 3072 → get_or (drop 512 (take 512 plan ++ (part ++ rest))) i 0 ≡ get_or part i 0
-  part_at i lt = get_or-drop 512 (take 512 plan ++ (part ++ rest)) i 0 ∙ part_in plan part rest 512 i (omega arith) (omega arith)
-
-  pub part_kept : length (take 512 plan ++ (part ++ rest)) ≡ length plan → OthersKept 512 3072 plan (take 512 plan ++ (part ++ rest))
-  part_kept same = record {
-    front = λ i lt. part_before plan (part ++ rest) 512 i (omega arith) lt;
-    back = λ i le. get_or-eq_default (take 512 plan ++ (part ++ rest)) 0 (omega arith) ∙ sym (get_or-eq_default plan 0 (omega arith));
-  }
-
-pub whole_sized : (plan part : List ℕ) → length plan ≡ 3584 → length part ≡ 3072 → length (take 512 plan ++ (part ++ drop 3072 (drop 512 plan))) ≡ 3584
-whole_sized plan part room long =
-    omega (arith, length-append (take 512 plan) (part ++ drop 3072 (drop 512 plan)), length-append part (drop 3072 (drop 512 plan)), length-take-le 512 plan (omega arith), length-drop 512 plan, length-drop 3072 (drop 512 plan))
-
--- slots that are the same fit as well
-pub fits-same : (slots others : List ℕ) {places transitions : ℕ} → places ≤ 32 → transitions ≤ 32 → ((i : ℕ) → i < 3072 → get_or others i 0 ≡ get_or slots i 0)
-    → SlotsFit slots places transitions → SlotsFit others places transitions
-fits-same slots others few few' same fit t k lt of_three p less = omega (arith, same (t * 96 + k * 32 + p) (omega arith), fit t k lt of_three p less)
+pub part_at : (plan part rest : List ℕ) → length plan ≡ 3584 → length part ≡ 3072 → (i : ℕ) → i < 3072 → get_or (drop 512 (take 512 plan ++ (part ++ rest))) i 0 ≡ get_or part i 0
+part_at plan part rest room long i lt = get_or-drop 512 (take 512 plan ++ (part ++ rest)) i 0 ∙ part_in plan part rest 512 i (omega arith) (omega arith)
 
 -- each arc is told with what its place is like
 pub packed_told : {shape : ℕ → ℕ} {slots : List ℕ} {places transitions : ℕ} (plan : List ℕ) → places ≤ 32 → ((p : ℕ) → p < places → get_or (places_in plan) p 0 ≡ shape p)
@@ -146,46 +122,45 @@ lows from count values plan many room stands small =
 within : {most count entry : ℕ} → entry ≡ count → count ≤ most → count ≡ up_to most entry
 within {most} {count} is le = rw (is, le-leb count most le)
 
--- the slots of the arcs are kept while the lists and the places are written
-pub slots_kept : {sizes vars read first second : List ℕ} {heads : List Head} {transitions : ℕ} (arcs : List ℕ) (shape : ℕ → ℕ) (places : ℕ) → places ≤ 32 → ((i : ℕ) → i < 3072 → get_or (drop 512 read) i 0 ≡ get_or arcs i 0)
-    → ListsPlaced sizes vars heads transitions read first → Placed 56 (map shape (below places)) first second → (i : ℕ) → i < 3072 → get_or (drop 512 second) i 0 ≡ get_or arcs i 0
-slots_kept {read = read} {second = second} arcs shape places few stood lists placed i lt =
+-- the packed arcs are kept while the lists and the places are written
+pub part_stays : {sizes vars read first second : List ℕ} {heads : List Head} {transitions : ℕ} (part : List ℕ) (shape : ℕ → ℕ) (places : ℕ) → places ≤ 32 → ((i : ℕ) → i < 3072 → get_or (drop 512 read) i 0 ≡ get_or part i 0)
+    → ListsPlaced sizes vars heads transitions read first → Placed 56 (map shape (below places)) first second → (i : ℕ) → i < 3072 → get_or (drop 512 second) i 0 ≡ get_or part i 0
+part_stays {read = read} {second = second} part shape places few stood lists placed i lt =
     get_or-drop 512 second i 0 ∙ placed.kept.back (512 + i) (omega (arith, values_many shape places)) ∙ lists.behind (512 + i) (omega arith) ∙ sym (get_or-drop 512 read i 0) ∙ stood i lt
 
--- the lists were placed, then the places, then the arcs packed, then the counts placed
-module _ {s arcs initial : List ℕ} {t : Tables} {c : Counts} (held : NetHeld s t arcs initial c) (sized : length t.sizes ≡ 16) (many : length t.vars ≡ 32)
-    {read first second third plan : List ℕ} (long : length plan ≡ 3584) (stood : (i : ℕ) → i < 3072 → get_or (drop 512 read) i 0 ≡ get_or arcs i 0)
+-- the arcs were packed, then the lists were placed, the places, and the counts
+module _ {s part initial : List ℕ} {t : Tables} {c : Counts} (packed : ReadPacked s t part initial c) (sized : length t.sizes ≡ 16) (many : length t.vars ≡ 32)
+    {read first second plan : List ℕ} (long : length plan ≡ 3584) (stood : (i : ℕ) → i < 3072 → get_or (drop 512 read) i 0 ≡ get_or part i 0)
     (lists : ListsPlaced (take c.sets t.sizes) (take c.variables t.vars) t.heads c.transitions read first)
     (placed : Placed 56 (map (shape_in t.kinds t.starts) (below c.places)) first second)
-    (packs : Packed 32 (λ p. p) (drop 512 second) (drop 512 third) c.places c.transitions) (elsewhere : OthersKept 512 3072 second third)
-    (counts : Placed 0 (c.sets ∷ c.variables ∷ c.places ∷ c.total ∷ c.transitions ∷ c.space ∷ 1 ∷ []) third plan) where
+    (counts : Placed 0 (c.sets ∷ c.variables ∷ c.places ∷ c.total ∷ c.transitions ∷ c.space ∷ 1 ∷ []) second plan) where
   abbrev n : Net
-  n = held.value
+  n = packed.held.value
 
-  abbrev h : NetHolds s n t arcs initial c
-  h = held.holds
+  abbrev h : NetHolds s n t packed.slots initial c
+  h = packed.held.holds
 
   keeps : Limits n
-  keeps = limits s n held.read
+  keeps = limits s n packed.held.read
 
   -- what stands before the places, and between them and the arcs, is as the lists left it
   low_kept : (i : ℕ) → 7 ≤ i → i < 56 → get_or plan i 0 ≡ get_or first i 0
-  low_kept i le lt = counts.kept.back i le ∙ elsewhere.front i (omega arith) ∙ placed.kept.front i lt
+  low_kept i le lt = counts.kept.back i le ∙ placed.kept.front i lt
 
   high_kept : (i : ℕ) → 88 ≤ i → i < 512 → get_or plan i 0 ≡ get_or first i 0
-  high_kept i le lt = counts.kept.back i (omega arith) ∙ elsewhere.front i lt ∙ placed.kept.back i (omega (arith, values_many (shape_in t.kinds t.starts) c.places, h.started.few))
+  high_kept i le lt = counts.kept.back i (omega arith) ∙ placed.kept.back i (omega (arith, values_many (shape_in t.kinds t.starts) c.places, h.started.few))
 
   shape_at : (p : ℕ) → p < c.places → get_or (places_in plan) p 0 ≡ shape_in t.kinds t.starts p
   unfolding places_in
   shape_at p lt =
       let few = h.started.few in
-      get_or-drop 56 plan p 0 ∙ counts.kept.back (56 + p) (omega arith) ∙ elsewhere.front (56 + p) (omega arith) ∙ placed.values_are p (omega (arith, values_many (shape_in t.kinds t.starts) c.places))
+      get_or-drop 56 plan p 0 ∙ counts.kept.back (56 + p) (omega arith) ∙ placed.values_are p (omega (arith, values_many (shape_in t.kinds t.starts) c.places))
       ∙ get_d_below (shape_in t.kinds t.starts) c.places p lt
 
-  arcs_told : Packed 134217728 (shape_in t.kinds t.starts) arcs (packed_in plan) c.places c.transitions
+  arcs_told : Packed 134217728 (shape_in t.kinds t.starts) packed.slots (packed_in plan) c.places c.transitions
   arcs_told =
-      packed_told plan h.started.few shape_at
-      (packed_same h.started.few h.few_transitions (slots_kept arcs (shape_in t.kinds t.starts) c.places h.started.few stood lists placed) (λ i lt. get_or-drop 512 plan i 0 ∙ counts.kept.back (512 + i) (omega arith) ∙ sym (get_or-drop 512 third i 0)) packs)
+      packed_told plan h.started.few shape_at (packed_same h.started.few h.few_transitions
+      (λ i lt. get_or-drop 512 plan i 0 ∙ counts.kept.back (512 + i) (omega arith) ∙ sym (get_or-drop 512 second i 0) ∙ part_stays part (shape_in t.kinds t.starts) c.places h.started.few stood lists placed i lt) packed.packs)
 
   count_is : (i : ℕ) → i < 7 → get_or plan (0 + i) 0 ≡ get_or (c.sets ∷ c.variables ∷ c.places ∷ c.total ∷ c.transitions ∷ c.space ∷ 1 ∷ []) i 0
   count_is i lt = counts.values_are i lt
@@ -214,7 +189,7 @@ module _ {s arcs initial : List ℕ} {t : Tables} {c : Counts} (held : NetHeld s
   few : length n.transitions ≤ 32
   few = omega (arith, h.transitions_are, h.few_transitions)
 
-  guard_is : (u : ℕ) → u < length n.transitions → get_or (guards_in plan) u 0 ≡ (get_or t.heads u no_head).guard
+  guard_is : (u : ℕ) → u < length n.transitions → get_or (guards_in plan) u 0 ≡ guard_number (get_or t.heads u no_head).guard
   guard_is u lt = guard_at plan u ∙ high_kept (120 + u) (omega arith) (omega (arith, few)) ∙ lists.guards u (omega (arith, few))
 
   drawn_there : Drawing s n (sets_in plan) (variables_in plan) (guards_in plan) (packed_in plan)
@@ -229,7 +204,7 @@ module _ {s arcs initial : List ℕ} {t : Tables} {c : Counts} (held : NetHeld s
   readied = record {
     value = n;
     prepared = record {
-      read = held.read;
+      read = packed.held.read;
       drawing = drawn_there;
       owned = record {
         slot = λ u k lt less. own_at plan (u * 4 + k) ∙ high_kept (152 + (u * 4 + k)) (omega arith) (omega (arith, few)) ∙ sym (own_at first (u * 4 + k)) ∙ owned.slot u k lt less;

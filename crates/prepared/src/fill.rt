@@ -1,9 +1,9 @@
 // Reads a net file and fills the one table of its net.
-ghost use Rattle.std.specs.Prelude.{◌≡◌, [], ◌∷◌, map, ◌≤◌, ◌<◌, length, take, drop};
+ghost use Rattle.std.specs.Prelude.{◌≡◌, [], ◌∷◌, map, ◌≤◌, ◌<◌, length, take};
 ghost use Rattle.reading.specs.Basics.{below};
-ghost use Rattle.plan.specs.internal.Layout.{OthersKept, Placed};
-ghost use Rattle.prepared.specs.internal.Packed.{shape_in, Packed, SlotsFit};
-ghost use Rattle.prepared.specs.internal.Filled.{HeadsPlaced, ListsPlaced, PreparedTold};
+ghost use Rattle.plan.specs.internal.Layout.{Placed};
+ghost use Rattle.prepared.specs.internal.Packed.{shape_in};
+ghost use Rattle.prepared.specs.internal.Filled.{HeadsPlaced, ListsPlaced, PackedTold, PreparedTold};
 
 use crate::own::list_variables;
 use crate::pack::{pack_arcs, shape_of};
@@ -14,8 +14,8 @@ use plan::place_list;
 use reading::Refusal;
 
 // The counts, and the edition.
-fn place_counts(counts: &Counts, plan: &mut [u32])
-    requires { (counts.now.sets < 4294967296) × (counts.now.variables < 4294967296) × (counts.now.places < 4294967296) × (counts.now.total < 4294967296) × (counts.now.transitions < 4294967296) × (counts.now.space < 4294967296) × (length plan.old ≡ 3584) }
+fn place_counts(counts: &Counts, plan: &mut [u32; 3584])
+    requires { (counts.now.sets < 4294967296) × (counts.now.variables < 4294967296) × (counts.now.places < 4294967296) × (counts.now.total < 4294967296) × (counts.now.transitions < 4294967296) × (counts.now.space < 4294967296) }
     ensures { Placed 0 (counts.now.sets ∷ counts.now.variables ∷ counts.now.places ∷ counts.now.total ∷ counts.now.transitions ∷ counts.now.space ∷ 1 ∷ []) plan.old plan.new }
 {
     let list = [
@@ -31,19 +31,19 @@ fn place_counts(counts: &Counts, plan: &mut [u32])
 }
 
 // Of each transition its variables, as bits, and where its guard stands.
-fn place_heads(heads: &[Head; 32], plan: &mut [u32])
-    requires { length plan.old ≡ 3584 }
+fn place_heads(heads: &[Head; 32], plan: &mut [u32; 3584])
     ensures { HeadsPlaced heads.now plan.old plan.new }
 {
     for (t, head) in heads.iter().enumerate() {
         plan[88 + t] = head.uses;
-        plan[120 + t] = u32::from(head.guard);
+        // The table is fixed memory of numbers: 0 where there is no guard.
+        plan[120 + t] = u32::from(head.guard.unwrap_or(0));
     }
 }
 
 // Sets and variables, and of each transition its variables, as bits and one by one, and where its guard stands.
-fn place_lists(net: &[u8], tables: &Tables, counts: &Counts, plan: &mut [u32])
-    requires { (counts.now.sets ≤ 16) × (counts.now.variables ≤ 32) × (counts.now.transitions ≤ 32) × (length plan.old ≡ 3584) }
+fn place_lists(net: &[u8], tables: &Tables, counts: &Counts, plan: &mut [u32; 3584])
+    requires { (counts.now.sets ≤ 16) × (counts.now.variables ≤ 32) × (counts.now.transitions ≤ 32) }
     ensures placed { ListsPlaced (take counts.now.sets tables.now.sizes) (take counts.now.variables tables.now.vars) tables.now.heads counts.now.transitions plan.old plan.new }
     ensures long { (length tables.now.sizes ≡ 16) × (length tables.now.vars ≡ 32) }
 {
@@ -60,8 +60,8 @@ fn place_lists(net: &[u8], tables: &Tables, counts: &Counts, plan: &mut [u32])
 }
 
 // What each place is like.
-fn place_shapes(tables: &Tables, places: usize, plan: &mut [u32])
-    requires { (places ≤ 32) × (length plan.old ≡ 3584) }
+fn place_shapes(tables: &Tables, places: usize, plan: &mut [u32; 3584])
+    requires { places ≤ 32 }
     ensures { Placed 56 (map (shape_in tables.now.kinds tables.now.starts) (below places)) plan.old plan.new }
 {
     for p in 0..places {
@@ -69,32 +69,37 @@ fn place_shapes(tables: &Tables, places: usize, plan: &mut [u32])
     }
 }
 
-// The arcs, which the reader left in their part, packed there.
-fn pack_part(places: usize, transitions: usize, plan: &mut [u32])
-    requires { (places ≤ 32) × (transitions ≤ 32) × (length plan.old ≡ 3584) × SlotsFit (drop 512 plan.old) places transitions }
-    ensures packed { Packed 32 (λ p. p) (drop 512 plan.old) (drop 512 plan.new) places transitions }
-    ensures kept { OthersKept 512 3072 plan.old plan.new }
+// Reads a net file into tables, and its arcs into a part of its table, where they are packed then.
+// The part comes as a slice: lent as an array at once, it would not be known what the whole table ends as.
+fn read_packed(
+    net: &[u8],
+    tables: &mut Tables,
+    part: &mut [u32],
+    initial: &mut [u16],
+) -> Result<Counts, Refusal>
+    requires { length part.old ≡ 3072 }
+    ensures { PackedTold net.now tables.new part.new initial.new result }
 {
-    pack_arcs(places, transitions, &mut plan[512..3584]);
-}
-
-// Reads a net file into its table; the reader writes the arcs where they stay.
-fn fill(net: &[u8], plan: &mut [u32], initial: &mut [u16]) -> Result<(), Refusal>
-    requires { length plan.old ≡ 3584 }
-    ensures { PreparedTold net.now plan.new initial.new result }
-{
-    let mut tables = Tables::new();
-    let counts = read_net(net, &mut tables, &mut plan[512..3584], initial)?;
-    place_lists(net, &tables, &counts, plan);
-    place_shapes(&tables, counts.places, plan);
-    pack_part(counts.places, counts.transitions, plan);
-    place_counts(&counts, plan);
-    Ok(())
+    let Some(arcs) = part.as_mut_array() else {
+        unreachable!()
+    };
+    let counts = read_net(net, tables, arcs, initial)?;
+    pack_arcs(counts.places, counts.transitions, arcs);
+    Ok(counts)
 }
 
 // Reads a net file into its table, and its initial counts into a list, as far as it reaches.
-pub fn prepare(net: &[u8], plan: &mut [u32; 3584], initial: &mut [u16]) -> Result<(), Refusal>
+pub(crate) fn prepare(
+    net: &[u8],
+    plan: &mut [u32; 3584],
+    initial: &mut [u16],
+) -> Result<(), Refusal>
     ensures { PreparedTold net.now plan.new initial.new result }
 {
-    fill(net, plan, initial)
+    let mut tables = Tables::new();
+    let counts = read_packed(net, &mut tables, &mut plan[512..], initial)?;
+    place_lists(net, &tables, &counts, plan);
+    place_shapes(&tables, counts.places, plan);
+    place_counts(&counts, plan);
+    Ok(())
 }

@@ -8,5 +8,4 @@ mod pack;
 mod transition;
 
 pub use drawing::Drawing;
-pub use fill::prepare;
 pub use transition::Transition;

@@ -30,8 +30,8 @@ pub fn shape_of(tables: &Tables, p: usize) -> u32
 }
 
 // Puts the entry of a place at `end`, if its slot holds an arc: where the next one goes.
-fn pack_place(slot: u32, p: usize, arcs: &mut [u32], end: usize) -> usize
-    requires { (slot < 134217728) × (p < 32) × (end < length arcs.old) }
+fn pack_place(slot: u32, p: usize, arcs: &mut [u32; 3072], end: usize) -> usize
+    requires { (slot < 134217728) × (p < 32) × (end < 3072) }
     ensures is { EntryPut slot p arcs.old end arcs.new result }
     ensures small { result ≤ end + 1 }
 {
@@ -43,8 +43,8 @@ fn pack_place(slot: u32, p: usize, arcs: &mut [u32], end: usize) -> usize
 }
 
 // Packs the row of slots that begins at base, a 0 behind its last entry where there is room in the row.
-fn pack_row(base: usize, places: usize, arcs: &mut [u32])
-    requires { (places ≤ 32) × (base ≤ 3040) × (length arcs.old ≡ 3072) × RowFits arcs.old places base }
+fn pack_row(base: usize, places: usize, arcs: &mut [u32; 3072])
+    requires { (places ≤ 32) × (base ≤ 3040) × RowFits arcs.old places base }
     ensures front { take base arcs.new ≡ take base arcs.old }
     ensures is { RowPacked 32 (λ p. p) arcs.old places base arcs.new }
     ensures back { (j : ℕ) → base + 32 ≤ j → get_or arcs.new j 0 ≡ get_or arcs.old j 0 }
@@ -59,8 +59,8 @@ fn pack_row(base: usize, places: usize, arcs: &mut [u32])
 }
 
 // Packs the rows of so many transitions, three each, where they stand.
-pub fn pack_arcs(places: usize, transitions: usize, arcs: &mut [u32])
-    requires { (places ≤ 32) × (transitions ≤ 32) × (length arcs.old ≡ 3072) × SlotsFit arcs.old places transitions }
+pub fn pack_arcs(places: usize, transitions: usize, arcs: &mut [u32; 3072])
+    requires { (places ≤ 32) × (transitions ≤ 32) × SlotsFit arcs.old places transitions }
     ensures { Packed 32 (λ p. p) arcs.old arcs.new places transitions }
 {
     for row in 0..transitions * 3 {

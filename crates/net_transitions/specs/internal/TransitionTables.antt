@@ -84,16 +84,16 @@ ArcsRoom len start (Ok r) = (start ≤ r.next) × (start ≤ len → r.next ≤ 
 ArcsRoom len start (Err r) = Unit {0}
 
 -- ---- transitions
--- where a guard stands: 0 without one
-abbrev pub guard_place : List ℕ → ℕ → ℕ
-guard_place s at = if eqb (byte_at s at) 0x15 then at + 1 else 0
+-- where a guard stands, if there is one
+abbrev pub guard_place : List ℕ → ℕ → std.Option ℕ
+guard_place s at = if eqb (byte_at s at) 0x15 then std.Some (at + 1) else std.None
 
-pub record GuardHolds (s : List ℕ) (n : Net) (guard : Guard) (at : ℕ) : Type 0 where
-  pub without : at ≡ 0 → guard ≡ always
-  pub stands : 0 < at → Standing (read_guard s n 16) guard at
+abbrev pub GuardHolds : List ℕ → Net → Guard → std.Option ℕ → Type 0
+GuardHolds s n guard std.None = guard ≡ always
+GuardHolds s n guard (std.Some at) = (0 < at) × Standing (read_guard s n 16) guard at
 
 -- what the tables hold of a transition: where its guard and its arcs stand, and its variables, four at most
-pub record TransitionHolds (s : List ℕ) (n : Net) (t : Transition) (guard uses : ℕ) (slot : ℕ → ℕ) : Type 0 where
+pub record TransitionHolds (s : List ℕ) (n : Net) (t : Transition) (guard : std.Option ℕ) (uses : ℕ) (slot : ℕ → ℕ) : Type 0 where
   pub guarded : GuardHolds s n t.guard guard
   pub arced : RowHolds s n t.arcs slot
   pub used : uses ≡ bits (λ v. in_transition v t) 32
@@ -117,7 +117,7 @@ inside s n transitions at next =
     ended s n transitions at (record { guard = guard; arcs = arcs }) end
 
 -- a step of the transition part, as x, and what the code tells of it
-pub record TransitionRead (s : List ℕ) (n : Net) (transitions : List Transition) (x : Option (Answer (List Transition))) (slot : ℕ → ℕ) (guard uses space next : ℕ) : Type 0 where
+pub record TransitionRead (s : List ℕ) (n : Net) (transitions : List Transition) (x : Option (Answer (List Transition))) (slot : ℕ → ℕ) (guard : std.Option ℕ) (uses space next : ℕ) : Type 0 where
   pub transition : Transition
   pub goes : x ≡ some (fine (with transitions transition) next)
   pub holds : TransitionHolds s n transition guard uses slot
@@ -148,7 +148,7 @@ TransitionFew count (Err r) = Unit {0}
 
 -- the one past the end of the table of heads
 abbrev pub no_head : Head
-no_head = record { uses = 0; guard = 0 }
+no_head = record { uses = 0; guard = std.None }
 
 -- what the tables hold of each transition: its variables, where its guard stands, and its row of 96 slots
 abbrev pub TransitionsHold : List ℕ → Net → List Transition → List Head → List ℕ → Type 0

@@ -16,7 +16,7 @@ joined-returns-in-Minus-clause-is t c places =
 
 pub multiplied-returns-clause-is : goal.multiplied-returns-clause-is
 multiplied-returns-clause-is t c places =
-    c.capped.ensures.is ∙ rw c.word_at-factor.ensures.0 (times_whole _ _ _ _ _ _ _ (c.in_ok-e.ensures.is places))
+    c.capped.ensures.is ∙ rw c.from.ensures (times_whole _ _ _ _ _ _ _ (c.in_ok-e.ensures.is places))
 
 pub read_expression-returns-then-scope-at-clause-is : goal.read_expression-returns-then-scope-at-clause-is
 read_expression-returns-then-scope-at-clause-is t c places = c.refused.ensures ∙ expression_past _ _ _ _ _ c.if-scope-at.true
@@ -37,7 +37,7 @@ read_expression-returns-then-left-eq0-clause-is t c places =
 
 pub read_expression-returns-in-64-clause-is : goal.read_expression-returns-in-64-clause-is
 read_expression-returns-in-64-clause-is t c places =
-    c.amount_at.ensures.is places ∙ amount_goes _ _ _ _ _ c.after-next.ensures (omega arith) (omega arith) c.in-64.is
+    c.amount_at.ensures.is places ∙ rw c.word_at-count.ensures.0 (amount_goes _ _ _ _ _ c.after-next.ensures (omega arith) (omega arith) c.in-64.is)
 
 pub read_expression-returns-in-65-clause-is : goal.read_expression-returns-in-65-clause-is
 unfolding bits ceiling in_expression
@@ -54,4 +54,4 @@ read_expression-returns-in-67-clause-is t c places =
 
 pub read_expression-returns-in_default-clause-is : goal.read_expression-returns-in_default-clause-is
 read_expression-returns-in_default-clause-is t c places =
-    c.multiplied.ensures.is places ∙ times_goes _ _ _ _ _ c.after-next.ensures (omega arith) (omega arith) (omega arith)
+    c.multiplied.ensures.is places ∙ rw c.word_at-factor.ensures.0 (times_goes _ _ _ _ _ c.after-next.ensures (omega arith) (omega arith) (omega arith))

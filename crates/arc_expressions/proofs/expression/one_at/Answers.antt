@@ -7,4 +7,4 @@ returns-then-k-from-clause-is c places =
     c.refused.ensures ∙ one_fails _ _ _ _ _ _ _ (c.in_ok-k.ensures places) (λ e. c.if-k-from.true (omega arith))
 
 pub returns-clause-is : goal.returns-clause-is
-returns-clause-is c places = one_whole _ _ _ _ _ _ _ (c.in_ok-k.ensures places) (omega arith)
+returns-clause-is c places = rw c.from-2.ensures (one_whole _ _ _ _ _ _ _ (c.in_ok-k.ensures places) (omega arith))

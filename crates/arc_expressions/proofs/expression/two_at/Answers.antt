@@ -10,4 +10,4 @@ returns-then-a-from-clause-is c places = c.refused.ensures ∙ elim c.then-a-fro
 ]
 
 pub returns-clause-is : goal.returns-clause-is
-returns-clause-is c places = two_whole _ _ _ _ _ _ _ _ (c.in_ok-a.ensures places) (c.in_ok-b.ensures places) (omega arith) (omega arith)
+returns-clause-is c places = rw c.from-2.ensures (two_whole _ _ _ _ _ _ _ _ (c.in_ok-a.ensures places) (c.in_ok-b.ensures places) (omega arith) (omega arith))

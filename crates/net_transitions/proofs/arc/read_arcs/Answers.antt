@@ -1,10 +1,11 @@
+use Rattle.std.proofs.Common.{arith}
 use Rattle.std.proofs.lemmas.Result.{err_from_is_err_and}
 use Rattle.net_parts.proofs.Placing.{length_places}
 use Rattle.net_transitions.proofs.Arcing.{arcing_begins, arcing_goes, arcing_ends, arcing_stops}
 use Rattle.net_transitions.proofs.arc.read_arcs.Goals as goal
 
 pub loop-arc-init : goal.loop-arc-init
-loop-arc-init c = arcing_begins _ _ _ (c.fill.ensures.after (λ y h. h)) c.requires.row_len (rw length_places c.args.ground.now.few_places)
+loop-arc-init c = arcing_begins _ _ _ (c.fill.ensures.after (λ y h. h)) (omega arith) (rw length_places c.args.ground.now.few_places)
 
 pub returns-in_err-arc-clause-is : goal.returns-in_err-arc-clause-is
 returns-in_err-arc-clause-is c =

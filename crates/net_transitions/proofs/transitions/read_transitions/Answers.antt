@@ -1,4 +1,3 @@
-use Rattle.std.proofs.Common.{◌∙◌}
 use Rattle.std.proofs.lemmas.Result.{err_from_is_err_and}
 use Rattle.net_parts.proofs.Placing.{length_places}
 use Rattle.net_transitions.proofs.Passing.{passing_goes, passing_ends, passing_stops}
@@ -11,7 +10,7 @@ returns-in_err-t c =
 
 pub loop-t-preserved : goal.loop-t-preserved
 loop-t-preserved c =
-    passing_goes c.loop-t.invariant c.transition_at.new.arcs c.transition_at.ensures.kept (rw length_places c.requires.kinds_len_bound) (c.transition_at.auto.arcs ∙ c.loop-t.invariant.arcs_sized)
+    passing_goes c.loop-t.invariant c.transition_at.new.arcs c.transition_at.ensures.kept (rw length_places c.requires.kinds_len_bound)
     (rw c.in-Some.is at c.in_ok-t.ensures.is) (rw c.in-Some.is at c.in_ok-t.ensures.room) (rw c.in-Some.is at c.in_ok-t.ensures.few)
 
 pub returns : goal.returns

@@ -6,4 +6,4 @@ pub returns-then-slot-lt1 : goal.returns-then-slot-lt1
 returns-then-slot-lt1 c = record { is = put_none _ _ _ _ c.if-slot-lt1.true; small = omega arith }
 
 pub returns : goal.returns
-returns c = record { is = put_one _ _ _ _ (omega (arith, c.if-slot-lt1.false)) c.requires.2; small = omega arith }
+returns c = record { is = put_one _ _ _ _ (omega (arith, c.if-slot-lt1.false)) (omega (arith, c.requires.2, c.told-arcs)); small = omega arith }
