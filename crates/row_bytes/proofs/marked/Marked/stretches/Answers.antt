@@ -4,4 +4,4 @@ use Rattle.row_numbers.proofs.Tabled.{entries_begin}
 use Rattle.row_bytes.proofs.marked.Marked.stretches.Goals as goal
 
 pub invariant_of-result : goal.invariant_of-result
-invariant_of-result c = record { few = omega arith; begins = entries_begin (net_of c.args.self.drawing.now) c.args.self.drawing.now.plan }
+invariant_of-result g c = record { few = omega arith; begins = entries_begin (net_of c.args.self.drawing.now) c.args.self.drawing.now.plan }
