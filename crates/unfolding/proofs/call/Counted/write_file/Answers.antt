@@ -3,8 +3,8 @@ use Rattle.flat_file.proofs.Appending.{next_places}
 use Rattle.unfolding.proofs.Unfolds.{ruled, file_written, has_space, call_short, call_whole}
 use Rattle.unfolding.proofs.call.Counted.write_file.Goals as goal
 
-pub invariant_of-net : goal.invariant_of-net
-invariant_of-net g c = record { ruled = ruled c.mark_all.ensures; roomy = c.args.self.roomy }
+pub invariant_of-net-clause-ruled : goal.invariant_of-net-clause-ruled
+invariant_of-net-clause-ruled g c = ruled c.mark_all.ensures
 
 pub returns-then-not-fits : goal.returns-then-not-fits
 returns-then-not-fits g c = rw c.refused.ensures (call_short c.initial_counts-initial.ensures.known c.initial_counts-initial.ensures.is c.args.out.now c.fits.ensures c.if-not-fits.true)
