@@ -17,7 +17,7 @@ use Rattle.bindings.specs.Effect.{Binding, choices, bindings, effect, flat_row}
 use Rattle.bindings.specs.internal.Numbers.{digits}
 use Rattle.bindings.specs.internal.Bindings.{numbered, its_sizes, its_binding, BindsIts}
 use Rattle.bindings.specs.internal.Legal.{every_row}
-use Rattle.rows.specs.internal.Effects.{RowLoaded}
+use Rattle.rows.specs.internal.Effects.{room, RowLoaded}
 use Rattle.rows.specs.internal.Loading.{LoadsRow}
 use Rattle.prepared.specs.internal.Drawn.{Drawn, net_of, DrawnTransition, drawn_transition, its_net, IsDrawn}
 use Rattle.net_file.specs.Limits.{Limits}
@@ -28,7 +28,7 @@ use Rattle.reading.proofs.Lists.{flat_flat}
 use Rattle.row_numbers.specs.Unfolding.{Rowed, rows, unfolded}
 use Rattle.row_numbers.specs.internal.Walked.{takes_effect, its_every_row, it_takes, entries_at, entries}
 use Rattle.row_numbers.specs.internal.Marks.{mark_at, has_row}
-use Rattle.row_bytes.specs.internal.RowBytes.{binding_bytes, transition_bytes, bytes_at, its_bytes, Ruled, Known, Bound, Roomy}
+use Rattle.row_bytes.specs.internal.RowBytes.{binding_bytes, transition_bytes, bytes_at, its_bytes, Ruled, Known, Bound}
 use Rattle.row_bytes.specs.internal.StretchSteps.{Told}
 use Rattle.row_bytes.specs.declared.stretch.Stretch.{Stretch}
 use Rattle.std.specs.Prelude.{Some, None}
@@ -115,7 +115,7 @@ no_effect n t i e = go (effect n (numbered n t i)) e
 
 -- its row was loaded
 module _ {transition : DrawnTransition} (limits : Limits (its_net transition)) {env : List ℕ} (it : Bound transition env) (list list' : List Arc) {r : Ends}
-    (told : LoadsRow transition.drawing.file (its_net transition) env transition.number list list' r) (p : Roomy transition.drawing list) where
+    (told : LoadsRow transition.drawing.file (its_net transition) env transition.number list list' r) (p : room transition.drawing.file (net_of transition.drawing) ≤ length list) where
   pub row_here : RowLoaded (its_net transition) (its_binding transition it.index) list' r.takes r.puts r.hinders
   row_here = told (digits (its_sizes transition) it.index) it.binds p
 
@@ -228,13 +228,13 @@ module _ {drawing : Drawn} {marks counts : List ℕ} (ready : IsDrawn drawing.fi
       omega (arith, from, entries_next (net_of drawing) drawing.plan t)
 
 -- going over them: one was told, or none is left
-module _ {drawing left : Drawn} (same : left ≡ drawing) {t : ℕ} {left' : Drawn} {t' : ℕ} where
-  module _ {those : Stretch} (told : Told left t (Some those) left' t') where
+module _ {arcs : ℕ} {drawing left : Drawn} (same : left ≡ drawing) {t : ℕ} {left' : Drawn} {t' : ℕ} where
+  module _ {those : Stretch arcs} (told : Told left t (Some those) left' t') where
     pub those_here : t < length (net_of drawing).transitions
     those_here = rw same at told.stretch.0
 
     pub those_given : its_bytes those.transition ≡ transition_bytes (net_of drawing) t
     those_given = rw (told.stretch.1, same)
 
-  pub none_left : Told left t None left' t' → length (net_of drawing).transitions ≤ t
+  pub none_left : Told {arcs = arcs} left t None left' t' → length (net_of drawing).transitions ≤ t
   none_left told = rw same at told.stretch

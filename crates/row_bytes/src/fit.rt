@@ -2,13 +2,13 @@
 ghost use Rattle.std.specs.Prelude.{◌≡◌, ◌+◌, ◌*◌, ◌≤◌, length, leb};
 ghost use Rattle.net.specs.Net.{flat_place_count};
 ghost use Rattle.prepared.specs.internal.Drawn.{net_of};
-ghost use Rattle.row_bytes.specs.internal.RowBytes.{all_bytes, Roomy};
+ghost use Rattle.row_bytes.specs.internal.RowBytes.{all_bytes};
 
 use crate::marked::Marked;
 use firing::Arc;
 use row_lengths::most_row;
 
-impl Marked<'_> {
+impl<const ARCS: usize> Marked<'_, ARCS> {
     // How many bytes the rows of all transitions take at most. No row is loaded for it.
     fn bound_all(&self) -> usize
         ensures is { length (all_bytes (net_of self.now.drawing.now)) ≤ result }
@@ -28,8 +28,7 @@ impl Marked<'_> {
     }
 
     // Whether a flat file with its rows fits into so many bytes.
-    pub fn fits(&self, arcs: &mut [Arc], size: usize) -> bool
-        requires { Roomy self.now.drawing.now arcs.old }
+    pub fn fits(&self, arcs: &mut [Arc; ARCS], size: usize) -> bool
         ensures { result ≡ leb (3 + 3 * flat_place_count (net_of self.now.drawing.now) + length (all_bytes (net_of self.now.drawing.now))) size }
     {
         let front = 3 + 3 * self.drawing.flat_places();

@@ -3,7 +3,7 @@ ghost use Rattle.std.specs.Prelude.{◌≡◌, ◌+◌, ◌≤◌, ◌<◌, leng
 ghost use Rattle.prepared.specs.internal.Drawn.{net_of};
 ghost use Rattle.bindings.specs.internal.Bindings.{BindsIts};
 ghost use Rattle.flat_file.specs.internal.Output.{Appended};
-ghost use Rattle.row_bytes.specs.internal.RowBytes.{bytes_at, its_bytes, all_bytes, Bound, Roomy};
+ghost use Rattle.row_bytes.specs.internal.RowBytes.{bytes_at, its_bytes, all_bytes, Bound};
 
 use crate::marked::Marked;
 use crate::stretch::Stretch;
@@ -13,12 +13,11 @@ use flat_file::write_row;
 use row_numbers::{has_none, has_row};
 use rows::load_row;
 
-impl Stretch<'_> {
+impl<const ARCS: usize> Stretch<'_, ARCS> {
     // How many bytes binding number i gives: those of its row, if it has one.
-    fn measure_one(&self, env: &[u8; 32], i: usize, arcs: &mut [Arc]) -> usize
+    fn measure_one(&self, env: &[u8; 32], i: usize, arcs: &mut [Arc; ARCS]) -> usize
         requires inside { i < self.now.many }
         requires binds { BindsIts self.now.transition i env.now }
-        requires roomy { Roomy self.now.transition.drawing arcs.old }
         ensures is { result ≡ length (bytes_at self.now.transition i) }
         ensures small { result ≤ 61441 }
     {
@@ -30,8 +29,7 @@ impl Stretch<'_> {
     }
 
     // How many bytes all of them give.
-    fn measure_bindings(&self, arcs: &mut [Arc]) -> usize
-        requires roomy { Roomy self.now.transition.drawing arcs.old }
+    fn measure_bindings(&self, arcs: &mut [Arc; ARCS]) -> usize
         ensures is { result ≡ length (its_bytes self.now.transition) }
         ensures small { result ≤ 4026597376 }
     {
@@ -45,9 +43,14 @@ impl Stretch<'_> {
     }
 
     // Writes the row of a binding that has one.
-    fn write_bound(&self, env: &[u8; 32], arcs: &mut [Arc], out: &mut [u8], at: usize) -> usize
-        requires roomy { Roomy self.now.transition.drawing arcs.old }
-        requires index_in_bounds { (h : Bound self.now.transition env.now) × (at + length (bytes_at self.now.transition h.index) ≤ length out.old) }
+    fn write_bound(
+        &self,
+        env: &[u8; 32],
+        arcs: &mut [Arc; ARCS],
+        out: &mut [u8],
+        at: usize,
+    ) -> usize
+        requires { (h : Bound self.now.transition env.now) × (at + length (bytes_at self.now.transition h.index) ≤ length out.old) }
         ensures { (h : Bound self.now.transition env.now) → Appended out.old out.new at result (bytes_at self.now.transition h.index) }
     {
         let ends = load_row(&self.transition, env, arcs);
@@ -56,9 +59,8 @@ impl Stretch<'_> {
 
     // Writes the rows of all of them. Where a word of their marks is 0, it passes over 32 at once:
     // a while, since it goes on by 32 or by one.
-    fn write_bindings(&self, arcs: &mut [Arc], out: &mut [u8], at: usize) -> usize
-        requires roomy { Roomy self.now.transition.drawing arcs.old }
-        requires many_in_bounds { at + length (its_bytes self.now.transition) ≤ length out.old }
+    fn write_bindings(&self, arcs: &mut [Arc; ARCS], out: &mut [u8], at: usize) -> usize
+        requires { at + length (its_bytes self.now.transition) ≤ length out.old }
         ensures { Appended out.old out.new at result (its_bytes self.now.transition) }
     {
         let Stretch {
@@ -87,10 +89,9 @@ impl Stretch<'_> {
     }
 }
 
-impl Marked<'_> {
+impl<const ARCS: usize> Marked<'_, ARCS> {
     // How many bytes the rows of all transitions take.
-    pub(crate) fn measure_all(&self, arcs: &mut [Arc]) -> usize
-        requires { Roomy self.now.drawing.now arcs.old }
+    pub(crate) fn measure_all(&self, arcs: &mut [Arc; ARCS]) -> usize
         ensures is { result ≡ length (all_bytes (net_of self.now.drawing.now)) }
         ensures small { result ≤ 128851116032 }
     {
@@ -102,9 +103,8 @@ impl Marked<'_> {
     }
 
     // Writes the rows of all transitions.
-    pub fn write_all(&self, arcs: &mut [Arc], out: &mut [u8], at: usize) -> usize
-        requires roomy { Roomy self.now.drawing.now arcs.old }
-        requires net_in_bounds { at + length (all_bytes (net_of self.now.drawing.now)) ≤ length out.old }
+    pub fn write_all(&self, arcs: &mut [Arc; ARCS], out: &mut [u8], at: usize) -> usize
+        requires { at + length (all_bytes (net_of self.now.drawing.now)) ≤ length out.old }
         ensures { Appended out.old out.new at result (all_bytes (net_of self.now.drawing.now)) }
     {
         let mut next = at;

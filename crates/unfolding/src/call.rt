@@ -2,7 +2,6 @@
 ghost use Rattle.std.specs.Prelude.{◌≡◌, ◌≤◌, length};
 ghost use Rattle.prepared.specs.internal.Drawn.{net_of, IsDrawn};
 ghost use Rattle.prepared.specs.internal.Prepared.{InitialCounts};
-ghost use Rattle.rows.specs.internal.Effects.{room};
 ghost use Rattle.row_numbers.specs.Unfolding.{unfolded, unfold_call};
 ghost use Rattle.row_bytes.specs.internal.RowBytes.{Roomy};
 ghost use Rattle.unfolding.specs.Replies.{unfold_called};
@@ -15,16 +14,18 @@ use row_bytes::Marked;
 use row_numbers::mark_all;
 use rows::{is_small, most_slots};
 
-// A net that was read, and a list whose front has the initial counts of its flat places.
+// A net that was read, and a list whose front has the initial counts of its flat places. A list of so many arcs has room for each row.
 #[derive(Clone, Copy)]
-struct Counted<'a> {
+struct Counted<'a, const ARCS: usize> {
     drawing: &'a Drawing<'a>,
     initial: &'a [u16],
     ghost long: { length initial.now ≡ 4096 },
     ghost counts: { InitialCounts (net_of drawing.now) initial.now },
+    ghost few: { ARCS ≤ 20480 },
+    ghost roomy: { Roomy drawing.now ARCS },
 }
 
-impl<'a> Counted<'a> {
+impl<'a, const ARCS: usize> Counted<'a, ARCS> {
     // The initial counts of its flat places.
     fn initial_counts(&self) -> &'a [u16]
         ensures is { result.now ≡ (unfolded (net_of self.now.drawing.now)).initial }
@@ -33,9 +34,8 @@ impl<'a> Counted<'a> {
         &self.initial[..self.drawing.flat_places()]
     }
 
-    // Writes its flat file, if there is space for it, with a list lent for a row's arcs.
-    fn write_with(self, arcs: &mut [Arc], out: &mut [u8]) -> Result<usize, Refusal>
-        requires { Roomy self.drawing.now arcs.old }
+    // Writes its flat file, if there is space for it.
+    fn write_file(self, out: &mut [u8]) -> Result<usize, Refusal>
         ensures { unfold_called result out.new ≡ unfold_call self.entry.drawing.now.file out.old }
     {
         let drawing = self.drawing;
@@ -43,31 +43,22 @@ impl<'a> Counted<'a> {
         let mut marks = [0u32; 2048];
         let mut counts = [0usize; 32];
         mark_all(drawing, &mut marks, &mut counts);
-        let net = Marked {
+        let net = Marked::<ARCS> {
             drawing,
             marks: &marks,
             counts: &counts,
         };
-        if !net.fits(arcs, out.len()) {
+        let mut arcs = [Arc::default(); ARCS];
+        if !net.fits(&mut arcs, out.len()) {
             return refused(Reason::NoSpace, 0);
         }
         let mut next = write_head(out, 0);
         next = write_places(initial, out, next);
-        next = net.write_all(arcs, out, next);
+        next = net.write_all(&mut arcs, out, next);
         Ok(write_end(out, next))
     }
 
-    // With a list of so many arcs, which has room for each of its rows.
-    fn write_in<const ARCS: usize>(self, out: &mut [u8]) -> Result<usize, Refusal>
-        requires few { ARCS ≤ 20480 }
-        requires roomy { room self.drawing.now.file (net_of self.drawing.now) ≤ ARCS }
-        ensures { unfold_called result out.new ≡ unfold_call self.entry.drawing.now.file out.old }
-    {
-        let mut arcs = [Arc::default(); ARCS];
-        self.write_with(&mut arcs, out)
-    }
-
-    // With room for every net. Kept apart (once_more).
+    // The same, with a large list. Kept apart (once_more).
     #[inline(never)]
     fn write_large(self, out: &mut [u8], again: bool) -> Result<usize, Refusal>
         ensures { unfold_called result out.new ≡ unfold_call self.entry.drawing.now.file out.old }
@@ -75,18 +66,7 @@ impl<'a> Counted<'a> {
         if once_more(self.drawing.file(), again) {
             return self.write_large(out, false);
         }
-        self.write_in::<20480>(out)
-    }
-
-    // Writes its flat file, if there is space for it.
-    fn write_file(self, out: &mut [u8]) -> Result<usize, Refusal>
-        ensures { unfold_called result out.new ≡ unfold_call self.entry.drawing.now.file out.old }
-    {
-        let file = self.drawing.file();
-        if is_small(most_slots(self.drawing), file.len()) {
-            return self.write_in::<1024>(out);
-        }
-        self.write_large(out, true)
+        self.write_file(out)
     }
 }
 
@@ -97,9 +77,16 @@ pub fn unfold(net: &[u8], out: &mut [u8]) -> Result<usize, Refusal>
     let mut plan = [0u32; 3584];
     let mut initial = [0u16; 4096];
     let drawing = Drawing::read(net, &mut plan, &mut initial)?;
-    Counted {
+    if is_small(most_slots(&drawing), drawing.file().len()) {
+        return Counted::<1024> {
+            drawing: &drawing,
+            initial: &initial,
+        }
+        .write_file(out);
+    }
+    Counted::<20480> {
         drawing: &drawing,
         initial: &initial,
     }
-    .write_file(out)
+    .write_large(out, true)
 }

@@ -32,7 +32,7 @@ fn put_decimal(digits: usize, n: usize, out: &mut [u8], at: usize) -> usize
 }
 
 // The line of a refusal; it gives the line's length.
-pub fn write_line(refusal: Refusal, out: &mut [u8]) -> usize
+pub(crate) fn write_line(refusal: Refusal, out: &mut [u8]) -> usize
     requires { 23 ≤ length out.old }
     ensures { let text = line (number_of refusal.reason) refusal.place in (result ≡ length text) × (out.new ≡ over text out.old) }
 {

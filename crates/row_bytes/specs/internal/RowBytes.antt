@@ -1,7 +1,6 @@
 -- The bytes of the rows, binding by binding; and what the code that measures and writes them knows of the net.
 use Rattle.std.specs.Prelude.{◌≡◌, ◌≤◌, ◌<◌, ◌+◌}
 use Rattle.reading.specs.Basics.{ℕ, true, List, [], flat_map, length, given, below, product}
-use Rattle.firing.specs.declared.Arc.{Arc}
 use Rattle.flat_file.specs.Flat.{row_bytes}
 use Rattle.net.specs.Net.{Net, sizes_of, transition_at}
 use Rattle.bindings.specs.Effect.{effect, flat_row}
@@ -49,6 +48,6 @@ bytes_at transition i = binding_bytes (its_net transition) transition.number i
 abbrev pub its_bytes : DrawnTransition → List ℕ
 its_bytes transition = transition_bytes (its_net transition) transition.number
 
--- a lent list has the room that loading the net's rows needs
-abbrev pub Roomy : Drawn → List Arc → Type 0
-Roomy d l = room d.file (net_of d) ≤ length l
+-- a list of so many arcs has the room that loading the net's rows needs
+abbrev pub Roomy : Drawn → ℕ → Type 0
+Roomy d arcs = room d.file (net_of d) ≤ arcs

@@ -6,4 +6,4 @@ use Rattle.row_bytes.proofs.Bounded.{Bounding}
 use Rattle.row_bytes.proofs.marked.Marked.bound_all.Given as goal
 
 abbrev pub invariant-loop-t : goal.invariant-loop-t
-invariant-loop-t l = (l.total ≤ 2100000000000 * l.t) × Bounding (transition_bytes (net_of l.drawing)) (length (net_of l.drawing).transitions) l.total l.t
+invariant-loop-t g l = (l.total ≤ 2100000000000 * l.t) × Bounding (transition_bytes (net_of l.drawing)) (length (net_of l.drawing).transitions) l.total l.t

@@ -8,7 +8,7 @@ use Rattle.row_bytes.proofs.RowBytes.{measure_goes, measure_ends, those_here, th
 use Rattle.row_bytes.proofs.marked.Marked.measure_all.Goals as goal
 
 pub loop-those-preserved : goal.loop-those-preserved
-loop-those-preserved c =
+loop-those-preserved g c =
     let so_far = c.loop-those.invariant in
     let told = c.in-Some.ensures.steps in
     record {
@@ -19,4 +19,4 @@ loop-those-preserved c =
     }
 
 pub returns-clause-is : goal.returns-clause-is
-returns-clause-is c = omega (arith, measure_ends (transition_bytes (net_of c.args.self.now.drawing.now)) _ 0 c.loop-those.invariant.measured (none_left c.loop-those.invariant.same c.in-None.ensures.steps))
+returns-clause-is g c = omega (arith, measure_ends (transition_bytes (net_of c.args.self.now.drawing.now)) _ 0 c.loop-those.invariant.measured (none_left c.loop-those.invariant.same c.in-None.ensures.steps))

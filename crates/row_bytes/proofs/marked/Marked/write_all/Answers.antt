@@ -7,14 +7,14 @@ use Rattle.flat_file.proofs.Appending.{go_on, go_end}
 use Rattle.row_bytes.proofs.RowBytes.{measure_rest, measure_goes, left_more, left_none, those_here, those_given, none_left}
 use Rattle.row_bytes.proofs.marked.Marked.write_all.Goals as goal
 
-pub write_bindings-next-requires-clause-many_in_bounds : goal.write_bindings-next-requires-clause-many_in_bounds
-write_bindings-next-requires-clause-many_in_bounds c =
+pub write_bindings-next-requires : goal.write_bindings-next-requires
+write_bindings-next-requires g c =
     let so_far = c.loop-those.invariant in
     let told = c.in-Some.ensures.steps in
-    omega (arith, measure_rest (transition_bytes (net_of c.args.self.now.drawing.now)) _ c.args.at so_far.measured (those_here so_far.same told), c.requires.net_in_bounds, ap length (those_given so_far.same told))
+    omega (arith, measure_rest (transition_bytes (net_of c.args.self.now.drawing.now)) _ c.args.at so_far.measured (those_here so_far.same told), c.requires, ap length (those_given so_far.same told))
 
 pub loop-those-preserved : goal.loop-those-preserved
-loop-those-preserved c =
+loop-those-preserved g c =
     let so_far = c.loop-those.invariant in
     let told = c.in-Some.ensures.steps in
     let written = rw (those_given so_far.same told) at c.write_bindings-next.ensures in
@@ -25,4 +25,4 @@ loop-those-preserved c =
     }
 
 pub returns : goal.returns
-returns c = go_end (transition_bytes (net_of c.args.self.now.drawing.now)) c.loop-those.invariant.going (left_none _ c.loop-those.those-iterator.t (none_left c.loop-those.invariant.same c.in-None.ensures.steps))
+returns g c = go_end (transition_bytes (net_of c.args.self.now.drawing.now)) c.loop-those.invariant.going (left_none _ c.loop-those.those-iterator.t (none_left c.loop-those.invariant.same c.in-None.ensures.steps))

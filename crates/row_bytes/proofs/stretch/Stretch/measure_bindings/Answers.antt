@@ -9,10 +9,10 @@ use Rattle.row_bytes.proofs.RowBytes.{measure_begins, measure_goes, measure_ends
 use Rattle.row_bytes.proofs.stretch.Stretch.measure_bindings.Goals as goal
 
 pub loop-i-init : goal.loop-i-init
-loop-i-init c = record { low = omega arith; binds = λ lt. first_binds (its_net c.args.self.now.transition) _ 32; measured = measure_begins (bytes_at c.args.self.now.transition) _ 0 }
+loop-i-init g c = record { low = omega arith; binds = λ lt. first_binds (its_net c.args.self.now.transition) _ 32; measured = measure_begins (bytes_at c.args.self.now.transition) _ 0 }
 
 pub loop-i-preserved : goal.loop-i-preserved
-loop-i-preserved c =
+loop-i-preserved g c =
     let so_far = c.loop-i.invariant in
     record {
       low = omega (arith, c.measure_one-total.ensures.small, so_far.low);
@@ -21,4 +21,4 @@ loop-i-preserved c =
     }
 
 pub returns-clause-is : goal.returns-clause-is
-returns-clause-is c = omega (arith, measure_ends (bytes_at c.args.self.now.transition) _ 0 c.loop-i.invariant.measured (omega arith), ap length (all_given c.args.self.now.known))
+returns-clause-is g c = omega (arith, measure_ends (bytes_at c.args.self.now.transition) _ 0 c.loop-i.invariant.measured (omega arith), ap length (all_given c.args.self.now.known))

@@ -9,7 +9,7 @@ use Rattle.row_bytes.proofs.RowBytes.{measure_begins, measure_rest, measure_goes
 use Rattle.row_bytes.proofs.stretch.Stretch.write_bindings.Goals as goal
 
 pub loop-i-init : goal.loop-i-init
-loop-i-init c = record {
+loop-i-init g c = record {
   inside = omega arith;
   binds = λ lt. first_binds (its_net c.args.self.now.transition) _ 32;
   measured = measure_begins (bytes_at c.args.self.now.transition) _ c.args.at;
@@ -17,7 +17,7 @@ loop-i-init c = record {
 }
 
 pub loop-i-preserved-then-has_none : goal.loop-i-preserved-then-has_none
-loop-i-preserved-then-has_none c =
+loop-i-preserved-then-has_none g c =
     let so_far = c.loop-i.invariant in
     let none = c.has_none.ensures c.if-has_none.true in
     let over = known_over c.args.self.now.known c.loop-i.i (omega (arith, none.1)) none.0 none.2 in
@@ -28,14 +28,14 @@ loop-i-preserved-then-has_none c =
       going = go_over (bytes_at c.args.self.now.transition) so_far.going over;
     }
 
-pub write_bound-next-requires-clause-index_in_bounds : goal.write_bound-next-requires-clause-index_in_bounds
-write_bound-next-requires-clause-index_in_bounds c = (
-  bound_here c.args.self.now.known c.loop-i-test.true c.has_row.ensures (c.loop-i.invariant.binds c.loop-i-test.true) c.if-has_row.true,
-  omega (arith, measure_rest (bytes_at c.args.self.now.transition) _ c.args.at c.loop-i.invariant.measured c.loop-i-test.true, c.requires.many_in_bounds, ap length (all_given c.args.self.now.known)),
-)
+pub write_bound-next-requires : goal.write_bound-next-requires
+write_bound-next-requires g c =
+    let bound = bound_here c.args.self.now.known c.loop-i-test.true c.has_row.ensures (c.loop-i.invariant.binds c.loop-i-test.true) c.if-has_row.true in
+    let rest = measure_rest (bytes_at c.args.self.now.transition) _ c.args.at c.loop-i.invariant.measured c.loop-i-test.true in
+    (omega arith, (omega arith, (bound, omega (arith, rest, c.requires, ap length (all_given c.args.self.now.known)))))
 
 pub loop-i-preserved-then-has_row : goal.loop-i-preserved-then-has_row
-loop-i-preserved-then-has_row c =
+loop-i-preserved-then-has_row g c =
     let so_far = c.loop-i.invariant in
     let written = c.write_bound-next.ensures (bound_here c.args.self.now.known c.loop-i-test.true c.has_row.ensures (so_far.binds c.loop-i-test.true) c.if-has_row.true) in
     record {
@@ -46,7 +46,7 @@ loop-i-preserved-then-has_row c =
     }
 
 pub loop-i-preserved : goal.loop-i-preserved
-loop-i-preserved c =
+loop-i-preserved g c =
     let so_far = c.loop-i.invariant in
     let past = known_past c.args.self.now.known c.loop-i-test.true c.has_row.ensures c.if-has_row.false in
     record {
@@ -57,4 +57,4 @@ loop-i-preserved c =
     }
 
 pub returns : goal.returns
-returns c = rw (← all_given c.args.self.now.known) (go_end (bytes_at c.args.self.now.transition) c.loop-i.invariant.going (left_none _ c.loop-i.i (omega arith)))
+returns g c = rw (← all_given c.args.self.now.known) (go_end (bytes_at c.args.self.now.transition) c.loop-i.invariant.going (left_none _ c.loop-i.i (omega arith)))

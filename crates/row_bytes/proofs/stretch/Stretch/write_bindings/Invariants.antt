@@ -7,7 +7,7 @@ use Rattle.row_bytes.proofs.RowBytes.{Measuring}
 use Rattle.row_bytes.proofs.stretch.Stretch.write_bindings.Given as goal
 
 abbrev pub invariant-loop-i : goal.invariant-loop-i
-invariant-loop-i l = record {
+invariant-loop-i g l = record {
   inside : l.i ≤ l.many;
   binds : l.i < l.many → BindsIts l.self.transition l.i l.env;
   measured : Measuring (bytes_at l.self.transition) l.many l.at l.next l.i;
@@ -15,4 +15,4 @@ invariant-loop-i l = record {
 }
 
 abbrev pub decreases-loop-i : goal.decreases-loop-i
-decreases-loop-i l = l.many - l.i
+decreases-loop-i g l = l.many - l.i
