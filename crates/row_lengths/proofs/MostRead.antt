@@ -2,11 +2,11 @@
 use Rattle.std.specs.Prelude.{◌+◌, ◌-◌, min}
 use mathlib.Core.Path.{◌≡◌, refl, sym, ap, ◌∙◌, subst}
 use Prim.Native.Nat.{◌≤◌, ◌<◌}
-use Rattle.reading.specs.Basics.{ℕ, Bool, List, length, byte_at, word_at}
+use Rattle.reading.specs.Basics.{ℕ, List, length, byte_at, word_at}
 use Rattle.reading.specs.Reading.{Answer, fine, fault, under}
 use Rattle.net.specs.Net.{Colour, Expression, plus, minus, times, Place, single, pair, Net}
 use Rattle.net.specs.Reader.{read_colour, read_expression, two_of, amount, capped}
-use Rattle.plan.specs.internal.Layout.{expression_in, ranks_in, pair_in}
+use Rattle.plan.specs.declared.entry.Entry.{Entry}
 use Rattle.evaluation.specs.internal.Evaluated.{Ranks, scope_in, place_by}
 use Rattle.evaluation.specs.declared.evaluate.Ranked.{Ranked}
 use Rattle.net.proofs.Shut.{commands}
@@ -145,8 +145,7 @@ pub arcs_told : (s : List ℕ) (n : Net) (place : Place) (left at count : ℕ) (
     → read_expression s n place left at ≡ fine e next → r.arcs ≡ most count e
 arcs_told s n place left at count r told read = (subst (MostTold count r) read told).0
 
--- of the expression of an arc's entry, from its parts
-pub entry_told : (s plan : List ℕ) (entry : ℕ) (r : Most) {paired : Bool} {ranks at : ℕ} → paired ≡ pair_in entry → ranks ≡ ranks_in entry → at ≡ expression_in entry
-    → ((known : List Place) (first second : ℕ) → MostTold ranks r (read_expression s (scope_in plan known) (place_by paired first second) 16 at)) → MostArc s plan entry r.arcs
-entry_told s plan entry r p q e told known first second next x reads =
-    arcs_told s (scope_in plan known) (place_by (pair_in entry) first second) 16 (expression_in entry) (ranks_in entry) r (rw (p, q, e) at told known first second) reads
+-- of the expression of an arc's entry
+pub entry_told : (s plan : List ℕ) (entry : Entry) (r : Most)
+    → ((known : List Place) (first second : ℕ) → MostTold entry.ranks r (read_expression s (scope_in plan known) (place_by entry.paired first second) 16 entry.expression)) → MostArc s plan entry r.arcs
+entry_told s plan entry r told known first second next x reads = arcs_told s (scope_in plan known) (place_by entry.paired first second) 16 entry.expression entry.ranks r (told known first second) reads
