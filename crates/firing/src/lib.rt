@@ -70,7 +70,9 @@ pub struct RowArcs<'a> {
     pub hinders: &'a [Arc],
 }
 
-// The row whose kinds end there in a lent list.
+// The row whose kinds end there in a lent list. Built into its callers, as the functions of a row below: the slices of the row stay
+// in registers where each row of a list is fired or tried.
+#[inline]
 pub fn row_arcs(arcs: &[Arc], ends: Ends) -> RowArcs
     requires { EndsWithin arcs.now ends.takes ends.puts ends.hinders }
     ensures { row_held result ≡ row_in arcs.now ends.takes ends.puts ends.hinders }
@@ -144,6 +146,7 @@ fn change<F: Fn(u16, u16) -> u16>(arcs: &[Arc], f: F, m: &mut [u16])
 }
 
 // The answer to a row of which no take is lacking.
+#[inline]
 pub fn rest_answer(row: RowArcs, m: &[u16]) -> Answer
     ensures { Proper (length m.now) (row_held row.entry)
         → any (lacking m.now) row.entry.takes.now ≡ false
@@ -159,6 +162,7 @@ pub fn rest_answer(row: RowArcs, m: &[u16]) -> Answer
 }
 
 // The answer of the firing rule to a row.
+#[inline]
 pub fn answer(row: RowArcs, m: &[u16]) -> Answer
     ensures { Proper (length m.now) (row_held row.entry)
         → answer_number result ≡ (fire [] (weights (row_held row.entry)) m.now).answer }
@@ -181,6 +185,7 @@ pub fn move_row(takes: &[Arc], puts: &[Arc], m: &mut [u16])
 }
 
 // Fires a row of which no take is lacking: its answer, and the marking after it.
+#[inline]
 pub fn fire_rest(row: RowArcs, m: &mut [u16]) -> Answer
     ensures { Proper (length m.old) (row_held row.entry)
         → any (lacking m.old) row.entry.takes.now ≡ false
@@ -194,6 +199,7 @@ pub fn fire_rest(row: RowArcs, m: &mut [u16]) -> Answer
 }
 
 // Fires a row: its answer, and the marking after it.
+#[inline]
 pub fn fire_row(row: RowArcs, m: &mut [u16]) -> Answer
     ensures { Proper (length m.old) (row_held row.entry)
         → fired (answer_number result) m.new ≡ fire [] (weights (row_held row.entry)) m.old }

@@ -1,10 +1,10 @@
--- An image, fired: by its command byte and its row number. Assumes nothing.
-use mathlib.Core.Path.{◌≡◌}
+-- An image, fired: by its command byte and its row number. A row, fired: as it was loaded. Assumes nothing.
+use mathlib.Core.Path.{◌≡◌, sym, subst, ◌∙◌}
 use Prim.Native.Nat.{◌≤◌, ◌<◌}
 use borrow.Author.Tests.{lt-ltb, le-ltb, eq-eqb, ne_eqb}
 use Rattle.reading.specs.Basics.{ℕ, List, [], length, get_or, byte_at, long_at}
-use Rattle.firing.specs.Firing.{fire, fired}
-use Rattle.firing.specs.Arcs.{row, weights}
+use Rattle.firing.specs.Firing.{Fired, fire, fired}
+use Rattle.firing.specs.Arcs.{Row, Proper, row, weights}
 use Rattle.flat_file.specs.Flat.{Flat, fire_row, fire_image}
 
 module _ (f : Flat) (image m : List ℕ) where
@@ -25,6 +25,14 @@ module _ (f : Flat) (m : List ℕ) (i : ℕ) where
   no_row h = rw (le-ltb i (length f.rows) h)
 
   -- a row fires by its weights
-  pub row_fires : i < length f.rows → fire_row f i m ≡ fire [] (weights (get_or f.rows i (row [] [] []))) m
+  row_fires : i < length f.rows → fire_row f i m ≡ fire [] (weights (get_or f.rows i (row [] [] []))) m
   unfolding fire_row
   row_fires h = rw (lt-ltb i (length f.rows) h)
+
+  -- what holds of the row that was loaded, when it fires, holds of the row of the net
+  pub row_loaded : (P : Fired → Type 0) → i < length f.rows → {held loaded : Row} → held ≡ loaded
+      → (loaded ≡ get_or f.rows i (row [] [] [])) × Proper (length m) (get_or f.rows i (row [] [] []))
+      → (Proper (length m) held → P (fire [] (weights held) m)) → P (fire_row f i m)
+  row_loaded P lt e same h =
+      let q = e ∙ same.0 in
+      subst P (sym (row_fires lt)) (subst (λ w. P (fire [] (weights w) m)) q (h (subst (Proper (length m)) (sym q) same.1)))

@@ -2,27 +2,13 @@
 use Rattle.std.specs.Prelude.{take}
 use Rattle.std.proofs.lemmas.List.{length-take-le}
 use Rattle.std.proofs.Common.{get_or-take}
-use mathlib.Core.Path.{◌≡◌, refl, sym, ap, subst, ◌∙◌}
+use mathlib.Core.Path.{◌≡◌, sym, ap, ◌∙◌}
 use Prim.Native.Nat.{◌≤◌, ◌<◌}
 use native.Mathlib.Omega.{arith}
-use Rattle.reading.specs.Basics.{ℕ, true, List, length, get_or}
-use Rattle.reading.specs.Reading.{Answer, fine, fault}
-use Rattle.firing.specs.Arcs.{Row, Proper}
+use Rattle.reading.specs.Basics.{ℕ, List, length, get_or}
 use Rattle.flat_file.specs.Flat.{Flat}
-use Rattle.flat_file.specs.internal.ReaderEnums.{ArcsStand, FlatHeld, arcs_at}
+use Rattle.flat_file.specs.internal.ReaderEnums.{FlatHeld, arcs_at}
 use Rattle.flat.specs.internal.Stand.{is_fine, AllStand}
-
--- what holds of the row that was loaded holds of the row of the net
-pub by_row : (P : Row → Type 0) {n : ℕ} {held loaded row : Row} → held ≡ loaded → (loaded ≡ row) × Proper n row → (Proper n held → P held) → P row
-by_row P {n} e same h = let q = e ∙ same.0 in subst P q (h (subst (Proper n) (sym q) same.1))
-
-fine_is : {A : Type 0} (a : Answer A) → is_fine a ≡ true → (v : A) × (next : ℕ) × (a ≡ fine v next)
-fine_is (fine v next) e = (v, next, refl)
-fine_is (fault number place) e = absurd (cc)
-
--- a row's arcs stand where its start says
-pub arcs_stand : (s starts : List ℕ) {places : ℕ} → places ≤ 4096 → AllStand s places starts → (i : ℕ) → i < length starts → ArcsStand s (get_or starts i 0)
-arcs_stand s starts {places} few all i h = let x = fine_is _ (all i h) in record { places = places; few = few; arcs = x.0; next = x.1; is = x.2 }
 
 -- the starts of all rows of a net that is held, in the front of a list
 module _ {s starts : List ℕ} {places rows : ℕ} {f : Flat} (held : FlatHeld s starts places rows f) (fits : rows ≤ length starts) where

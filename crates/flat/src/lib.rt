@@ -8,10 +8,10 @@ ghost use Rattle.flat_file.specs.Flat.{fire_images, first_row, flat_sizes};
 ghost use Rattle.flat_file.specs.internal.ReaderEnums.{most_rows, most_arcs};
 ghost use Rattle.flat.specs.Replies.{fire_called, first_reply, sizes_reply};
 
-use firing::Searched;
+use firing::{Arc, Searched};
 use flat_file::{FlatSizes, scan_file};
 use reading::{Reason, Refusal, once_more, refused};
-use rows::{Room, Rows};
+use rows::Rows;
 
 // How many flat places and rows a flat file has, or the refusal.
 pub fn flat_sizes(flat: &[u8]) -> Result<FlatSizes, Refusal>
@@ -48,8 +48,8 @@ fn fire_sized<const STARTS: usize, const ARCS: usize>(
         places: sizes.places,
         starts: &starts[..sizes.rows],
     };
-    let mut room = Room::new();
-    rows.fire_list(m, images, answers, &mut room);
+    let mut arcs = [Arc::default(); ARCS];
+    rows.fire_list(m, images, answers, &mut arcs);
     Ok(images.len() / 5)
 }
 
@@ -107,8 +107,8 @@ fn first_sized<const STARTS: usize, const ARCS: usize>(
         places: sizes.places,
         starts: &starts[..sizes.rows],
     };
-    let mut room = Room::new();
-    Ok(rows.search_rows(m, &mut room))
+    let mut arcs = [Arc::default(); ARCS];
+    Ok(rows.search_rows(m, &mut arcs))
 }
 
 // On any file. Kept apart (once_more).

@@ -14,24 +14,6 @@ use firing::{Answer, Arc, Ends, Searched, answer, fire_row, row_arcs};
 use flat_file::load_arcs;
 use reading::{byte_at, long_at};
 
-// A table for the arcs of one row.
-#[derive(Drop)]
-pub struct Room<const ARCS: usize> {
-    arcs: [Arc; ARCS],
-    ghost whole: { length arcs ≡ ARCS },
-}
-
-impl<const ARCS: usize> Room<ARCS> {
-    pub fn new() -> Self {
-        Room {
-            arcs: [Arc {
-                place: 0,
-                weight: 0,
-            }; ARCS],
-        }
-    }
-}
-
 // The file, how many flat places it has, and where the arcs of each row start, at most ARCS each.
 #[derive(Clone, Copy)]
 pub struct Rows<'a, const ARCS: usize> {
@@ -44,38 +26,18 @@ pub struct Rows<'a, const ARCS: usize> {
 }
 
 impl<const ARCS: usize> Rows<'_, ARCS> {
-    // Loads the row number i: where its kinds end.
-    fn load(&self, i: usize, room: &mut Room<ARCS>) -> Ends
+    // Loads the row number i: where its kinds end in the list lent for its arcs.
+    fn load(&self, i: usize, arcs: &mut [Arc; ARCS]) -> Ends
         requires { i < length self.now.starts.now }
-        ensures within { EndsWithin room.new.arcs result.takes result.puts result.hinders }
+        ensures within { EndsWithin arcs.new result.takes result.puts result.hinders }
         ensures is { (n : ℕ) (f : Flat) → FlatHeld self.now.file.now self.now.starts.now n (length self.now.starts.now) f
-            → (row_in room.new.arcs result.takes result.puts result.hinders ≡ get_or f.rows i (row [] [] [])) × Proper n (get_or f.rows i (row [] [] [])) }
+            → (row_in arcs.new result.takes result.puts result.hinders ≡ get_or f.rows i (row [] [] [])) × Proper n (get_or f.rows i (row [] [] [])) }
     {
-        load_arcs(self.file, self.starts[i] as usize, &mut room.arcs)
-    }
-
-    // Fires the row number i.
-    fn fire_at(&self, i: usize, m: &mut [u16], room: &mut Room<ARCS>) -> Answer
-        requires { i < length self.now.starts.now }
-        ensures { (f : Flat) → FlatHeld self.now.file.now self.now.starts.now (length m.old) (length self.now.starts.now) f
-            → fired (answer_number result) m.new ≡ fire_row f i m.old }
-    {
-        let ends = self.load(i, room);
-        fire_row(row_arcs(&room.arcs, ends), m)
-    }
-
-    // Whether the row number i would fire.
-    fn fires_at(&self, i: usize, m: &[u16], room: &mut Room<ARCS>) -> bool
-        requires { i < length self.now.starts.now }
-        ensures { (f : Flat) → FlatHeld self.now.file.now self.now.starts.now (length m.now) (length self.now.starts.now) f
-            → result ≡ eqb (fire_row f i m.now).answer 0 }
-    {
-        let ends = self.load(i, room);
-        answer(row_arcs(&room.arcs, ends), m) == Answer::Fired
+        load_arcs(self.file, self.starts[i] as usize, arcs)
     }
 
     // Fires an image.
-    fn fire_nth(&self, image: &[u8], m: &mut [u16], room: &mut Room<ARCS>) -> Answer
+    fn fire_nth(&self, image: &[u8], m: &mut [u16], arcs: &mut [Arc; ARCS]) -> Answer
         ensures { (f : Flat) → FlatHeld self.now.file.now self.now.starts.now (length m.old) (length self.now.starts.now) f
             → fired (answer_number result) m.new ≡ fire_image f image.now m.old }
     {
@@ -86,28 +48,36 @@ impl<const ARCS: usize> Rows<'_, ARCS> {
         if self.starts.len() <= row {
             return Answer::NoBinding;
         }
-        self.fire_at(row, m, room)
+        let ends = self.load(row, arcs);
+        fire_row(row_arcs(arcs, ends), m)
     }
 
     // Fires each image of a list, 5 bytes each, an answer each.
-    pub fn fire_list(&self, m: &mut [u16], images: &[u8], answers: &mut [u8], room: &mut Room<ARCS>)
+    pub fn fire_list(
+        &self,
+        m: &mut [u16],
+        images: &[u8],
+        answers: &mut [u8],
+        arcs: &mut [Arc; ARCS],
+    )
         requires { length images.now / 5 ≤ length answers.old }
         ensures { (f : Flat) → FlatHeld self.now.file.now self.now.starts.now (length m.old) (length self.now.starts.now) f
             → Ran (fire_image f) (items 5 images.now) m.old answers.old m.new answers.new }
     {
         for i in 0..images.len() / 5 {
             let image = &images[i * 5..i * 5 + 5];
-            answers[i] = self.fire_nth(image, m, room).number();
+            answers[i] = self.fire_nth(image, m, arcs).number();
         }
     }
 
     // The first row that fires, or none.
-    pub fn search_rows(&self, m: &[u16], room: &mut Room<ARCS>) -> Searched<usize>
+    pub fn search_rows(&self, m: &[u16], arcs: &mut [Arc; ARCS]) -> Searched<usize>
         ensures { (f : Flat) → FlatHeld self.now.file.now self.now.starts.now (length m.now) (length self.now.starts.now) f
             → first (λ i. eqb (fire_row f i m.now).answer 0) (below (length self.now.starts.now)) ≡ searched (λ i. i) result }
     {
         for i in 0..self.starts.len() {
-            if self.fires_at(i, m, room) {
+            let ends = self.load(i, arcs);
+            if answer(row_arcs(arcs, ends), m) == Answer::Fired {
                 return Searched {
                     found: Some(i),
                     tried: i + 1,

@@ -68,10 +68,7 @@ fn arc_at(file: &[u8], count: usize, at: usize, least: usize) -> Result<Option<A
         return refused(Reason::CutOff, file.len());
     }
     let arc = arc_in(file, at);
-    if count <= arc.place as usize {
-        return refused(Reason::OutOfRange, at);
-    }
-    if arc.weight < 1 {
+    if count <= arc.place as usize || arc.weight < 1 {
         return refused(Reason::OutOfRange, at);
     }
     if key(kind, arc.place) < least {
@@ -100,21 +97,10 @@ fn later_ends(kind: Kind, was: Ends) -> Ends
     ensures { result ≡ later_ends kind was }
 {
     let end = was.hinders + 1;
-    match kind {
-        Kind::Take => Ends {
-            takes: end,
-            puts: end,
-            hinders: end,
-        },
-        Kind::Put => Ends {
-            puts: end,
-            hinders: end,
-            ..was
-        },
-        Kind::Hinder => Ends {
-            hinders: end,
-            ..was
-        },
+    Ends {
+        takes: if kind == Kind::Take { end } else { was.takes },
+        puts: if kind == Kind::Hinder { was.puts } else { end },
+        hinders: end,
     }
 }
 

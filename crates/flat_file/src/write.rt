@@ -1,4 +1,6 @@
 // Writes the pieces of a flat file into a lent buffer, each at `at`, behind what is written already; each gives the next place.
+// Each asks for the room of the bytes that it writes itself, so many for each: no one type can say that for all. They hand on the whole
+// buffer and a place: a slice of what is left would be cut anew at each call, and each caller would add up the lengths, no plainer.
 ghost use Rattle.std.specs.Prelude.{◌≡◌, [], ◌∷◌, ◌+◌, ◌*◌, ◌≤◌, length};
 ghost use Rattle.reading.specs.Basics.{flat_map, word};
 ghost use Rattle.firing.specs.internal.RowLists.{row_held};

@@ -16,9 +16,6 @@ returns-then-images-ne0 g c = rw c.refused-then-images-ne0.ensures (fire_13 c.in
 pub returns-then-answers-images : goal.returns-then-answers-images
 returns-then-answers-images g c = rw c.refused-then-answers-images.ensures (fire_14 c.in_ok-sizes.ensures.1 _ c.if-m-sizes.false _ _ c.if-images-ne0.false c.if-answers-images.true)
 
-pub shared_whole_as_front-rows : goal.shared_whole_as_front-rows
-shared_whole_as_front-rows g c = let held = c.in_ok-sizes.ensures.1 in (omega (arith, held.fits), omega arith)
-
 pub invariant_of-rows : goal.invariant_of-rows
 invariant_of-rows g c =
     let held = c.in_ok-sizes.ensures.1 in

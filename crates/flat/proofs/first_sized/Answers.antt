@@ -10,9 +10,6 @@ returns-in_err-sizes g c = let p = err_from_is_err_and c.from_residual.result c.
 pub returns-then-m-sizes : goal.returns-then-m-sizes
 returns-then-m-sizes g c = rw c.refused.ensures (first_12 c.in_ok-sizes.ensures.1 _ c.if-m-sizes.true)
 
-pub shared_whole_as_front-rows : goal.shared_whole_as_front-rows
-shared_whole_as_front-rows g c = let held = c.in_ok-sizes.ensures.1 in (omega (arith, held.fits), omega arith)
-
 pub invariant_of-rows : goal.invariant_of-rows
 invariant_of-rows g c =
     let held = c.in_ok-sizes.ensures.1 in

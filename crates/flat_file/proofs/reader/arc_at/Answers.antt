@@ -1,5 +1,6 @@
 use native.Mathlib.Omega.{arith}
 use Prim.Native.Nat.{◌+◌}
+use Rattle.std.proofs.Common.{inl, inr}
 use Rattle.flat_file.proofs.Arcs.{arc_none, arc_cut, arc_beyond, arc_weightless, arc_disorder, arc_goes}
 use Rattle.flat_file.proofs.reader.arc_at.Goals as goal
 
@@ -10,10 +11,11 @@ pub returns-then-file-at-clause-is : goal.returns-then-file-at-clause-is
 returns-then-file-at-clause-is c r f = rw c.refused.ensures (arc_cut _ _ _ _ c.in-Some.kind c.in-Some.ensures.1 c.if-file-at.true)
 
 pub returns-then-count-arc-clause-is : goal.returns-then-count-arc-clause-is
-returns-then-count-arc-clause-is c r f = rw c.refused-then-count-arc.ensures (arc_beyond _ _ _ _ c.in-Some.kind c.in-Some.ensures.1 c.if-file-at.false (rw c.arc_in-arc.ensures at c.if-count-arc.true))
-
-pub returns-then-arc-lt1-clause-is : goal.returns-then-arc-lt1-clause-is
-returns-then-arc-lt1-clause-is c r f = rw c.refused-then-arc-lt1.ensures (arc_weightless _ _ _ _ c.in-Some.kind c.in-Some.ensures.1 c.if-file-at.false (rw c.arc_in-arc.ensures at c.if-arc-lt1.true))
+returns-then-count-arc-clause-is c r f =
+    rw c.refused-then-count-arc.ensures (elim c.then-count-arc.either [
+      inl h ↦ arc_beyond _ _ _ _ c.in-Some.kind c.in-Some.ensures.1 c.if-file-at.false (rw c.arc_in-arc.ensures at h)
+      | inr h ↦ arc_weightless _ _ _ _ c.in-Some.kind c.in-Some.ensures.1 c.if-file-at.false (rw c.arc_in-arc.ensures at h.1)
+    ])
 
 pub returns-then-key-least-clause-is : goal.returns-then-key-least-clause-is
 returns-then-key-least-clause-is c r f =

@@ -1,6 +1,8 @@
-use Rattle.std.proofs.Common.{arith, sym, ap, ◌∙◌}
+use Rattle.std.proofs.Common.{◌≡◌, arith, sym, ap, ◌∙◌}
+use Rattle.firing.specs.Firing.{fired}
+use Rattle.firing.specs.Replies.{answer_number}
 use Rattle.flat_file.specs.Flat.{fire_row}
-use Rattle.flat.proofs.Imaged.{no_image, image_fires, no_row}
+use Rattle.flat.proofs.Imaged.{no_image, image_fires, no_row, row_loaded}
 use Rattle.flat.proofs.rows.Rows.fire_nth.Goals as goal
 
 pub returns-then-byte_at-ne97 : goal.returns-then-byte_at-ne97
@@ -12,4 +14,6 @@ returns-then-self-row g c f held =
 
 pub returns : goal.returns
 returns g c f held =
-    c.fire_at.ensures f held ∙ ap (λ j. fire_row f j c.args.m.now) c.long_at-row.ensures.0 ∙ sym (image_fires f _ _ (sym c.byte_at.ensures.0 ∙ c.if-byte_at-ne97.false))
+    row_loaded f _ c.long_at-row.result (λ x. fired (answer_number c.fire_row.result) c.fire_row.new.m ≡ x) (omega (arith, held.rows_are, c.if-self-row.false)) c.row_arcs.ensures (c.load-ends.ensures.is _ f held) c.fire_row.ensures
+    ∙ ap (λ j. fire_row f j c.args.m.now) c.long_at-row.ensures.0
+    ∙ sym (image_fires f _ _ (sym c.byte_at.ensures.0 ∙ c.if-byte_at-ne97.false))
