@@ -2,9 +2,9 @@
 use Rattle.std.specs.Prelude.{◌+◌, ◌&&◌, ◌||◌, ◌∷◌, if◌then◌else◌}
 use mathlib.Core.Path.{◌≡◌, refl, sym, ap₂, ◌∙◌}
 use mathlib.Core.List.Memᴰ
-use Prim.Native.Nat.{◌≤◌, ◌<◌}
+use Prim.Native.Nat.{◌<◌}
 use native.Mathlib.Omega.{arith}
-use borrow.Author.Tests.{ltb-true, leb-true, eq-eqb, not-true}
+use borrow.Author.Tests.{ltb-true, eq-eqb, not-true}
 use Rattle.reading.specs.Basics.{ℕ, Bool, true, false, not, List, [], some, length, ltb, leb, eqb, any, every, find, absent, with, byte_at, word_at, Bytes}
 use Rattle.reading.specs.Reading.{fault, under, accepted, refused, outcome, ◌unless◌, checked, whole, file}
 use Rattle.reading.proofs.Lists.{In, in_cases, here, there, All, end, also, all_with, in_all, all_in, in_every, every_in}
@@ -266,7 +266,3 @@ module _ {n : Net} (f : Formed n) where
 
     pub tokens_found : tokens_on n.tokens t.place t.rank ≡ some t
     tokens_found = once_found same_tokens n.tokens (λ b. both_hold _ _ (eq-eqb b.place b.place refl) (eq-eqb b.rank b.rank refl)) f.tokens_once i
-
--- the counts of a file of bytes
-pub count_word : {n : Net} → Words n → {t : Tokens} → In t n.tokens → t.count ≤ 65535
-count_word {n} w {t} i = leb-true t.count 65535 (all_in (every_in (λ u. leb u.count 65535) n.tokens w.counts) i)
