@@ -235,10 +235,6 @@ module _ {shape : ℕ → ℕ} {slots : List ℕ} {base : ℕ} where
           sym (take-take base end packed' from) ∙ ap (take base) (closed.front ∙ l.stand)
           ∙ take-append-le base (take base slots) (entries_of 32 shape slots base p) (omega (arith, length-take-le base slots le)) ∙ take-take base base slots (omega arith)
 
-      -- the rows behind are kept
-      pub row_leaves : p ≤ 32 → (j : ℕ) → base + 32 ≤ j → get_or packed' j 0 ≡ get_or slots j 0
-      row_leaves few j le = closed.back j le ∙ l.rest j (omega arith)
-
       -- the entries stand there, and a 0 behind them
       pub row_ends : {places : ℕ} → p ≡ places → base ≤ length slots → RowPacked 32 shape slots places base packed'
       row_ends all le = rw (← all) (record { entries = λ i lt far. go i lt far (ltb i (length (holding slots base p))) refl })
