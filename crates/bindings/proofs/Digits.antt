@@ -1,10 +1,10 @@
 -- The binding of each number: choices and bindings by their place in the list. Assumes nothing.
 use Rattle.std.specs.Prelude.{◌+◌, ◌*◌, ◌/◌, ◌%◌, ◌∷◌, ◌++◌}
-use mathlib.Core.Path.{◌≡◌, refl, sym, ap, ap₂, ◌∙◌}
+use mathlib.Core.Path.{◌≡◌, refl, sym, ap, ◌∙◌}
 use Prim.Native.Nat.{◌≤◌, ◌<◌, ◌-◌}
 use native.Mathlib.Omega.{arith}
 use native.Mathlib.Numerals.{add-one}
-use native.Mathlib.Nat.{zero-add, mul-zero, zero-mul, suc-mul, add-mul, mul_assoc, mul_comm, mod-lt, mod-eq_of_lt, div-one, div-eq_of_lt, div-add-mod', div-lt_iff_lt-mul, div-div-eq-div-mul, mul-add-div_right, mul-add-mod_self_right, mul-le-mul_right}
+use native.Mathlib.Nat.{zero-add, mul-zero, zero-mul, suc-mul, mul_assoc, mod-lt, mod-eq_of_lt, div-eq_of_lt, div-add-mod', div-lt_iff_lt-mul, mul-add-div_right, mul-add-mod_self_right, mul-le-mul_right}
 use borrow.Author.Tests.{ltb-true, ltb-false}
 use lib.ListN.{length-map}
 use lib.Seq.{take-length, take-suc, length-take-le, get_or-take}
@@ -21,27 +21,10 @@ pub product-with : (sizes : List ℕ) (size : ℕ) → product (with sizes size)
 product-with [] size = omega arith
 product-with (s ∷ sizes) size = ap (λ p. s * p) (product-with sizes size) ∙ sym (mul_assoc s (product sizes) size)
 
-pub digits-with : (sizes : List ℕ) (size i : ℕ) → digits (with sizes size) i ≡ with (digits sizes (i / size)) (i % size)
-unfolding digits
-digits-with [] size i = rw (div-one i)
-digits-with (s ∷ sizes) size i =
-    ap₂ (λ c l. c % s ∷ l) (ap (λ p. i / p) (product-with sizes size ∙ mul_comm (product sizes) size) ∙ sym (div-div-eq-div-mul i size (product sizes)))
-    (digits-with sizes size i)
-
 pub digits-length : (sizes : List ℕ) (i : ℕ) → length (digits sizes i) ≡ length sizes
 unfolding digits
 digits-length [] i = refl
 digits-length (size ∷ sizes) i = ap suc (digits-length sizes i)
-
-pub number-with : (sizes colours : List ℕ) (size c : ℕ) → length colours ≡ length sizes → number (with sizes size) (with colours c) ≡ number sizes colours * size + c
-unfolding number
-number-with [] [] size c e = omega arith
-number-with [] (x ∷ colours) size c e = absurd (omega arith)
-number-with (s ∷ sizes) [] size c e = absurd (omega arith)
-number-with (s ∷ sizes) (x ∷ colours) size c e =
-    let h = number-with sizes colours size c (omega arith) in
-    let p : x * product (with sizes size) ≡ x * product sizes * size = ap (λ p. x * p) (product-with sizes size) ∙ sym (mul_assoc x (product sizes) size) in
-    omega (arith, add-mul (x * product sizes) (number sizes colours) size)
 
 -- ---- a number and its colours give each other
 pos_last : (a b : ℕ) → 0 < a * b → 0 < b

@@ -3,7 +3,7 @@ ghost use Rattle.std.specs.Prelude.{◌≡◌, ℕ, ◌≤◌, ◌<◌, ◌+◌}
 ghost use Rattle.evaluation.specs.internal.Evaluated.{after, before};
 ghost use Rattle.evaluation.specs.internal.Comparing.{test_of};
 
-// The colour after c, going round a set of a size. By if: a remainder would be of 0 where the set is empty, and is slower.
+// The colour after c, going round a set of a size. By if, as its meaning is: a remainder would differ where the colour is past the set's end.
 pub(crate) fn after_in(size: u8, c: u16) -> u16
     requires { c < 65535 }
     ensures is { result ≡ after size c }

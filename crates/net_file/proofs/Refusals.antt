@@ -6,7 +6,8 @@ use native.Mathlib.Omega.{arith}
 use borrow.Author.Tests.{ltb-false}
 use Rattle.reading.specs.Basics.{ℕ, zero, suc, Bool, true, false, List, [], length, ltb, leb, eqb, with, byte_at, word_at}
 use Rattle.reading.specs.Reading.{Answer, fault, outcome, refused, ◌unless◌, needed, file}
-use Rattle.reading.specs.Refusals.{number_of, reason_of}
+use Rattle.reading.specs.Refusals.{number_of}
+use Rattle.reading.specs.internal.Reasons.{reason_of}
 use Rattle.reading.specs.declared.refusal.Refusal.{Refusal}
 use Rattle.reading.proofs.Lists.{end, also}
 use Rattle.reading.proofs.Within.{by_test}

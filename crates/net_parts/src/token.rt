@@ -36,6 +36,8 @@ impl<'a> Starts<'a> {
 }
 
 // Tokens that were read: a place, a rank, their count, the flat place that they are, and the place after them in the file.
+// Place and rank are as the file names them, and as the meaning lists tokens: the contract of token_at speaks of them. The flat place is where the
+// count goes; only a search of the starts would give the two back from it.
 #[derive(Clone, Copy)]
 pub struct TokenRead {
     place: usize,

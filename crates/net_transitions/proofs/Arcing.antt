@@ -22,7 +22,7 @@ use Rattle.arc_expressions.specs.internal.ReaderEnums.{expression_told}
 use Rattle.net_parts.specs.internal.Tables.{places_of}
 use Rattle.net_transitions.specs.internal.TransitionTables.{Refuses, over, Standing, Slot, RowHolds, ArcRead, ArcsRead}
 use Rattle.reading.specs.declared.refusal.Refusal.{Refusal}
-use Rattle.reading.specs.Refusals.{reason_of}
+use Rattle.reading.specs.internal.Reasons.{reason_of}
 use Rattle.net.specs.declared.Read.{Read}
 use Rattle.net.specs.declared.PlaceSets.{PlaceSets}
 use Rattle.net.specs.declared.scope.Scope.{Scope}

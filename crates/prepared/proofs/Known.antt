@@ -1,12 +1,9 @@
 -- What a prepared table tells beside its fields, and a prepared file: its net, or the refusal. Assumes nothing.
 use mathlib.Core.Path.{◌≡◌, subst}
 use Rattle.reading.specs.Basics.{List, ℕ}
-use Rattle.std.specs.Prelude.{Result, Ok, Err}
-use Rattle.reading.specs.Reading.{refused}
-use Rattle.reading.specs.Refusals.{number_of}
+use Rattle.std.specs.Prelude.{Result, Ok}
 use Rattle.reading.specs.declared.refusal.Refusal.{Refusal}
 use Rattle.net.specs.Net.{Net}
-use Rattle.net_file.specs.NetFile.{read_net}
 use Rattle.net_file.specs.Limits.{Limits}
 use Rattle.net_file.specs.Formed.{Formed}
 use Rattle.net_file.proofs.Limits.{limits}
@@ -27,5 +24,3 @@ module _ (s plan initial : List ℕ) {r : Result (Unit {0}) Refusal} where
   pub the_net : {done : Unit {0}} → r ≡ Ok done → PreparedTold s plan initial r → Readied s plan initial
   the_net e h = subst (PreparedTold s plan initial) e h
 
-  pub the_refusal : {f : Refusal} → r ≡ Err f → PreparedTold s plan initial r → read_net s ≡ refused (number_of f.reason) f.place
-  the_refusal e h = subst (PreparedTold s plan initial) e h

@@ -13,7 +13,7 @@ use Rattle.net.specs.Net.{Net, variables_of, in_transition, transition_at}
 use Rattle.net.specs.internal.ReaderEnums.{bits, member}
 use Rattle.net_file.specs.Limits.{Limits}
 use Rattle.net_transitions.proofs.Spaces.{keep-bits, below_next, count_grows}
-use Rattle.prepared.specs.internal.TransitionVariables.{own_of, Owned, SlotsListed}
+use Rattle.prepared.specs.internal.TransitionVariables.{own_of, SlotsListed}
 use Rattle.net_transitions.specs.internal.TransitionTables.{no_head}
 use Rattle.net_transitions.specs.declared.transitions.Head.{Head}
 use Rattle.reading.proofs.Clash.{clash}
@@ -170,6 +170,3 @@ module _ (n : Net) {sizes vars : List ℕ} (heads : List Head) (es : n.sets ≡ 
       (λ q. rw q (row_listed t lt e listed free k four))
       (λ before. listed.front (s * 4 + k) (omega arith) ∙ rows s k before four)
       (eq-or-lt_of_le (let h : s ≤ t = omega arith in h))
-
-pub rows_end : {n : Net} {own : List ℕ} {t transitions : ℕ} → length n.transitions ≡ transitions → transitions ≤ t → Rows n own t → Owned n own
-rows_end e le rows = record { slot = λ s k lt less. rows s k (omega arith) less }

@@ -7,7 +7,7 @@ use native.Mathlib.Omega.{arith}
 use native.Mathlib.Numerals.{add-one}
 use borrow.Author.Tests.{lt-ltb, le-ltb, ltb-true, ltb-false}
 use lib.ListN.{set, length-append, length-map, get_or-append, get_or-map, get_or-eq_default}
-use lib.Seq.{take-suc-set, take-suc, take_at, take-append-le, take-set-le, take-take, get_or_at, get_or-take, get_or-append-add, get_or-set_same, get_or-set_other, length-take-le}
+use lib.Seq.{take-suc, take_at, take-append-le, take-set-le, take-take, get_or_at, get_or-take, get_or-append-add, get_or-set_same, get_or-set_other, length-take-le}
 use Rattle.reading.specs.Basics.{ℕ, zero, suc, Bool, true, false, List, [], map, flat_map, length, get_or, take, ltb, numbers_from, below}
 use Rattle.reading.proofs.Lists.{of_from, flat_map-same}
 use Rattle.prepared.specs.internal.Packed.{entry_of, if_held, holding, entries_of, RowFits, SlotsFit, EntryPut, RowPacked, Packed}
@@ -167,20 +167,6 @@ module _ (shape : ℕ → ℕ) (slots others : List ℕ) (base : ℕ) where
       ∙ sym (entries_more others base 32 shape n))
 
 -- ---- packing
--- a place's entry, stored or none
-pub put_none : (slot shape : ℕ) (packed : List ℕ) (end : ℕ) → slot < 1 → EntryPut slot shape packed end packed end
-put_none slot shape packed end h =
-    let e = held_none slot (entry_of 32 slot shape) h in record { is = rw e (sym (append-nil (take end packed))); next = rw e (omega arith); back = λ j lt. refl }
-
-pub put_one : (slot shape : ℕ) (packed : List ℕ) (end : ℕ) → 1 ≤ slot → end < length packed → EntryPut slot shape packed end (set packed end (entry_of 32 slot shape)) (end + 1)
-put_one slot shape packed end h lt =
-    let e = held_some slot (entry_of 32 slot shape) (omega arith) in
-    record {
-      is = rw (e, add-one end) (take-suc-set packed end (entry_of 32 slot shape) lt);
-      next = rw e;
-      back = λ j less. get_or-set_other packed end j (entry_of 32 slot shape) 0 (λ z. omega arith);
-    }
-
 -- a row's end: a 0 was put behind its entries where there is room in the row
 pub record Closed (base end : ℕ) (packed packed' : List ℕ) : Type 0 where
   pub front : take end packed' ≡ take end packed
@@ -249,10 +235,6 @@ module _ {shape : ℕ → ℕ} {slots : List ℕ} {base : ℕ} where
           sym (take-take base end packed' from) ∙ ap (take base) (closed.front ∙ l.stand)
           ∙ take-append-le base (take base slots) (entries_of 32 shape slots base p) (omega (arith, length-take-le base slots le)) ∙ take-take base base slots (omega arith)
 
-      -- the rows behind are kept
-      pub row_leaves : p ≤ 32 → (j : ℕ) → base + 32 ≤ j → get_or packed' j 0 ≡ get_or slots j 0
-      row_leaves few j le = closed.back j le ∙ l.rest j (omega arith)
-
       -- the entries stand there, and a 0 behind them
       pub row_ends : {places : ℕ} → p ≡ places → base ≤ length slots → RowPacked 32 shape slots places base packed'
       row_ends all le = rw (← all) (record { entries = λ i lt far. go i lt far (ltb i (length (holding slots base p))) refl })
@@ -278,9 +260,6 @@ pub record Packing (shape : ℕ → ℕ) (slots : List ℕ) (places : ℕ) (pack
   pub rest : (j : ℕ) → row * 32 ≤ j → get_or packed j 0 ≡ get_or slots j 0
 
 module _ {shape : ℕ → ℕ} {slots : List ℕ} {places : ℕ} where
-  pub pack_begins : Packing shape slots places slots 0
-  pack_begins = record { rows = λ r h. absurd (omega arith); rest = λ j le. refl }
-
   module _ {packed : List ℕ} {row : ℕ} (l : Packing shape slots places packed row) where
     -- the next row's slots are small enough
     pub pack_fits : {transitions : ℕ} → row < transitions * 3 → SlotsFit slots places transitions → RowFits packed places (row * 32)

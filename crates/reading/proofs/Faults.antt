@@ -6,7 +6,8 @@ use native.Mathlib.Omega.{arith}
 use borrow.Author.Tests.{leb-true, ltb-false, eqb-true}
 use Rattle.reading.specs.Basics.{ℕ, zero, suc, Bool, true, false, List, [], Option, some, none, option_map, length, ltb, leb, eqb, given, find, every, numbers_from, byte_at}
 use Rattle.reading.specs.Reading.{Answer, fine, fault, ◌and_then◌, under, outcome, refused, Check, ◌unless◌, failing, Command, obey, standing, needed, Part, onward, repeat, file}
-use Rattle.reading.specs.Refusals.{number_of, reason_of}
+use Rattle.reading.specs.Refusals.{number_of}
+use Rattle.reading.specs.internal.Reasons.{reason_of}
 use Rattle.reading.proofs.Lists.{All, end, also, all_in, every_in, in_from}
 use Rattle.reading.proofs.Within.{by_test}
 use Rattle.reading.proofs.Keeps.{both_true}

@@ -3,7 +3,7 @@ use Rattle.std.specs.Prelude.{◌+◌, ◌-◌}
 use mathlib.Core.Path.{◌≡◌, refl, ◌∙◌}
 use Prim.Native.Nat.{◌≤◌, ◌<◌}
 use native.Mathlib.Omega.{arith}
-use Rattle.reading.specs.Basics.{ℕ, zero, suc, List, [], some, none, length, take, with}
+use Rattle.reading.specs.Basics.{ℕ, zero, suc, List, some, none, length, take, with}
 use native.Mathlib.Numerals.{add-one}
 use lib.ListN.{set, length-set}
 use lib.Seq.{length-take-le, take-suc-set}
@@ -54,9 +54,6 @@ pub record Filled (s : List ℕ) (part : Part (List ℕ)) (limit : ℕ) (result 
   pub reading : Reading s part (take count lent) at result
 
 module _ {s : List ℕ} {part : Part (List ℕ)} {limit : ℕ} where
-  pub fill_begins : (lent : List ℕ) (at : ℕ) → length lent ≡ limit → Filled s part limit (whole s part [] at) lent 0 at
-  fill_begins lent at e = record { few = omega arith; sized = e; reading = begins s part [] at }
-
   module _ {result : Answer (List ℕ)} {lent : List ℕ} {count at : ℕ} (here : Filled s part limit result lent count at) where
     fills : length (take count lent) ≡ count
     fills = length-take-le count lent (omega arith)

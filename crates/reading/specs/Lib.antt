@@ -2,3 +2,5 @@
 pub mod Basics
 pub mod Reading
 pub mod Refusals
+-- What contracts between functions and proofs cite alone.
+pub mod internal

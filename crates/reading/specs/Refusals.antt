@@ -1,6 +1,6 @@
 -- The refusals 1 to 15: the number of each reason, and what a Result says of a file or a call.
-use Rattle.std.specs.Prelude.{Result, Ok, Err, if◌then◌else◌}
-use Rattle.reading.specs.Basics.{ℕ, eqb}
+use Rattle.std.specs.Prelude.{Result, Ok, Err}
+use Rattle.reading.specs.Basics.{ℕ}
 use Rattle.reading.specs.Reading.{Answer, fine, fault, Outcome, accepted, refused}
 use Rattle.reading.specs.declared.refusal.Reason.{Reason}
 use Rattle.reading.specs.declared.refusal.Reason.TheVariants as reason
@@ -23,25 +23,6 @@ number_of reason.RaggedList = 13
 number_of reason.NoSpace = 14
 number_of reason.Tail = 15
 
--- the reason with a number
-abbrev pub reason_of : ℕ → Reason
-reason_of number =
-    if eqb number 1 then reason.Overlong
-    else if eqb number 2 then reason.CutOff
-    else if eqb number 3 then reason.StrayByte
-    else if eqb number 4 then reason.Overfull
-    else if eqb number 5 then reason.OutOfRange
-    else if eqb number 6 then reason.MixedColours
-    else if eqb number 7 then reason.TooDeep
-    else if eqb number 8 then reason.Overweight
-    else if eqb number 9 then reason.Doubled
-    else if eqb number 10 then reason.ManyVariables
-    else if eqb number 11 then reason.WideBinding
-    else if eqb number 12 then reason.WrongMarking
-    else if eqb number 13 then reason.RaggedList
-    else if eqb number 14 then reason.NoSpace
-    else reason.Tail
-
 -- a whole file, or a call: what is made of its value, or the refusal's number and place
 abbrev pub replied : {V A : Type 0} → (V → A) → Result V Refusal → Outcome A
 replied f (Ok value) = accepted (f value)
@@ -51,8 +32,3 @@ replied f (Err r) = refused (number_of r.reason) r.place
 abbrev pub answered : {V A : Type 0} → (V → A) → (V → ℕ) → Result V Refusal → Answer A
 answered f next (Ok value) = fine (f value) (next value)
 answered f next (Err r) = fault (number_of r.reason) r.place
-
--- and back: the Result of an answer
-abbrev pub result_of : {A V : Type 0} → (A → ℕ → V) → Answer A → Result V Refusal
-result_of f (fine value next) = Ok (f value next)
-result_of f (fault number place) = Err (record { reason = reason_of number; place = place })

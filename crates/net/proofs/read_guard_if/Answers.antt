@@ -3,9 +3,6 @@ use Rattle.net.proofs.Colours.{within}
 use Rattle.net.proofs.Guards.{if_none, if_read}
 use Rattle.net.proofs.read_guard_if.Goals as goal
 
-pub after-requires : goal.after-requires
-after-requires c = within c.args.scope.now.file.now c.args.at 20 (omega arith)
-
 pub returns-then-element-eq21 : goal.returns-then-element-eq21
 returns-then-element-eq21 c places =
     let i = within c.args.scope.now.file.now c.args.at 20 (omega arith) in

@@ -2,7 +2,7 @@
 use Rattle.std.specs.Prelude.{◌^◌, ◌+◌, if◌then◌else◌, ◌/◌, ◌%◌, Option, Some, None, Result}
 use Rattle.reading.specs.Basics.{ℕ, zero, suc, Bool, eqb, given, List, get_or}
 use Rattle.reading.specs.Reading.{Answer}
-use Rattle.reading.specs.Refusals.{result_of}
+use Rattle.reading.specs.internal.Reasons.{result_of}
 use Rattle.reading.specs.declared.refusal.Refusal.{Refusal}
 use Rattle.net.specs.Net.{Colour, Guard, Net, Place, single, pair, scope, set_of, in_colour, in_guard}
 use Rattle.net.specs.Reader.{width_of}

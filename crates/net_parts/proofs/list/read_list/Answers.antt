@@ -1,14 +1,10 @@
-use borrow.Author.Rules.{rules}
 use native.Mathlib.Omega.{arith}
 use mathlib.Core.Path.{ap, ◌∙◌}
 use Rattle.std.specs.Prelude.{Ok}
 use Rattle.std.proofs.lemmas.Result.{err_from_is_err_and}
-use Rattle.reading.proofs.Parts.{fill_begins, fill_goes, fill_ends, fill_stops}
+use Rattle.reading.proofs.Parts.{fill_goes, fill_ends, fill_stops}
 use Rattle.net_parts.specs.internal.Steps.{list_step}
 use Rattle.net_parts.proofs.list.read_list.Goals as goal
-
-pub loop-value-init : goal.loop-value-init
-loop-value-init c = fill_begins _ _ (search rules)
 
 pub returns-in_err-value-clause-is : goal.returns-in_err-value-clause-is
 returns-in_err-value-clause-is c =

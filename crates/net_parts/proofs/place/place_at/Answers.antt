@@ -30,9 +30,6 @@ returns-in_default-colours_counted c =
       room = p.inside;
     }
 
-pub overflow_add-total : goal.overflow_add-total
-overflow_add-total c = omega (arith, rw c.in-Some-colours_counted.is at c.colours_counted.ensures.small)
-
 pub returns-then-count-ge32 : goal.returns-then-count-ge32
 returns-then-count-ge32 c =
     let p = placed _ _ c.sets_named.ensures c.in-Some.is in let next = c.after-next.ensures _ p.wide in

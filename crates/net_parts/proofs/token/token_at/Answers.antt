@@ -31,8 +31,5 @@ returns c =
       room = (f.0, f.1, f.2, omega arith, omega arith, z, rw c.in-Some.is at c.flat_at.ensures.small);
     }
 
-pub bounds-named-flat : goal.bounds-named-flat
-bounds-named-flat c = omega (arith, rw c.in-Some.is at c.flat_at.ensures.small)
-
 pub bounds-file-at : goal.bounds-file-at
 bounds-file-at c = let q = after_tokens c.args.file.now c.args.at (sym c.byte_at.ensures.0 ∙ c.if-byte_at-ne25.false) c.after-next.ensures in omega arith

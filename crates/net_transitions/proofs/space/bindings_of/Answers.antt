@@ -6,8 +6,8 @@ use Rattle.net.specs.internal.ReaderEnums.{member}
 use Rattle.net_transitions.proofs.space.bindings_of.Goals as goal
 use Rattle.net_transitions.proofs.space.bindings_of.Goals.{then-has, else-has}
 
-pub returns-then-count_of-gt4 : goal.returns-then-count_of-gt4
-returns-then-count_of-gt4 c = record { few = (λ n p es ev le eb few. absurd (omega (arith, counted_in p c.count_of.ensures eb (rw ev at le), rw ev at few))); many = (λ p le eb many. omega arith); small = omega arith }
+pub returns-then-count_of-gt4-clause-few : goal.returns-then-count_of-gt4-clause-few
+returns-then-count_of-gt4-clause-few c = λ n p es ev le eb few. absurd (omega (arith, counted_in p c.count_of.ensures eb (rw ev at le), rw ev at few))
 
 pub loop-v-init : goal.loop-v-init
 loop-v-init c = (omega arith, product_begins _ _)

@@ -1,12 +1,6 @@
 use native.Mathlib.Omega.{arith}
-use Rattle.prepared.proofs.Packing.{pack_begins, pack_fits, pack_goes, pack_ends}
+use Rattle.prepared.proofs.Packing.{pack_fits, pack_goes, pack_ends}
 use Rattle.prepared.proofs.pack.pack_arcs.Goals as goal
-
-pub loop-row-init : goal.loop-row-init
-loop-row-init c = pack_begins
-
-pub overflow_mul-row : goal.overflow_mul-row
-overflow_mul-row c = omega (arith, c.requires.1, c.loop-row-test.true)
 
 pub pack_row-requires : goal.pack_row-requires
 pack_row-requires c = (c.requires.0, omega (arith, c.requires.1, c.loop-row-test.true), pack_fits c.loop-row.invariant c.loop-row-test.true c.requires.2)

@@ -1,19 +1,10 @@
 use native.Mathlib.Omega.{arith}
 use mathlib.Core.Path.{refl}
-use Rattle.prepared.proofs.Packing.{row_begins, row_room, row_fits, row_goes, row_keeps, row_ends, row_leaves, closed-with, closed_full}
+use Rattle.prepared.proofs.Packing.{row_begins, row_room, row_fits, row_goes, row_keeps, row_ends, closed-with, closed_full}
 use Rattle.prepared.proofs.pack.pack_row.Goals as goal
 
 pub loop-p-init : goal.loop-p-init
 loop-p-init c = (refl, omega arith, row_begins)
-
-pub overflow_add-base : goal.overflow_add-base
-overflow_add-base c = omega (arith, c.requires.0, c.requires.1, c.loop-p-test.true)
-
-pub offset_bounds-arcs-base : goal.offset_bounds-arcs-base
-offset_bounds-arcs-base c = omega (arith, c.requires.0, c.requires.1, c.loop-p-test.true)
-
-pub bounds-arcs-base : goal.bounds-arcs-base
-bounds-arcs-base c = omega (arith, c.requires.0, c.requires.1, c.told-arcs, c.loop-p-test.true, c.loop-p.invariant.0)
 
 pub pack_place-end-requires : goal.pack_place-end-requires
 pack_place-end-requires c = (row_fits c.loop-p.invariant.2 c.requires.2 c.loop-p-test.true, omega (arith, c.requires.0, c.loop-p-test.true), let room = row_room c.loop-p.invariant.2 (omega (arith, c.requires.0, c.loop-p-test.true)) (omega (arith, c.requires.1, c.told-arcs, c.loop-p.invariant.0)) in omega (arith, room, c.told-arcs, c.loop-p.invariant.0))
@@ -21,11 +12,14 @@ pack_place-end-requires c = (row_fits c.loop-p.invariant.2 c.requires.2 c.loop-p
 pub loop-p-preserved : goal.loop-p-preserved
 loop-p-preserved c = (omega (arith, c.pack_place-end.array_long, c.told-arcs), omega (arith, c.loop-p-test.true), row_goes c.loop-p.invariant.2 refl c.pack_place-end.ensures.is)
 
-pub bounds-arcs-end : goal.bounds-arcs-end
-bounds-arcs-end c = omega (arith, c.if-end-base.true, c.requires.1, c.told-arcs, c.loop-p.invariant.0)
+pub returns-then-end-base-clause-front : goal.returns-then-end-base-clause-front
+returns-then-end-base-clause-front c = row_keeps c.loop-p.invariant.2 (closed-with c.args.base c.loop-p.end c.loop-p.arcs c.if-end-base.true (omega (arith, c.requires.1, c.told-arcs, c.loop-p.invariant.0))) (omega (arith, c.requires.1, c.told-arcs))
 
-pub returns-then-end-base : goal.returns-then-end-base
-returns-then-end-base c = let closed = closed-with c.args.base _ _ c.if-end-base.true (omega (arith, c.requires.1, c.told-arcs, c.loop-p.invariant.0)) in record { front = row_keeps c.loop-p.invariant.2 closed (omega (arith, c.requires.1, c.told-arcs)); is = row_ends c.loop-p.invariant.2 closed (omega (arith, c.loop-p.invariant.1, c.loop-p-test.false)) (omega (arith, c.requires.1, c.told-arcs)); back = row_leaves c.loop-p.invariant.2 closed (omega (arith, c.loop-p.invariant.1, c.requires.0)) }
+pub returns-then-end-base-clause-is : goal.returns-then-end-base-clause-is
+returns-then-end-base-clause-is c = row_ends c.loop-p.invariant.2 (closed-with c.args.base c.loop-p.end c.loop-p.arcs c.if-end-base.true (omega (arith, c.requires.1, c.told-arcs, c.loop-p.invariant.0))) (omega (arith, c.loop-p.invariant.1, c.loop-p-test.false)) (omega (arith, c.requires.1, c.told-arcs))
 
-pub returns-else-end-base : goal.returns-else-end-base
-returns-else-end-base c = let closed = closed_full c.args.base _ c.loop-p.arcs c.if-end-base.false in record { front = row_keeps c.loop-p.invariant.2 closed (omega (arith, c.requires.1, c.told-arcs)); is = row_ends c.loop-p.invariant.2 closed (omega (arith, c.loop-p.invariant.1, c.loop-p-test.false)) (omega (arith, c.requires.1, c.told-arcs)); back = row_leaves c.loop-p.invariant.2 closed (omega (arith, c.loop-p.invariant.1, c.requires.0)) }
+pub returns-else-end-base-clause-front : goal.returns-else-end-base-clause-front
+returns-else-end-base-clause-front c = row_keeps c.loop-p.invariant.2 (closed_full c.args.base c.loop-p.end c.loop-p.arcs c.if-end-base.false) (omega (arith, c.requires.1, c.told-arcs))
+
+pub returns-else-end-base-clause-is : goal.returns-else-end-base-clause-is
+returns-else-end-base-clause-is c = row_ends c.loop-p.invariant.2 (closed_full c.args.base c.loop-p.end c.loop-p.arcs c.if-end-base.false) (omega (arith, c.loop-p.invariant.1, c.loop-p-test.false)) (omega (arith, c.requires.1, c.told-arcs))

@@ -1,0 +1,2 @@
+-- What contracts between functions and proofs cite; no call for users does.
+pub mod Reasons
