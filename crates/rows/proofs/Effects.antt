@@ -1,5 +1,5 @@
 -- The effect of a binding, from its guard and the arcs of its three kinds; and what firing its row gives. Assumes nothing.
-use Rattle.std.specs.Prelude.{◌+◌, ◌-◌, ◌/◌, ◌||◌, ◌∷◌, if◌then◌else◌}
+use Rattle.std.specs.Prelude.{◌+◌, ◌/◌, ◌||◌, ◌∷◌, if◌then◌else◌}
 use mathlib.Core.Path.{◌≡◌, refl, sym, ap, subst, fun_ext, ◌∙◌}
 use mathlib.Core.List.Memᴰ
 use Prim.Native.Nat.{◌≤◌, ◌<◌}

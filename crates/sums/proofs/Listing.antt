@@ -5,15 +5,14 @@ use Prim.Native.Nat.{◌≤◌, ◌<◌}
 use native.Mathlib.Omega.{arith}
 use native.Mathlib.Nat.{mul-le-mul_left, le_trans}
 use borrow.Author.Tests.{le-leb, ne_eqb, ltb-true, ltb-false}
-use Rattle.reading.specs.Basics.{ℕ, Bool, true, false, List, [], length, take, drop, ltb, eqb, byte_at, word_at}
+use Rattle.reading.specs.Basics.{ℕ, Bool, true, false, List, [], length, take, ltb, eqb, byte_at, word_at}
 use Rattle.reading.specs.Reading.{Answer, fine, fault, under, needed}
 use Rattle.firing.specs.declared.Arc.{Arc}
-use Rattle.firing.specs.internal.RowLists.{arcs_in}
 use Rattle.net.specs.Net.{Colour, Expression, all, times, Place, single, pair, Net, ceiling}
 use Rattle.net.specs.Reader.{read_colour, read_expression, expression_commands, two_of, amount, capped}
 use Rattle.net.specs.Values.{weight}
 use Rattle.evaluation.specs.internal.Evaluated.{bound, Ranks}
-use Rattle.runs.specs.internal.Terms.{limit, term, count_in, Terms, none, more, joined, join_by, times_all, Laid}
+use Rattle.runs.specs.internal.Terms.{limit, term, count_in, none, more, joined, join_by, times_all, Laid}
 use Rattle.arc_expressions.specs.internal.ReaderEnums.{joins}
 use Rattle.arc_expressions.specs.declared.operator.Operator.{Operator}
 use Rattle.arc_expressions.specs.declared.operator.Operator.TheVariants.{Plus, Minus}
@@ -25,8 +24,6 @@ use Rattle.evaluation.proofs.Weights.{weight_le, joined_by, times_by, one_by, tw
 use Rattle.sums.specs.internal.Loaded.{terms, Counted, Listed, ListedTold, byte_of}
 use Rattle.sums.specs.declared.terms.Multiset.{Multiset}
 use borrow.Rule.Slice.PartMut.{put_mid}
-use Rattle.std.proofs.Math.ListN.{length-append, length-drop, length-take}
-use Rattle.std.proofs.lemmas.List.{take_at}
 use Rattle.runs.proofs.Laying.{behind, changed, laid_none, laid_front, laid_left, Merged, laid_merged}
 use Rattle.runs.proofs.Joining.{join_fits, joined_counts, joined_rises, joined_few, times_counts, times_rises, times_few}
 

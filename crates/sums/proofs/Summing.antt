@@ -4,7 +4,7 @@ use mathlib.Core.Path.{◌≡◌, refl, sym, ap, subst, ◌∙◌}
 use Prim.Native.Nat.{◌≤◌, ◌<◌}
 use native.Mathlib.Omega.{arith}
 use borrow.Author.Tests.{le-leb, ne_eqb, lt-ltb, ltb-true, ltb-false}
-use Rattle.reading.specs.Basics.{ℕ, zero, suc, Bool, true, false, List, [], Option, some, none, length, take, drop, ltb, eqb, given, with, byte_at, word_at}
+use Rattle.reading.specs.Basics.{ℕ, zero, suc, Bool, true, false, List, [], Option, some, none, length, take, ltb, eqb, given, with, byte_at, word_at}
 use Rattle.reading.specs.Reading.{Answer, fine, fault, under, Check, ◌unless◌, failing, Command, command, obey}
 use Rattle.reading.proofs.Lists.{end, also}
 use Rattle.std.proofs.lemmas.Bool.{false≢true}
@@ -26,9 +26,7 @@ use Rattle.runs.specs.internal.Terms.{term, count_in, Terms, joined, join_by, La
 use Rattle.sums.specs.internal.Loaded.{terms, ListedTold}
 use Rattle.sums.specs.internal.Sums.{InTurn, together, Summing, SumTold}
 use Rattle.sums.specs.internal.Sums as sums
-use Rattle.sums.specs.declared.terms.Multiset.{Multiset}
 use Rattle.arc_expressions.specs.declared.operator.Operator.TheVariants.{Plus}
-use borrow.Rule.Slice.PartMut.{put_mid}
 use Rattle.runs.proofs.Laying.{behind, changed, laid_none, laid_over, laid_left, Merged, laid_merged}
 use Rattle.runs.proofs.Joining.{join_fits, joined_counts, joined_rises, joined_few}
 use Rattle.sums.proofs.Listing.{amount-term, OneTerm}

@@ -1,4 +1,4 @@
-use Rattle.std.proofs.Common.{ap, ◌∙◌, ◌+◌, ◌-◌, length, arith}
+use Rattle.std.proofs.Common.{ap, ◌∙◌, ◌+◌, arith}
 use Rattle.std.proofs.lemmas.List.{take_rest}
 use Rattle.runs.specs.internal.Terms.{join_by}
 use Rattle.runs.proofs.Laying.{changed, length-behind, length-changed}
