@@ -5,13 +5,14 @@ ghost use Rattle.net_file.specs.Limits.{Limits};
 ghost use Rattle.prepared.specs.internal.Drawn.{net_of};
 ghost use Rattle.bindings.specs.internal.Bindings.{its_sizes};
 ghost use Rattle.row_numbers.specs.Unfolding.{row_number, image, images};
-ghost use Rattle.row_numbers.specs.internal.Walked.{order_at, Starts};
+ghost use Rattle.row_numbers.specs.internal.Walked.{order_at, entries, Starts};
 ghost use Rattle.flat_file.specs.internal.Output.{Appended};
 
 use bindings::{Numbered, every_binding_has_row, name_order};
 use flat_file::put_bytes;
 use prepared::Drawing;
 use reading::element;
+use row_numbers::number_all;
 
 // The image that carries a row number.
 fn write_image(row: u32, out: &mut [u8], at: usize) -> usize
@@ -24,10 +25,10 @@ fn write_image(row: u32, out: &mut [u8], at: usize) -> usize
 
 // A net with the numbers of its rows: where each transition starts, and the table.
 #[derive(Clone, Copy)]
-pub struct RowTable<'a> {
-    pub drawing: &'a Drawing<'a>,
-    pub starts: &'a [usize; 32],
-    pub numbers: &'a [u32],
+struct RowTable<'a> {
+    drawing: &'a Drawing<'a>,
+    starts: &'a [usize; 32],
+    numbers: &'a [u32],
     ghost told: { Starts (net_of drawing.now) drawing.now.plan starts.now numbers.now (length (net_of drawing.now).transitions) },
     ghost limits: { Limits (net_of drawing.now) },
 }
@@ -59,17 +60,27 @@ impl RowTable<'_> {
             None => u32::MAX,
         }
     }
+}
 
-    // Writes the image of each order.
-    pub fn write_images(&self, orders: &[u8], out: &mut [u8])
-        requires { length orders.now / 6 * 5 ≤ length out.old }
-        ensures { out.new ≡ over (images (net_of self.now.drawing.now) orders.now) out.old }
-    {
-        let mut env = [0u8; 32];
-        let mut next: usize = 0;
-        for i in 0..orders.len() / 6 {
-            let row = self.row_of(orders, i, &mut env);
-            next = write_image(row, out, next);
-        }
+// Writes the image of each order, by a table of so many entries for the row numbers.
+pub fn images_by<const N: usize>(drawing: &Drawing, orders: &[u8], out: &mut [u8])
+    requires few { N ≤ 65536 }
+    requires enough { entries (net_of drawing.now) drawing.now.plan (length (net_of drawing.now).transitions) ≤ N }
+    requires room { length orders.now / 6 * 5 ≤ length out.old }
+    ensures { out.new ≡ over (images (net_of drawing.now) orders.now) out.old }
+{
+    let mut starts = [0usize; 32];
+    let mut numbers = [0u32; N];
+    number_all(drawing, &mut starts, &mut numbers);
+    let table = RowTable {
+        drawing,
+        starts: &starts,
+        numbers: &numbers,
+    };
+    let mut env = [0u8; 32];
+    let mut next: usize = 0;
+    for i in 0..orders.len() / 6 {
+        let row = table.row_of(orders, i, &mut env);
+        next = write_image(row, out, next);
     }
 }

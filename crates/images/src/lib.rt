@@ -8,35 +8,16 @@ ghost use Rattle.reading.specs.Basics.{over};
 ghost use Rattle.prepared.specs.internal.Drawn.{net_of};
 ghost use Rattle.row_numbers.specs.Unfolding as meant;
 ghost use Rattle.row_numbers.specs.Unfolding.{images_call, order_call};
-ghost use Rattle.row_numbers.specs.internal.Walked.{entries};
 ghost use Rattle.images.specs.Replies.{images_called, order_reply};
 
 pub use bindings::Order;
 use bindings::order_at;
-use image::RowTable;
+use image::images_by;
 use prepared::Drawing;
 use reading::{Reason, Refusal, once_more, refused};
-use row_numbers::{count_entries, number_all, seek_row};
+use row_numbers::{count_entries, seek_row};
 
-// Writes the images of orders, by a table of so many entries for the row numbers.
-fn images_by<const N: usize>(drawing: &Drawing, orders: &[u8], out: &mut [u8])
-    requires few { N ≤ 65536 }
-    requires enough { entries (net_of drawing.now) drawing.now.plan (length (net_of drawing.now).transitions) ≤ N }
-    requires room { length orders.now / 6 * 5 ≤ length out.old }
-    ensures { out.new ≡ over (meant.images (net_of drawing.now) orders.now) out.old }
-{
-    let mut starts = [0usize; 32];
-    let mut numbers = [0u32; N];
-    number_all(drawing, &mut starts, &mut numbers);
-    RowTable {
-        drawing,
-        starts: &starts,
-        numbers: &numbers,
-    }
-    .write_images(orders, out);
-}
-
-// On any net. Kept apart (once_more).
+// The images on any net, by the largest table. Kept apart (once_more).
 #[inline(never)]
 fn images_long(drawing: &Drawing, orders: &[u8], out: &mut [u8], again: bool)
     requires { length orders.now / 6 * 5 ≤ length out.old }
@@ -46,21 +27,6 @@ fn images_long(drawing: &Drawing, orders: &[u8], out: &mut [u8], again: bool)
         images_long(drawing, orders, out, false);
     } else {
         images_by::<65536>(drawing, orders, out);
-    }
-}
-
-// By the smallest table that is enough.
-fn images_on(drawing: &Drawing, orders: &[u8], out: &mut [u8])
-    requires { length orders.now / 6 * 5 ≤ length out.old }
-    ensures { out.new ≡ over (meant.images (net_of drawing.now) orders.now) out.old }
-{
-    let entries = count_entries(drawing);
-    if entries <= 64 {
-        images_by::<64>(drawing, orders, out);
-    } else if entries <= 1024 {
-        images_by::<1024>(drawing, orders, out);
-    } else {
-        images_long(drawing, orders, out, true);
     }
 }
 
@@ -78,7 +44,15 @@ pub fn images(net: &[u8], orders: &[u8], out: &mut [u8]) -> Result<usize, Refusa
     if out.len() < count * 5 {
         return refused(Reason::NoSpace, 0);
     }
-    images_on(&drawing, orders, out);
+    // By the smallest table that is enough.
+    let entries = count_entries(&drawing);
+    if entries <= 64 {
+        images_by::<64>(&drawing, orders, out);
+    } else if entries <= 1024 {
+        images_by::<1024>(&drawing, orders, out);
+    } else {
+        images_long(&drawing, orders, out, true);
+    }
     Ok(count)
 }
 

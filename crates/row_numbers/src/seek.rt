@@ -30,7 +30,7 @@ fn seek_in(transition: &Transition, row: usize) -> Result<usize, usize>
         return seek_guarded(transition, row);
     }
     let size = space_of(transition);
-    if row < size { Ok(row) } else { Err(size) }
+    (row < size).then_some(row).ok_or(size)
 }
 
 // The binding of a row, if there is one.

@@ -24,6 +24,7 @@ fn number_of(count: usize, next: usize) -> u32
     ensures row { count < next → result ≡ count }
     ensures none { next ≤ count → result ≡ 4294967295 }
 {
+    // A plain choice: `then_some` with `unwrap_or` would only hide it.
     if count < next { count as u32 } else { u32::MAX }
 }
 

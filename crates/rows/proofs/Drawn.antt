@@ -6,7 +6,6 @@ use native.Mathlib.Omega.{arith}
 use borrow.Author.Tests.{eq-eqb, ne_eqb, ltb-true, ltb-false}
 use lib.ListN.{get_or-eq_default}
 use lib.Seq.{take_all}
-use borrow.Rule.Slice.PartMut.{put_mid}
 use Rattle.reading.specs.Basics.{ℕ, Bool, true, false, List, [], flat_map, Option, none, some, option_map, length, get_or, take, ltb}
 use Rattle.reading.specs.Reading.{fine}
 use Rattle.firing.specs.declared.Arc.{Arc}
@@ -23,7 +22,7 @@ use Rattle.runs.specs.internal.Terms.{Laid}
 use Rattle.sums.specs.internal.Loaded.{rank_arcs, ExpressionLoaded}
 use Rattle.sums.specs.internal.Slots.{expression_slots, slots_for}
 use Rattle.multiset.proofs.Slots.{slots_told}
-use Rattle.runs.proofs.Laying.{laid_join}
+use Rattle.runs.proofs.Laying.{behind, changed, length-behind, laid_join}
 use Rattle.plan.specs.internal.Layout.{sets_in, variables_in, guards_in, packed_in, expression_in, start_in, ranks_in, pair_in}
 use Rattle.plan.specs.declared.entry.Entry.{Entry}
 use Rattle.plan.specs.internal.Entries.{Tells}
@@ -37,7 +36,6 @@ use Rattle.rows.specs.internal.EntrySteps.{Begun, Told}
 use Rattle.rows.specs.declared.entries.Entries.{Entries as Left}
 use Rattle.prepared.proofs.Starts.{start_next, start_low}
 use Rattle.rows.proofs.Split.{kind_more, place_none}
-use Rattle.rows.proofs.Free.{behind, length-behind}
 use Rattle.prepared.proofs.Packing.{HoldingAt, holding_at, holding-with, holding_few, holding_give, entries_many, entry_at}
 
 -- a place by whether it is a pair
@@ -233,14 +231,14 @@ module _ {s : List ℕ} {n : Net} {plan : List ℕ} (env : List ℕ) (prepared :
 
   row_loads : {i : ℕ} {entry : Entry} (en : Entered d ht hk i entry) {room₀ room part : List Arc} {end more : ℕ}
       → Laid (flat_map (place_arcs n (transition_at n t) (bound env) (0x16 + k)) (take i (holding d.slots (t * 96 + k * 32) (length n.places)))) room₀ room end
-      → EntryLoaded s plan env entry (behind room end) part more → end ≤ length room
+      → EntryLoaded s plan env entry (behind end room) part more → end ≤ length room
       → kind_slots n (transition_at n t) (0x16 + k) + length s / 2 ≤ length room₀
-      → Laid (flat_map (place_arcs n (transition_at n t) (bound env) (0x16 + k)) (take (i + 1) (holding d.slots (t * 96 + k * 32) (length n.places)))) room₀ (put_mid end (length room - end) room part) (end + more)
+      → Laid (flat_map (place_arcs n (transition_at n t) (bound env) (0x16 + k)) (take (i + 1) (holding d.slots (t * 96 + k * 32) (length n.places)))) room₀ (changed end room part) (end + more)
   row_loads {i} {entry} en {room₀} {room} {part} {end} {more} so_far loaded le x =
-      subst (λ l. Laid l room₀ (put_mid end (length room - end) room part) (end + more)) (sym (given_with_it d ht hk (bound env) en)) (laid_join before le (entry_arc d ht hk en (λ a next q reads.
+      subst (λ l. Laid l room₀ (changed end room part) (end + more)) (sym (given_with_it d ht hk (bound env) en)) (laid_join before le (entry_arc d ht hk en (λ a next q reads.
       let needs : place_slots n (transition_at n t) (0x16 + k) p ≡ expression_slots (colours_of n (place_at n p)) a.expression = rw q refl in
-      subst (λ l. Laid l (behind room end) part more) (arcs_given d ht hk (bound env) p a q)
-      (place_loads entry p a.expression en.starts_at en.ranks en.paired loaded reads (omega (arith, needs, wide, length-behind room end, before.size))))))
+      subst (λ l. Laid l (behind end room) part more) (arcs_given d ht hk (bound env) p a q)
+      (place_loads entry p a.expression en.starts_at en.ranks en.paired loaded reads (omega (arith, needs, wide, length-behind end room, before.size))))))
     where
       p : ℕ
       p = en.place
@@ -313,8 +311,8 @@ PlacesLoaded d k env room₀ room end i places =
 
 module _ {d : DrawnTransition} {k : ℕ} {left : Left} (env : List ℕ) {room₀ room : List Arc} {end : ℕ} (u : Upto d k left (PlacesLoaded d k env room₀ room end)) where
   pub kind_goes : {left' : Left} {part : List Arc} {entry : Entry} {more : ℕ} → Told left.plan.now left.at left.end (Some entry) left'.plan.now left'.at left'.end
-      → EntryLoaded d.drawing.file d.drawing.plan env entry (behind room end) part more → end ≤ length room
-      → Upto d k left' (PlacesLoaded d k env room₀ (put_mid end (length room - end) room part) (end + more))
+      → EntryLoaded d.drawing.file d.drawing.plan env entry (behind end room) part more → end ≤ length room
+      → Upto d k left' (PlacesLoaded d k env room₀ (changed end room part) (end + more))
   kind_goes told loaded le = upto_goes u told (λ en so_far x. row_loads env u.ready.0 u.ready.1 u.kind en (so_far x) loaded le x)
 
   -- the arcs of its places are the kind's

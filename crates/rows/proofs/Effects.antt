@@ -1,10 +1,9 @@
 -- The effect of a binding, from its guard and the arcs of its three kinds; and what firing its row gives. Assumes nothing.
-use Rattle.std.specs.Prelude.{◌+◌, ◌-◌, ◌/◌, ◌||◌, ◌∷◌, if◌then◌else◌}
+use Rattle.std.specs.Prelude.{◌+◌, ◌/◌, ◌||◌, ◌∷◌, if◌then◌else◌}
 use mathlib.Core.Path.{◌≡◌, refl, sym, ap, subst, fun_ext, ◌∙◌}
 use mathlib.Core.List.Memᴰ
 use Prim.Native.Nat.{◌≤◌, ◌<◌}
 use native.Mathlib.Omega.{arith}
-use borrow.Rule.Slice.PartMut.{put_mid}
 use Rattle.std.proofs.lemmas.List.{take-take}
 use Rattle.reading.specs.Basics.{ℕ, Bool, true, false, List, [], Option, none, some, length, get_elem?, given, any, find, take}
 use Rattle.reading.proofs.Lists.{In, here, there, in_cases}
@@ -23,7 +22,7 @@ use Rattle.evaluation.specs.internal.Evaluated.{bound}
 use Rattle.net.proofs.Alike.{weight-bound}
 use Rattle.runs.specs.internal.Terms.{Laid}
 use Rattle.firing.proofs.Rows.{arcs_first, arcs_front}
-use Rattle.runs.proofs.Laying.{laid_size, laid_first, laid_second}
+use Rattle.runs.proofs.Laying.{behind, changed, length-behind, laid_size, laid_first, laid_second}
 use Rattle.bindings.specs.Effect.{Binding, FlatPlace, stands_for, flat_places, arc_weight, effect, flat_row}
 use Rattle.rows.specs.internal.Effects.{kind_slots, row_slots, room, kind_arcs, TakesLoaded, RowLoaded}
 use Rattle.bindings.specs.internal.Bindings.{Binds, binding}
@@ -31,7 +30,6 @@ use Rattle.rows.specs.internal.Loading.{KindLoaded}
 use Rattle.rows.proofs.Needing.{kind_low, kind_arcs_lem, row_room}
 use Rattle.prepared.proofs.Starts.{start_low}
 use Rattle.rows.proofs.Split.{split, kind_few}
-use Rattle.rows.proofs.Free.{behind, length-behind}
 use Rattle.bindings.proofs.Legal.{effect_weighs}
 
 -- ---- what stands somewhere
@@ -110,15 +108,15 @@ module _ (s : List ℕ) (n : Net) (env : List ℕ) (t : ℕ) (ht : t < length n.
   -- the puts and hinders were laid behind the takes, one after the other
   module _ (list puts_part hinders_part : List Arc) (takes u v : ℕ) where
     abbrev with_puts : List Arc
-    with_puts = put_mid takes (length list - takes) list puts_part
+    with_puts = changed takes list puts_part
 
     abbrev whole : List Arc
-    whole = put_mid (takes + u) (length with_puts - (takes + u)) with_puts hinders_part
+    whole = changed (takes + u) with_puts hinders_part
 
     pub effect_rest : room s n ≤ length list → takes ≤ length list
         → TakesLoaded n (binding t colours) list takes
-        → KindLoaded s n env t 1 (behind list takes) puts_part u
-        → KindLoaded s n env t 2 (behind with_puts (takes + u)) hinders_part v
+        → KindLoaded s n env t 1 (behind takes list) puts_part u
+        → KindLoaded s n env t 2 (behind (takes + u) with_puts) hinders_part v
         → RowLoaded n (binding t colours) whole takes (takes + u) (takes + u + v)
     effect_rest x le k k2 k3 =
         record {
@@ -133,8 +131,8 @@ module _ (s : List ℕ) (n : Net) (env : List ℕ) (t : ℕ) (ht : t < length n.
           inside = omega (arith, k.few, low 0x17, low 0x18, second.many, third.many);
         }
       where
-        second : Laid (arcs_of_lem 0x17) (behind list takes) puts_part u
-        second = k2 (omega (arith, wide, k.few, length-behind list takes))
+        second : Laid (arcs_of_lem 0x17) (behind takes list) puts_part u
+        second = k2 (omega (arith, wide, k.few, length-behind takes list))
 
         size : length with_puts ≡ length list
         size = laid_size _ list puts_part takes u le second
@@ -142,8 +140,8 @@ module _ (s : List ℕ) (n : Net) (env : List ℕ) (t : ℕ) (ht : t < length n.
         reach : takes + u ≤ length with_puts
         reach = omega (arith, wide, k.few, low 0x17, second.many, size)
 
-        third : Laid (arcs_of_lem 0x18) (behind with_puts (takes + u)) hinders_part v
-        third = k3 (omega (arith, wide, k.few, low 0x17, second.many, size, length-behind with_puts (takes + u)))
+        third : Laid (arcs_of_lem 0x18) (behind (takes + u) with_puts) hinders_part v
+        third = k3 (omega (arith, wide, k.few, low 0x17, second.many, size, length-behind (takes + u) with_puts))
 
         -- the takes and puts are kept, and so the takes alone
         first : take (takes + u) whole ≡ take (takes + u) with_puts

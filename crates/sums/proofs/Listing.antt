@@ -5,15 +5,14 @@ use Prim.Native.Nat.{◌≤◌, ◌<◌}
 use native.Mathlib.Omega.{arith}
 use native.Mathlib.Nat.{mul-le-mul_left, le_trans}
 use borrow.Author.Tests.{le-leb, ne_eqb, ltb-true, ltb-false}
-use Rattle.reading.specs.Basics.{ℕ, Bool, true, false, List, [], length, take, drop, ltb, eqb, byte_at, word_at}
+use Rattle.reading.specs.Basics.{ℕ, Bool, true, false, List, [], length, take, ltb, eqb, byte_at, word_at}
 use Rattle.reading.specs.Reading.{Answer, fine, fault, under, needed}
 use Rattle.firing.specs.declared.Arc.{Arc}
-use Rattle.firing.specs.internal.RowLists.{arcs_in}
 use Rattle.net.specs.Net.{Colour, Expression, all, times, Place, single, pair, Net, ceiling}
 use Rattle.net.specs.Reader.{read_colour, read_expression, expression_commands, two_of, amount, capped}
 use Rattle.net.specs.Values.{weight}
 use Rattle.evaluation.specs.internal.Evaluated.{bound, Ranks}
-use Rattle.runs.specs.internal.Terms.{limit, term, count_in, Terms, none, more, joined, join_by, times_all, Laid}
+use Rattle.runs.specs.internal.Terms.{limit, term, count_in, none, more, joined, join_by, times_all, Laid}
 use Rattle.arc_expressions.specs.internal.ReaderEnums.{joins}
 use Rattle.arc_expressions.specs.declared.operator.Operator.{Operator}
 use Rattle.arc_expressions.specs.declared.operator.Operator.TheVariants.{Plus, Minus}
@@ -25,9 +24,7 @@ use Rattle.evaluation.proofs.Weights.{weight_le, joined_by, times_by, one_by, tw
 use Rattle.sums.specs.internal.Loaded.{terms, Counted, Listed, ListedTold, byte_of}
 use Rattle.sums.specs.declared.terms.Multiset.{Multiset}
 use borrow.Rule.Slice.PartMut.{put_mid}
-use Rattle.std.proofs.Math.ListN.{length-append, length-drop, length-take}
-use Rattle.std.proofs.lemmas.List.{take_at}
-use Rattle.runs.proofs.Laying.{laid_none, laid_size, laid_first, laid_second}
+use Rattle.runs.proofs.Laying.{behind, changed, laid_none, laid_front, laid_left, Merged, laid_merged}
 use Rattle.runs.proofs.Joining.{join_fits, joined_counts, joined_rises, joined_few, times_counts, times_rises, times_few}
 
 -- ---- the parts of an expression, counted
@@ -83,36 +80,6 @@ module _ (n : Net) (env : List ℕ) (count : ℕ) where
           few = join_few (join_by Plus);
         }
 
--- ---- terms laid over others
-pub laid_over : {xs ys l l' l'' : List Arc} {u v : ℕ} → Laid xs l l' u → Laid ys l' l'' v → Laid ys l l'' v
-laid_over f g = record { are = g.are; many = g.many; size = g.size ∙ f.size }
-
--- so many of them changed where they lie
-laid_front : {xs l l' ys : List Arc} {u : ℕ} → Laid xs l l' u → u ≤ length l' → length ys ≡ u → Laid ys l (put_mid 0 u l' ys) u
-laid_front {xs} {l} {l'} {ys} {u} f le e =
-    record { are = take_at ys (drop u l') u e; many = sym e; size = omega (arith, length-append ys (drop u l'), length-drop u l', e, le, f.size) }
-
--- what is left of the room behind them
-pub laid_left : {xs l l' : List Arc} {u : ℕ} → Laid xs l l' u → length (take (length l' - u) (drop u l')) ≡ length l - length xs
-laid_left {l' = l'} {u} f = omega (arith, f.many, f.size, length-take (length l' - u) (drop u l'), length-drop u l')
-
--- ---- two runs at a room's front joined
-abbrev pub Merged : Operator → ℕ → ℕ → ℕ → ℕ → List Arc → List Arc → ℕ → Type 0
-Merged op p q u v room room' r =
-    (below : ℕ) → Terms below 0 (take u room) → Terms below 0 (arcs_in room u (u + v)) → u + v + (u + v) ≤ length room
-    → Laid (joined (join_by op) p q (take u room) (arcs_in room u (u + v))) room room' r
-
--- the first was laid into a room, the second behind it
-pub laid_merged : {xs ys l l₁ part l₃ : List Arc} {u v r : ℕ} (op : Operator) (p q count : ℕ) → Laid xs l l₁ u → Laid ys (take (length l₁ - u) (drop u l₁)) part v → Terms count 0 xs → Terms count 0 ys
-    → 2 * (length xs + length ys) ≤ length l → Merged op p q u v (put_mid u (length l₁ - u) l₁ part) l₃ r → Laid (joined (join_by op) p q xs ys) l l₃ r
-laid_merged {xs} {ys} {l} {l₁} {part} {l₃} {u} {v} op p q count f g t t' i merged =
-    let le : u ≤ length l₁ = omega (arith, f.many, f.size) in
-    let size = laid_size ys l₁ part u v le g in
-    let one : take u (put_mid u (length l₁ - u) l₁ part) ≡ xs = laid_first ys l₁ part u v le g ∙ f.are in
-    let other = laid_second ys l₁ part u v le g in
-    let h = rw (one, other) at (merged count (rw one t) (rw other t') (omega (arith, size, f.many, f.size, g.many))) in
-    record { are = h.are; many = h.many; size = h.size ∙ size ∙ f.size }
-
 -- ---- a factor times the expression that was listed, and two listed one after the other
 module _ (n : Net) (env : List ℕ) (count : ℕ) (room : List Arc) (inner : ℕ → Answer Expression) (at next : ℕ) (room₁ : List Arc) (p : Multiset)
     (first : ListedTold n env count room room₁ p (inner next)) where
@@ -135,12 +102,12 @@ module _ (n : Net) (env : List ℕ) (count : ℕ) (room : List Arc) (inner : ℕ
       })
 
   -- where both were listed, and their terms joined
-  module _ (part : List Arc) (q : Multiset) (second : ListedTold n env count (take (length room₁ - p.many) (drop p.many room₁)) part q (inner p.next)) (op : Operator) (fits : p.rest ≤ 65535)
-      (room₃ : List Arc) (r : ℕ) (merged : Merged op p.rest q.rest p.many q.many (put_mid p.many (length room₁ - p.many) room₁ part) room₃ r) where
+  module _ (part : List Arc) (q : Multiset) (second : ListedTold n env count (behind p.many room₁) part q (inner p.next)) (op : Operator) (fits : p.rest ≤ 65535)
+      (room₃ : List Arc) (r : ℕ) (merged : Merged op p.rest q.rest p.many q.many (changed p.many room₁ part) room₃ r) where
     abbrev whole : Multiset
     whole = record { many = r; rest = join_by op p.rest q.rest; next = q.next }
 
-    both_listed : (a b : Expression) (mid end : ℕ) → Listed n env count room room₁ p a mid → Listed n env count (take (length room₁ - p.many) (drop p.many room₁)) part q b end
+    both_listed : (a b : Expression) (mid end : ℕ) → Listed n env count room room₁ p a mid → Listed n env count (behind p.many room₁) part q b end
         → ceiling (joins op a b) ≤ 65535 → 2 * (terms a + terms b) ≤ length room → Listed n env count room room₃ whole (joins op a b) end
     both_listed a b mid end g h small i =
         record {
@@ -162,7 +129,7 @@ module _ (n : Net) (env : List ℕ) (count : ℕ) (room : List Arc) (inner : ℕ
         let t = joins-terms op a b in
         let told : ListedTold n env count room room₁ p (fine a mid) = subst (ListedTold n env count room room₁ p) e first in
         let g = told (omega (arith, t, i)) in
-        let left : List Arc = take (length room₁ - p.many) (drop p.many room₁) in
+        let left : List Arc = behind p.many room₁ in
         let told' : ListedTold n env count left part q (fine b end) = subst (ListedTold n env count left part q) (ap inner g.after ∙ f) second in
         let h = told' (omega (arith, t, i, laid_left g.lie, g.counted.few)) in
         both_listed a b mid end g h small (omega (arith, t, i)))

@@ -4,7 +4,7 @@ use mathlib.Core.Path.{◌≡◌, refl, sym, ap, subst, ◌∙◌}
 use Prim.Native.Nat.{◌≤◌, ◌<◌}
 use native.Mathlib.Omega.{arith}
 use borrow.Author.Tests.{le-leb, ne_eqb, lt-ltb, ltb-true, ltb-false}
-use Rattle.reading.specs.Basics.{ℕ, zero, suc, Bool, true, false, List, [], Option, some, none, length, take, drop, ltb, eqb, given, with, byte_at, word_at}
+use Rattle.reading.specs.Basics.{ℕ, zero, suc, Bool, true, false, List, [], Option, some, none, length, take, ltb, eqb, given, with, byte_at, word_at}
 use Rattle.reading.specs.Reading.{Answer, fine, fault, under, Check, ◌unless◌, failing, Command, command, obey}
 use Rattle.reading.proofs.Lists.{end, also}
 use Rattle.std.proofs.lemmas.Bool.{false≢true}
@@ -26,12 +26,10 @@ use Rattle.runs.specs.internal.Terms.{term, count_in, Terms, joined, join_by, La
 use Rattle.sums.specs.internal.Loaded.{terms, ListedTold}
 use Rattle.sums.specs.internal.Sums.{InTurn, together, Summing, SumTold}
 use Rattle.sums.specs.internal.Sums as sums
-use Rattle.sums.specs.declared.terms.Multiset.{Multiset}
 use Rattle.arc_expressions.specs.declared.operator.Operator.TheVariants.{Plus}
-use borrow.Rule.Slice.PartMut.{put_mid}
-use Rattle.runs.proofs.Laying.{laid_none}
+use Rattle.runs.proofs.Laying.{behind, changed, laid_none, laid_over, laid_left, Merged, laid_merged}
 use Rattle.runs.proofs.Joining.{join_fits, joined_counts, joined_rises, joined_few}
-use Rattle.sums.proofs.Listing.{laid_over, laid_left, Merged, laid_merged, amount-term, OneTerm}
+use Rattle.sums.proofs.Listing.{amount-term, OneTerm}
 
 -- ---- what is read with some levels left is read the same with more
 -- one reading gives what another gives
@@ -265,8 +263,8 @@ module _ (s : List ℕ) (n : Net) (place : Place) (env : List ℕ) where
                 }
 
         -- another run follows behind them, and both are joined
-        pub sum-joins : (part : List Arc) (many₂ next₂ ahead₂ : ℕ) → SumTold s n place env count next ahead (take (length room₁ - many) (drop many room₁)) part many₂ next₂ ahead₂ → (room₃ : List Arc) (r : ℕ)
-            → Merged Plus 0 0 many many₂ (put_mid many (length room₁ - many) room₁ part) room₃ r → SumTold s n place env count at operands room room₃ r next₂ ahead₂
+        pub sum-joins : (part : List Arc) (many₂ next₂ ahead₂ : ℕ) → SumTold s n place env count next ahead (behind many room₁) part many₂ next₂ ahead₂ → (room₃ : List Arc) (r : ℕ)
+            → Merged Plus 0 0 many many₂ (changed many room₁ part) room₃ r → SumTold s n place env count at operands room room₃ r next₂ ahead₂
         sum-joins part many₂ next₂ ahead₂ follows room₃ r merged es stop t l small i =
             let g = told es stop t l small i in
             let h = follows g.others stop g.turn g.still (omega (arith, g.small)) (omega (arith, laid_left g.lie, g.few)) in
@@ -306,11 +304,3 @@ module _ (s : List ℕ) (n : Net) (place : Place) (env : List ℕ) where
                 after = z.1;
               }
           go (fault number p) reads = tt
-
--- something is: other terms may be laid over those, for the room is as long as it was
-pub sum_over : (n : Net) (env : List ℕ) (count : ℕ) (room room₁ room₂ : List Arc) (m : Multiset) (x : Answer Expression) → length room₁ ≡ length room
-    → ListedTold n env count room₁ room₂ m x → ListedTold n env count room room₂ m x
-sum_over n env count room room₁ room₂ m (fine e stop) size h = λ i.
-    let k = h (omega (arith, size)) in
-    record { list = k.list; lie = record { are = k.lie.are; many = k.lie.many; size = k.lie.size ∙ size }; counted = k.counted; after = k.after }
-sum_over n env count room room₁ room₂ m (fault number p) size h = tt

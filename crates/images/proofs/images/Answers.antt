@@ -11,5 +11,11 @@ returns-then-orders-ne0 c = rw c.refused.ensures (images_13 _ c.in_ok-drawing.en
 pub returns-then-out-count : goal.returns-then-out-count
 returns-then-out-count c = rw c.refused-then-out-count.ensures (images_14 _ c.in_ok-drawing.ensures.1 c.args.orders.now c.args.out.now c.if-orders-ne0.false c.if-out-count.true)
 
-pub returns : goal.returns
-returns c = images_done _ c.in_ok-drawing.ensures.1 c.args.orders.now c.args.out.now c.if-orders-ne0.false _ c.if-out-count.false c.images_on.ensures
+pub returns-then-entries-le64 : goal.returns-then-entries-le64
+returns-then-entries-le64 c = images_done _ c.in_ok-drawing.ensures.1 c.args.orders.now c.args.out.now c.if-orders-ne0.false _ c.if-out-count.false c.images_by.ensures
+
+pub returns-then-entries-le1024 : goal.returns-then-entries-le1024
+returns-then-entries-le1024 c = images_done _ c.in_ok-drawing.ensures.1 c.args.orders.now c.args.out.now c.if-orders-ne0.false _ c.if-out-count.false c.images_by-then-entries-le1024.ensures
+
+pub returns-else-entries-le1024 : goal.returns-else-entries-le1024
+returns-else-entries-le1024 c = images_done _ c.in_ok-drawing.ensures.1 c.args.orders.now c.args.out.now c.if-orders-ne0.false _ c.if-out-count.false c.images_long.ensures

@@ -1,7 +1,7 @@
 use Rattle.std.proofs.Common.{arith, take}
 use Rattle.std.proofs.lemmas.List.{length-take-le}
 use Rattle.runs.specs.internal.Terms.{term, joined, join_by}
-use Rattle.runs.proofs.Laying.{laid_none, part_long}
+use Rattle.runs.proofs.Laying.{laid_none, length-behind}
 use Rattle.runs.proofs.Merging.{rest_goes, rest_length}
 use Rattle.runs.proofs.merge_rest.Goals as goal
 
@@ -16,7 +16,7 @@ loop-b-preserved c =
     let rest = c.args.rest.now in
     let put = c.store-end.ensures in
     let long = c.loop-b.auto.room in
-    let part = part_long c.loop-b.room c.loop-b.end in
+    let part = length-behind c.loop-b.end c.loop-b.room in
     record {
       within = omega (arith, put.within, so.within, part, long);
       lie = λ h.

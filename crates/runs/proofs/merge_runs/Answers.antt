@@ -1,8 +1,7 @@
-use borrow.Rule.Slice.PartMut.{put_mid}
-use Rattle.std.proofs.Common.{ap, ◌∙◌, ◌+◌, ◌-◌, length, arith}
+use Rattle.std.proofs.Common.{ap, ◌∙◌, ◌+◌, arith}
 use Rattle.std.proofs.lemmas.List.{take_rest}
 use Rattle.runs.specs.internal.Terms.{join_by}
-use Rattle.runs.proofs.Laying.{part_long, put_long}
+use Rattle.runs.proofs.Laying.{changed, length-behind, length-changed}
 use Rattle.runs.proofs.Merging.{merging_goes, merging_ends, rest_length}
 use Rattle.runs.proofs.merge_runs.Goals as goal
 
@@ -13,9 +12,9 @@ loop-a-preserved c =
     let one = c.store-end.ensures in
     let long = c.loop-a.auto.room in
     let front = c.split_at.ensures.front_len in
-    let part = part_long c.loop-a.room c.loop-a.end in
-    let size = put_long c.loop-a.room c.merge_rest-end.new.room c.loop-a.end (omega (arith, so.within, long)) c.merge_rest-end.auto.room in
-    let behind = part_long (put_mid c.loop-a.end (length c.loop-a.room - c.loop-a.end) c.loop-a.room c.merge_rest-end.new.room) (c.loop-a.end + c.merge_rest-end.result) in
+    let part = length-behind c.loop-a.end c.loop-a.room in
+    let size = length-changed c.loop-a.end c.loop-a.room c.merge_rest-end.new.room (omega (arith, so.within, long)) c.merge_rest-end.auto.room in
+    let behind = length-behind (c.loop-a.end + c.merge_rest-end.result) (changed c.loop-a.end c.loop-a.room c.merge_rest-end.new.room) in
     record {
       within = omega (arith, so.within, rest.within, one.within, long, part, size, behind);
       goes = λ h.
@@ -34,4 +33,4 @@ returns-clause-is c = λ h.
     let so = c.loop-a.invariant in
     let long = c.loop-a.auto.room in
     let m = so.goes h in
-    merging_ends _ _ _ _ _ m c.loop-a-test.false long (omega (arith, so.within, long)) (c.merge_rest.ensures.is (omega (arith, m.room, long, part_long c.loop-a.room c.loop-a.end)))
+    merging_ends _ _ _ _ _ m c.loop-a-test.false long (omega (arith, so.within, long)) (c.merge_rest.ensures.is (omega (arith, m.room, long, length-behind c.loop-a.end c.loop-a.room)))

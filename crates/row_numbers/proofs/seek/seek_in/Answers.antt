@@ -1,10 +1,30 @@
-use mathlib.Core.Path.{sym, ◌∙◌}
+use Rattle.std.specs.Prelude.{Ok, Err}
+use Rattle.std.specs.Bool.{then_some}
+use Rattle.std.specs.Option.{ok_or}
+use mathlib.Core.Path.{◌≡◌, refl, sym, ◌∙◌}
+use Prim.Native.Nat.{◌≤◌, ◌<◌}
 use native.Mathlib.Omega.{arith}
+use borrow.Author.Tests.{ltb-true, ltb-false}
+use Rattle.reading.specs.Basics.{ℕ, Bool, true, false, ltb}
+use Rattle.prepared.specs.internal.Drawn.{DrawnTransition}
+use Rattle.row_numbers.specs.internal.Walked.{SoughtTold}
 use Rattle.row_numbers.proofs.Tabled.{every_takes, effects-every}
 use Rattle.row_numbers.proofs.seek.seek_in.Goals as goal
 
-pub returns-then-row-size : goal.returns-then-row-size
-returns-then-row-size c = let (p, lt) = c.every_binding_has_row.ensures.known in let every = sym c.every_binding_has_row.ensures.is ∙ c.if-not-every_binding_has_row.false in (omega (arith, c.space_of-size.ensures.is), sym (every_takes p lt every c.args.row), effects-every p lt every c.args.row)
+-- what the code makes of a row, by its test
+sought : (t : DrawnTransition) (row size : ℕ) → (row < size → SoughtTold t row (Ok row)) → (size ≤ row → SoughtTold t row (Err size))
+    → SoughtTold t row (ok_or (then_some (ltb row size) row) size)
+sought t row size here past = go (ltb row size) refl
+  where
+    go : (b : Bool) → ltb row size ≡ b → SoughtTold t row (ok_or (then_some b row) size)
+    go true e = here (ltb-true row size e)
+    go false e = past (ltb-false row size e)
 
-pub returns-else-row-size : goal.returns-else-row-size
-returns-else-row-size c = let (p, lt) = c.every_binding_has_row.ensures.known in let every = sym c.every_binding_has_row.ensures.is ∙ c.if-not-every_binding_has_row.false in (omega arith, c.space_of-size.ensures.is ∙ effects-every p lt every _)
+pub returns : goal.returns
+returns c =
+    let (p, lt) = c.every_binding_has_row.ensures.known in
+    let every = sym c.every_binding_has_row.ensures.is ∙ c.if-not-every_binding_has_row.false in
+    let size = c.space_of-size.ensures.is in
+    rw (c.ok_or.ensures.value, c.then_some.ensures) (sought c.args.transition.now c.args.row c.space_of-size.result
+    (λ h. (omega (arith, size), sym (every_takes p lt every c.args.row), effects-every p lt every c.args.row))
+    (λ h. (h, size ∙ effects-every p lt every _)))

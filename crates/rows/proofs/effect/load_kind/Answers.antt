@@ -1,7 +1,6 @@
 use native.Mathlib.Omega.{arith}
 use Rattle.reading.specs.Basics.{flat_map}
-use Rattle.runs.proofs.Laying.{laid_none}
-use Rattle.rows.proofs.Free.{length-behind}
+use Rattle.runs.proofs.Laying.{laid_none, length-behind}
 use Rattle.rows.proofs.Drawn.{upto_begins, kind_goes, kind_ends}
 use Rattle.rows.proofs.effect.load_kind.Goals as goal
 
@@ -12,7 +11,7 @@ loop-entry-init c = record { upto = upto_begins c.into_iter-entry-iterator.ensur
 pub loop-entry-preserved : goal.loop-entry-preserved
 loop-entry-preserved c = record {
   upto = kind_goes c.args.env.now c.loop-entry.invariant.upto c.in-Some.ensures.steps (rw (← c.bound-bound.ensures.is.0, ← c.bound-bound.ensures.is.1, ← c.bound-bound.ensures.is.2) c.load_arc-end.ensures.is) (omega (arith, c.loop-entry.invariant.within, c.loop-entry.auto.room));
-  within = omega (arith, c.load_arc-end.ensures.within, length-behind c.loop-entry.room c.loop-entry.end, c.loop-entry.invariant.within, c.loop-entry.auto.room);
+  within = omega (arith, c.load_arc-end.ensures.within, length-behind c.loop-entry.end c.loop-entry.room, c.loop-entry.invariant.within, c.loop-entry.auto.room);
 }
 
 pub returns-clause-is : goal.returns-clause-is
