@@ -27,11 +27,7 @@ impl<'a> Starts<'a> {
             return None;
         }
         let flat = self.starts[p] + rank;
-        if flat < self.starts[p + 1] {
-            Some(flat)
-        } else {
-            None
-        }
+        (flat < self.starts[p + 1]).then_some(flat)
     }
 }
 
