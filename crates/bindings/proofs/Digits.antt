@@ -8,8 +8,8 @@ use native.Mathlib.Nat.{zero-add, mul-zero, zero-mul, suc-mul, mul_assoc, mod-lt
 use borrow.Author.Tests.{ltb-true, ltb-false}
 use lib.ListN.{length-map}
 use lib.Seq.{take-length, take-suc, length-take-le, get_or-take}
-use Rattle.reading.specs.Basics.{ℕ, zero, suc, Bool, true, false, ltb, List, [], map, flat_map, some, option_map, length, take, get_or, get_elem?, with, numbers_from, below, sum, product}
-use Rattle.reading.proofs.Lists.{map_same, map_get_d, of_from}
+use Rattle.reading.specs.Basics.{ℕ, zero, suc, Bool, true, false, ltb, List, [], map, flat_map, some, length, take, get_or, get_elem?, with, numbers_from, below, sum, product}
+use Rattle.reading.proofs.Lists.{map_same, map_get_d, of_from, at_map}
 use Rattle.net_parts.proofs.Totals.{sum-with}
 use Rattle.net.specs.Net.{Transition, Net, sizes_of, binding_space, no_transition, transition_at}
 use Rattle.bindings.specs.Effect.{choices, bindings}
@@ -96,11 +96,6 @@ at_front (a ∷ l) m (suc j) lt = at_front l m j (omega arith)
 at_past : {A : Type 0} (l m : List A) (j : ℕ) → get_elem? (l ++ m) (length l + j) ≡ get_elem? m j
 at_past [] m j = rw (zero-add j)
 at_past (a ∷ l) m j = let e : suc (length l) + j ≡ suc (length l + j) = omega arith in rw e (at_past l m j)
-
-at_map : {A B : Type 0} (f : A → B) (l : List A) (j : ℕ) {a : A} → get_elem? l j ≡ some a → get_elem? (map f l) j ≡ some (f a)
-at_map f [] j e = let z : ◌≡◌ {A = ℕ} 0 1 = cc in absurd (omega arith)
-at_map f (x ∷ l) zero e = ap (option_map f) e
-at_map f (x ∷ l) (suc j) e = at_map f l j e
 
 -- lists joined for the numbers from a on
 at_joined : {A : Type 0} (f : ℕ → List A) (a n t j : ℕ) → t < n → j < length (f (a + t))

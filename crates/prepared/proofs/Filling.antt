@@ -22,7 +22,8 @@ use Rattle.net_file.specs.declared.file.Counts.{Counts}
 use Rattle.net_file.specs.internal.NetTables.{NetHolds}
 use Rattle.net_file.proofs.Limits.{limits}
 use Rattle.prepared.specs.internal.Packed.{shape_in, holding, entries_of, Packed}
-use Rattle.prepared.proofs.Packing.{get_d_inside, holding_at, entries_many, entry_at}
+use Rattle.std.proofs.lemmas.List.{get_or_default}
+use Rattle.prepared.proofs.Packing.{holding_at, entries_many, entry_at}
 use Rattle.prepared.specs.internal.Drawing.{Drawing}
 use Rattle.prepared.proofs.Tabled.{shapes, drawing}
 use Rattle.prepared.specs.internal.TransitionVariables.{Owned}
@@ -36,7 +37,7 @@ pub shaping_goes : {before now : List ℕ} {i : ℕ} (shape : ℕ → ℕ) (plac
     → x ≡ shape i → Placing (λ x y. y ≡ x) 56 (map shape (below places)) before (set now (56 + i) x) (i + 1)
 shaping_goes {i = i} shape places x here lt few room is =
     placing_goes x here (omega (arith, values_many shape places)) (omega (arith, values_many shape places))
-    (λ other. is ∙ sym (get_d_inside (map shape (below places)) i other 0 (omega (arith, values_many shape places)) ∙ get_d_below shape places i lt))
+    (λ other. is ∙ sym (get_or_default (map shape (below places)) i other 0 (omega (arith, values_many shape places)) ∙ get_d_below shape places i lt))
 
 -- ---- what each transition begins with
 pub record Heading (heads : List Head) (before now : List ℕ) (i : ℕ) : Type 0 where

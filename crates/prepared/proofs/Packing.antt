@@ -7,6 +7,7 @@ use native.Mathlib.Omega.{arith}
 use native.Mathlib.Numerals.{add-one}
 use borrow.Author.Tests.{lt-ltb, le-ltb, ltb-true, ltb-false}
 use lib.ListN.{set, length-append, length-map, get_or-append, get_or-map, get_or-eq_default}
+use Rattle.std.proofs.lemmas.List.{get_or_default}
 use lib.Seq.{take-suc, take_at, take-append-le, take-set-le, take-take, get_or_at, get_or-take, get_or-append-add, get_or-set_same, get_or-set_other, length-take-le}
 use Rattle.reading.specs.Basics.{ℕ, zero, suc, Bool, true, false, List, [], map, flat_map, length, get_or, take, ltb, numbers_from, below}
 use Rattle.reading.proofs.Lists.{of_from, flat_map-same}
@@ -27,12 +28,6 @@ by_slot {P} slot f g = go (ltb 0 slot) refl
     go : (t : Bool) → ltb 0 slot ≡ t → P
     go true e = g (ltb-true 0 slot e)
     go false e = let h = ltb-false 0 slot e in f (omega arith)
-
--- inside a list the default does not count
-pub get_d_inside : (l : List ℕ) (i a b : ℕ) → i < length l → get_or l i a ≡ get_or l i b
-get_d_inside [] i a b h = absurd (omega arith)
-get_d_inside (x ∷ l) zero a b h = refl
-get_d_inside (x ∷ l) (suc i) a b h = get_d_inside l i a b (omega arith)
 
 -- number i of a row's places; before it stand those below it
 pub record HoldingAt (slots : List ℕ) (base n i : ℕ) : Type 0 where
@@ -138,7 +133,7 @@ module _ (slots : List ℕ) (base : ℕ) where
     entry_at n i h at =
         let l = holding slots base n in
         let e : i < length (map entry l) = omega (arith, entries_many n) in
-        get_d_inside (map entry l) i 0 (entry 0) e ∙ get_or-map entry l i 0 ∙ ap entry at.is
+        get_or_default (map entry l) i 0 (entry 0) e ∙ get_or-map entry l i 0 ∙ ap entry at.is
 
     -- of one more place
     pub entries_more : (p : ℕ) → entries_of wide shape slots base (p + 1) ≡ entries_of wide shape slots base p ++ if_held (get_or slots (base + p) 0) (entry p)
