@@ -1,14 +1,16 @@
 -- The trees, arcs and tokens of an accepted net are formed. Assumes nothing.
 use Rattle.std.specs.Prelude.{◌+◌, ◌&&◌, ◌||◌, ◌∷◌, if◌then◌else◌}
 use mathlib.Core.Path.{◌≡◌, refl, sym, ap₂, ◌∙◌}
+use mathlib.Core.List.Memᴰ
+use Prim.Native.Nat.{◌≤◌, ◌<◌}
 use native.Mathlib.Omega.{arith}
-use borrow.Author.Tests.{not-true}
+use borrow.Author.Tests.{ltb-true, leb-true, eq-eqb, not-true}
 use Rattle.reading.specs.Basics.{ℕ, Bool, true, false, not, List, [], some, length, ltb, leb, eqb, any, every, find, absent, with, byte_at, word_at, Bytes}
 use Rattle.reading.specs.Reading.{fault, under, accepted, refused, outcome, ◌unless◌, checked, whole, file}
-use Rattle.reading.proofs.Lists.{In, here, there, All, end, also, all_with, in_all, all_in, in_every, every_in}
+use Rattle.reading.proofs.Lists.{In, in_cases, here, there, All, end, also, all_with, in_all, all_in, in_every, every_in}
 use Rattle.reading.proofs.Commands.{both_hold}
 use Rattle.reading.proofs.Gives.{both_first, both_second, Gives, gives, stops, GivesIf, anything, of_outcome, checked_gives, repeat_gives, then_gives, under_gives, standing_gives, given_gives, file_gives}
-use Rattle.net.specs.Net.{Colour, variable, constant, successor, predecessor, Guard, always, opposite, both, either, equal, less, Expression, one, two, all, plus, minus, times, Place, Arc, Transition, Tokens, Net, net, sets_of, place_at, arc_on, set_of, ceiling, variables_of, binding_space, scope}
+use Rattle.net.specs.Net.{Colour, variable, constant, successor, predecessor, Guard, always, opposite, both, either, equal, less, Expression, one, two, all, plus, minus, times, Place, Arc, Transition, Tokens, Net, net, sets_of, colours_of, place_at, arc_on, tokens_on, set_of, ceiling, variables_of, binding_space, scope}
 use Rattle.net.specs.Reader.{read_expression, read_guard_if}
 use Rattle.net_parts.specs.Parts.{set_part, variable_part, place_part, tokens_part}
 use Rattle.net_transitions.specs.Transitions.{arc_part, ended, transition_part}
@@ -193,7 +195,7 @@ formed s n e = (good s n e).formed
 pub words : (s : List ℕ) (n : Net) → Bytes s → read_net s ≡ accepted n → Words n
 words s n bytes e = (good s n e).words bytes
 
--- ---- what follows for each transition and arc
+-- ---- what follows for each transition, arc and token
 pub found_in : {A : Type 0} (test : A → Bool) (l : List A) {a : A} → find test l ≡ some a → In a l
 unfolding find
 found_in test [] e = let z : ◌≡◌ {A = ℕ} 0 1 = cc in absurd (omega arith)
@@ -202,6 +204,26 @@ found_in test (b ∷ l) {a} e = go (test b) e (found_in test l)
     go : (t : Bool) → (if t then some b else find test l) ≡ some a → (find test l ≡ some a → In a l) → In a (b ∷ l)
     go true q ih = let p : a ≡ b = cc in rw p here
     go false q ih = there (ih q)
+
+not_any : {A : Type 0} (test : A → Bool) (l : List A) {a : A} → any test l ≡ false → In a l → test a ≡ false
+unfolding any
+not_any test [] e i = absurd (Memᴰ.not-nil i)
+not_any test (b ∷ l) {a} e i = in_cases (λ p. rw p (left (test b) e)) (λ k. not_any test l (right (test b) e) k) i
+  where
+    left : (t : Bool) → t || any test l ≡ false → t ≡ false
+    left true q = q
+    left false q = refl
+
+    right : (t : Bool) → t || any test l ≡ false → any test l ≡ false
+    right true q = cc
+    right false q = q
+
+-- an element is found by what it is alike to, where no two are alike
+once_found : {A : Type 0} (alike : A → A → Bool) (l : List A) {a : A} → ((b : A) → alike b b ≡ true) → once alike l ≡ true → In a l → find (λ b. alike b a) l ≡ some a
+unfolding once find
+once_found alike [] r e i = absurd (Memᴰ.not-nil i)
+once_found alike (x ∷ l) {a} r e i = in_cases {a = a} {b = x} (λ p. rw (p, r x))
+    (λ k. rw (not_any (alike x) l (not-true (any (alike x) l) (both_first (not (any (alike x) l)) (once alike l) e)) k) (once_found alike l r (both_second (not (any (alike x) l)) (once alike l) e) k)) i
 
 module _ {n : Net} (f : Formed n) where
   module _ {t : Transition} (i : In t n.transitions) where
@@ -221,5 +243,30 @@ module _ {n : Net} (f : Formed n) where
       whole-arc : arc_formed n a ≡ true
       whole-arc = all_in (every_in (arc_formed n) t.arcs (both_second (guard_formed n t.guard) (every (arc_formed n) t.arcs) guard_and_arcs)) j
 
+      -- an arc's place is there, its expression is formed, and it is the one of its kind on its place
+      pub its_place : a.place < length n.places
+      its_place = ltb-true a.place (length n.places) (both_first (ltb a.place (length n.places)) (expression_formed n (place_at n a.place) a.expression) whole-arc)
+
       pub its_expression : expression_formed n (place_at n a.place) a.expression ≡ true
       its_expression = both_second (ltb a.place (length n.places)) (expression_formed n (place_at n a.place) a.expression) whole-arc
+
+      pub its_arc : arc_on t.arcs a.kind a.place ≡ some a
+      its_arc = once_found same_arc t.arcs (λ b. both_hold _ _ (eq-eqb b.kind b.kind refl) (eq-eqb b.place b.place refl)) (both_second tests (once same_arc t.arcs) whole_transition) j
+
+  module _ {t : Tokens} (i : In t n.tokens) where
+    whole_tokens : tokens_formed n t ≡ true
+    whole_tokens = all_in (every_in (tokens_formed n) n.tokens f.tokens) i
+
+    -- tokens lie at a rank of a place, and are those found there
+    pub tokens_place : t.place < length n.places
+    tokens_place = ltb-true t.place (length n.places) (both_first (ltb t.place (length n.places)) (ltb t.rank (colours_of n (place_at n t.place))) whole_tokens)
+
+    pub tokens_rank : t.rank < colours_of n (place_at n t.place)
+    tokens_rank = ltb-true t.rank (colours_of n (place_at n t.place)) (both_second (ltb t.place (length n.places)) (ltb t.rank (colours_of n (place_at n t.place))) whole_tokens)
+
+    pub tokens_found : tokens_on n.tokens t.place t.rank ≡ some t
+    tokens_found = once_found same_tokens n.tokens (λ b. both_hold _ _ (eq-eqb b.place b.place refl) (eq-eqb b.rank b.rank refl)) f.tokens_once i
+
+-- the counts of a file of bytes
+pub count_word : {n : Net} → Words n → {t : Tokens} → In t n.tokens → t.count ≤ 65535
+count_word {n} w {t} i = leb-true t.count 65535 (all_in (every_in (λ u. leb u.count 65535) n.tokens w.counts) i)
