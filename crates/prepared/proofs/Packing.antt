@@ -7,7 +7,7 @@ use native.Mathlib.Omega.{arith}
 use native.Mathlib.Numerals.{add-one}
 use borrow.Author.Tests.{lt-ltb, le-ltb, ltb-true, ltb-false}
 use lib.ListN.{set, length-append, length-map, get_or-append, get_or-map, get_or-eq_default}
-use lib.Seq.{take-suc-set, take-suc, take_at, take-append-le, take-set-le, take-take, get_or_at, get_or-take, get_or-append-add, get_or-set_same, get_or-set_other, length-take-le}
+use lib.Seq.{take-suc, take_at, take-append-le, take-set-le, take-take, get_or_at, get_or-take, get_or-append-add, get_or-set_same, get_or-set_other, length-take-le}
 use Rattle.reading.specs.Basics.{ℕ, zero, suc, Bool, true, false, List, [], map, flat_map, length, get_or, take, ltb, numbers_from, below}
 use Rattle.reading.proofs.Lists.{of_from, flat_map-same}
 use Rattle.prepared.specs.internal.Packed.{entry_of, if_held, holding, entries_of, RowFits, SlotsFit, EntryPut, RowPacked, Packed}
@@ -167,20 +167,6 @@ module _ (shape : ℕ → ℕ) (slots others : List ℕ) (base : ℕ) where
       ∙ sym (entries_more others base 32 shape n))
 
 -- ---- packing
--- a place's entry, stored or none
-pub put_none : (slot shape : ℕ) (packed : List ℕ) (end : ℕ) → slot < 1 → EntryPut slot shape packed end packed end
-put_none slot shape packed end h =
-    let e = held_none slot (entry_of 32 slot shape) h in record { is = rw e (sym (append-nil (take end packed))); next = rw e (omega arith); back = λ j lt. refl }
-
-pub put_one : (slot shape : ℕ) (packed : List ℕ) (end : ℕ) → 1 ≤ slot → end < length packed → EntryPut slot shape packed end (set packed end (entry_of 32 slot shape)) (end + 1)
-put_one slot shape packed end h lt =
-    let e = held_some slot (entry_of 32 slot shape) (omega arith) in
-    record {
-      is = rw (e, add-one end) (take-suc-set packed end (entry_of 32 slot shape) lt);
-      next = rw e;
-      back = λ j less. get_or-set_other packed end j (entry_of 32 slot shape) 0 (λ z. omega arith);
-    }
-
 -- a row's end: a 0 was put behind its entries where there is room in the row
 pub record Closed (base end : ℕ) (packed packed' : List ℕ) : Type 0 where
   pub front : take end packed' ≡ take end packed
@@ -277,40 +263,36 @@ pub record Packing (shape : ℕ → ℕ) (slots : List ℕ) (places : ℕ) (pack
   pub rows : (r : ℕ) → r < row → RowPacked 32 shape slots places (r * 32) packed
   pub rest : (j : ℕ) → row * 32 ≤ j → get_or packed j 0 ≡ get_or slots j 0
 
-module _ {shape : ℕ → ℕ} {slots : List ℕ} {places : ℕ} where
-  pub pack_begins : Packing shape slots places slots 0
-  pack_begins = record { rows = λ r h. absurd (omega arith); rest = λ j le. refl }
+module _ {shape : ℕ → ℕ} {slots : List ℕ} {places : ℕ} {packed : List ℕ} {row : ℕ} (l : Packing shape slots places packed row) where
+  -- the next row's slots are small enough
+  pub pack_fits : {transitions : ℕ} → row < transitions * 3 → SlotsFit slots places transitions → RowFits packed places (row * 32)
+  pack_fits lt fit p h =
+      let e : row / 3 * 96 + row % 3 * 32 ≡ row * 32 = omega arith in
+      let small = subst (λ b. get_or slots (b + p) 0 < 134217728) e (fit (row / 3) (row % 3) (omega arith) (omega arith) p h) in
+      omega (arith, l.rest (row * 32 + p) (omega arith))
 
-  module _ {packed : List ℕ} {row : ℕ} (l : Packing shape slots places packed row) where
-    -- the next row's slots are small enough
-    pub pack_fits : {transitions : ℕ} → row < transitions * 3 → SlotsFit slots places transitions → RowFits packed places (row * 32)
-    pack_fits lt fit p h =
-        let e : row / 3 * 96 + row % 3 * 32 ≡ row * 32 = omega arith in
-        let small = subst (λ b. get_or slots (b + p) 0 < 134217728) e (fit (row / 3) (row % 3) (omega arith) (omega arith) p h) in
-        omega (arith, l.rest (row * 32 + p) (omega arith))
+  pub pack_goes : {packed' : List ℕ} → take (row * 32) packed' ≡ take (row * 32) packed → RowPacked 32 shape packed places (row * 32) packed'
+      → ((j : ℕ) → row * 32 + 32 ≤ j → get_or packed' j 0 ≡ get_or packed j 0) → Packing shape slots places packed' (row + 1)
+  pack_goes {packed'} kept this behind = record {
+    rows = λ r h. go r h (ltb r row) refl;
+    rest = λ j le. behind j (omega arith) ∙ l.rest j (omega arith);
+  }
+    where
+      same : (j : ℕ) → j < row * 32 → get_or packed' j 0 ≡ get_or packed j 0
+      same j h = sym (get_or-take (row * 32) packed' j 0 h) ∙ ap (λ k. get_or k j 0) kept ∙ get_or-take (row * 32) packed j 0 h
 
-    pub pack_goes : {packed' : List ℕ} → take (row * 32) packed' ≡ take (row * 32) packed → RowPacked 32 shape packed places (row * 32) packed'
-        → ((j : ℕ) → row * 32 + 32 ≤ j → get_or packed' j 0 ≡ get_or packed j 0) → Packing shape slots places packed' (row + 1)
-    pack_goes {packed'} kept this behind = record {
-      rows = λ r h. go r h (ltb r row) refl;
-      rest = λ j le. behind j (omega arith) ∙ l.rest j (omega arith);
-    }
-      where
-        same : (j : ℕ) → j < row * 32 → get_or packed' j 0 ≡ get_or packed j 0
-        same j h = sym (get_or-take (row * 32) packed' j 0 h) ∙ ap (λ k. get_or k j 0) kept ∙ get_or-take (row * 32) packed j 0 h
+      alike : (p : ℕ) → p < places → get_or packed (row * 32 + p) 0 ≡ get_or slots (row * 32 + p) 0
+      alike p h = l.rest (row * 32 + p) (omega arith)
 
-        alike : (p : ℕ) → p < places → get_or packed (row * 32 + p) 0 ≡ get_or slots (row * 32 + p) 0
-        alike p h = l.rest (row * 32 + p) (omega arith)
+      -- the row that was packed, over the slots as they were at first
+      own : RowPacked 32 shape slots places (row * 32) packed'
+      own = record {
+        entries = λ i x y. this.entries i x (omega (arith, ap length (holding-same shape packed slots (row * 32) places alike))) ∙ ap (λ k. get_or k i 0) (entries-same shape packed slots (row * 32) places alike);
+      }
 
-        -- the row that was packed, over the slots as they were at first
-        own : RowPacked 32 shape slots places (row * 32) packed'
-        own = record {
-          entries = λ i x y. this.entries i x (omega (arith, ap length (holding-same shape packed slots (row * 32) places alike))) ∙ ap (λ k. get_or k i 0) (entries-same shape packed slots (row * 32) places alike);
-        }
+      go : (r : ℕ) → r < row + 1 → (t : Bool) → ltb r row ≡ t → RowPacked 32 shape slots places (r * 32) packed'
+      go r h true e = let lt = ltb-true r row e in record { entries = λ i x y. same (r * 32 + i) (omega arith) ∙ (l.rows r lt).entries i x y }
+      go r h false e = let le = ltb-false r row e in let is : row ≡ r = omega arith in subst (λ q. RowPacked 32 shape slots places (q * 32) packed') is own
 
-        go : (r : ℕ) → r < row + 1 → (t : Bool) → ltb r row ≡ t → RowPacked 32 shape slots places (r * 32) packed'
-        go r h true e = let lt = ltb-true r row e in record { entries = λ i x y. same (r * 32 + i) (omega arith) ∙ (l.rows r lt).entries i x y }
-        go r h false e = let le = ltb-false r row e in let is : row ≡ r = omega arith in subst (λ q. RowPacked 32 shape slots places (q * 32) packed') is own
-
-    pub pack_ends : {transitions : ℕ} → transitions * 3 ≤ row → Packed 32 shape slots packed places transitions
-    pack_ends h = record { row = λ t k x y. let e : (t * 3 + k) * 32 ≡ t * 96 + k * 32 = omega arith in subst (λ b. RowPacked 32 shape slots places b packed) e (l.rows (t * 3 + k) (omega arith)) }
+  pub pack_ends : {transitions : ℕ} → transitions * 3 ≤ row → Packed 32 shape slots packed places transitions
+  pack_ends h = record { row = λ t k x y. let e : (t * 3 + k) * 32 ≡ t * 96 + k * 32 = omega arith in subst (λ b. RowPacked 32 shape slots places b packed) e (l.rows (t * 3 + k) (omega arith)) }

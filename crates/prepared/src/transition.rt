@@ -70,11 +70,8 @@ impl<'a> Transition<'a> {
         ensures is { (result.file.now ≡ self.now.drawing.file) × (result.plan.now ≡ self.now.drawing.plan) × (result.env.now ≡ env.now) }
         ensures known { IsDrawn self.now.drawing.file self.now.drawing.plan }
     {
-        Bound {
-            file: self.file,
-            plan: self.plan,
-            env,
-        }
+        let Transition { file, plan, .. } = *self;
+        Bound { file, plan, env }
     }
 
     // Where its guard stands in the file, if it has one.

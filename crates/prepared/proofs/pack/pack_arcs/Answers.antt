@@ -1,13 +1,7 @@
 use native.Mathlib.Omega.{arith}
-use mathlib.Core.Path.{refl, ◌∙◌}
-use Rattle.prepared.proofs.Packing.{pack_begins, pack_fits, pack_goes, pack_ends}
+use mathlib.Core.Path.{◌∙◌}
+use Rattle.prepared.proofs.Packing.{pack_fits, pack_goes, pack_ends}
 use Rattle.prepared.proofs.pack.pack_arcs.Goals as goal
-
-pub loop-row-init : goal.loop-row-init
-loop-row-init c = (refl, pack_begins)
-
-pub overflow_mul-row : goal.overflow_mul-row
-overflow_mul-row c = omega (arith, c.requires.1, c.loop-row-test.true)
 
 pub pack_row-requires : goal.pack_row-requires
 pack_row-requires c = (c.requires.0, omega (arith, c.requires.1, c.loop-row-test.true), c.loop-row.invariant.0 ∙ c.requires.2, pack_fits c.loop-row.invariant.1 c.loop-row-test.true c.requires.3)
