@@ -2,19 +2,18 @@
 use Rattle.std.specs.Prelude.{◌+◌, ◌-◌, min}
 use mathlib.Core.Path.{◌≡◌, refl, sym, ap, ◌∙◌, subst}
 use Prim.Native.Nat.{◌≤◌, ◌<◌}
-use Rattle.reading.specs.Basics.{ℕ, Bool, List, length, byte_at, word_at}
+use Rattle.reading.specs.Basics.{ℕ, List, length, byte_at, word_at}
 use Rattle.reading.specs.Reading.{Answer, fine, fault, under}
 use Rattle.net.specs.Net.{Colour, Expression, plus, minus, times, Place, single, pair, Net}
 use Rattle.net.specs.Reader.{read_colour, read_expression, two_of, amount, capped}
-use Rattle.plan.specs.internal.Layout.{expression_in, ranks_in, pair_in}
-use Rattle.evaluation.specs.internal.Evaluated.{Ranks, scope_in, place_by}
+use Rattle.evaluation.specs.internal.Evaluated.{Ranks}
 use Rattle.evaluation.specs.declared.evaluate.Ranked.{Ranked}
 use Rattle.net.proofs.Shut.{commands}
 use Rattle.net.proofs.Colours.{deeper}
 use Rattle.evaluation.proofs.Values.{obey_by, needed_by, needed_each}
 use Rattle.arc_expressions.proofs.Expressions.{deeper_expression, expression_step, expression_in_lem}
 use Rattle.evaluation.proofs.Weights.{joined_by, times_by, one_by, two_by, expression_past, expression_shut, expression_stray}
-use Rattle.row_lengths.specs.internal.MostArcs.{of_every, of_one, most_less, most, number_at, MostTold, MostArc}
+use Rattle.row_lengths.specs.internal.MostArcs.{of_every, of_one, most_less, most, number_at, MostTold}
 use Rattle.row_lengths.specs.declared.arcs.Most.{Most}
 
 -- ---- what the byte at a place tells of the expression that stands there: the number of a count
@@ -139,14 +138,3 @@ module _ (s : List ℕ) (n : Net) (place : Place) (left at count : ℕ) where
     pub most_stray : (byte_at s at ≡ 0x40 → ⊥) → (byte_at s at ≡ 0x41 → ⊥) → (byte_at s at ≡ 0x42 → ⊥) → (byte_at s at ≡ 0x43 → ⊥) → (byte_at s at ≡ 0x44 → ⊥)
         → MostTold count r (read_expression s n place left at)
     most_stray = expression_stray (MostTold count r) (λ k p. tt) s n left at place
-
--- what is told of the reading, once it is known
-pub arcs_told : (s : List ℕ) (n : Net) (place : Place) (left at count : ℕ) (r : Most) {e : Expression} {next : ℕ} → MostTold count r (read_expression s n place left at)
-    → read_expression s n place left at ≡ fine e next → r.arcs ≡ most count e
-arcs_told s n place left at count r told read = (subst (MostTold count r) read told).0
-
--- of the expression of an arc's entry, from its parts
-pub entry_told : (s plan : List ℕ) (entry : ℕ) (r : Most) {paired : Bool} {ranks at : ℕ} → paired ≡ pair_in entry → ranks ≡ ranks_in entry → at ≡ expression_in entry
-    → ((known : List Place) (first second : ℕ) → MostTold ranks r (read_expression s (scope_in plan known) (place_by paired first second) 16 at)) → MostArc s plan entry r.arcs
-entry_told s plan entry r p q e told known first second next x reads =
-    arcs_told s (scope_in plan known) (place_by (pair_in entry) first second) 16 (expression_in entry) (ranks_in entry) r (rw (p, q, e) at told known first second) reads

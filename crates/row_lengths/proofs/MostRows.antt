@@ -20,6 +20,7 @@ use Rattle.bindings.specs.internal.Bindings.{numbered}
 use Rattle.bindings.specs.internal.Numbers.{digits, before}
 use Rattle.prepared.specs.internal.Packed.{holding}
 use Rattle.plan.specs.internal.Layout.{sets_in, variables_in, guards_in, packed_in}
+use Rattle.plan.specs.declared.entry.Entry.{Entry}
 use Rattle.prepared.specs.internal.Drawing.{start_of, Drawing}
 use Rattle.prepared.specs.internal.Prepared.{Prepared}
 use Rattle.prepared.specs.internal.Drawn.{DrawnTransition, its_net}
@@ -63,7 +64,7 @@ module _ {s : List ℕ} {n : Net} {plan : List ℕ} (prepared : Prepared s n pla
   so_many i = flat_map (place_arcs n (transition_at n t) value (0x16 + k)) (take i (holding d.slots (t * 96 + k * 32) (length n.places)))
 
   -- one entry more
-  entry_adds : {i entry : ℕ} (en : Entered d ht hk i entry) {total more : ℕ} → length (so_many i) ≤ total → MostArc s plan entry more → length (so_many (i + 1)) ≤ total + more
+  entry_adds : {i : ℕ} {entry : Entry} (en : Entered d ht hk i entry) {total more : ℕ} → length (so_many i) ≤ total → MostArc s plan entry more → length (so_many (i + 1)) ≤ total + more
   entry_adds {entry = entry} en {total} {more} so_far told =
       let p = en.place in
       omega (
@@ -90,7 +91,7 @@ ArcsUpto d k total i places = (total ≤ 65535 * i) × ((value : ℕ → ℕ) �
     → length (flat_map (place_arcs (its_net d) (transition_at (its_net d) d.number) value (0x16 + k)) places) ≤ total)
 
 module _ {d : DrawnTransition} {k total : ℕ} {left : Left} (u : Upto d k left (ArcsUpto d k total)) where
-  pub most_goes : {left' : Left} {entry more : ℕ} → Told left.plan.now left.at left.end (Some entry) left'.plan.now left'.at left'.end
+  pub most_goes : {left' : Left} {entry : Entry} {more : ℕ} → Told left.plan.now left.at left.end (Some entry) left'.plan.now left'.at left'.end
       → MostArc d.drawing.file d.drawing.plan entry more → more ≤ 65535 → Upto d k left' (ArcsUpto d k (total + more))
   most_goes told is few = upto_goes u told (λ en so_far. (omega (arith, so_far.0), λ value fits. entry_adds u.ready.0 value fits u.ready.1 u.kind en (so_far.1 value fits) is))
 

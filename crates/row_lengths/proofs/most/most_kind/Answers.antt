@@ -9,7 +9,7 @@ unfolding flat_map
 loop-entry-init c = upto_begins c.into_iter-entry-iterator.ensures.into_iter_gives c.entries_of-entry-items.ensures (omega arith, λ value fits. omega arith)
 
 pub loop-entry-preserved : goal.loop-entry-preserved
-loop-entry-preserved c = most_goes c.loop-entry.invariant c.in-Some.ensures.steps (rw (← c.file-file.ensures.is, ← c.plan-plan.ensures.is) c.most_arcs-total.ensures.is) c.most_arcs-total.ensures.small
+loop-entry-preserved c = most_goes c.loop-entry.invariant c.in-Some.ensures.steps (rw (← c.bound-bound.ensures.is.0, ← c.bound-bound.ensures.is.1) c.most_arcs-total.ensures.is) c.most_arcs-total.ensures.small
 
 pub returns-clause-is : goal.returns-clause-is
 returns-clause-is c = most_ends c.loop-entry.invariant c.in-None.ensures.steps
