@@ -6,15 +6,14 @@ use Rattle.reading.specs.Basics.{ℕ, List, length, byte_at, word_at}
 use Rattle.reading.specs.Reading.{Answer, fine, fault, under}
 use Rattle.net.specs.Net.{Colour, Expression, plus, minus, times, Place, single, pair, Net}
 use Rattle.net.specs.Reader.{read_colour, read_expression, two_of, amount, capped}
-use Rattle.plan.specs.declared.entry.Entry.{Entry}
-use Rattle.evaluation.specs.internal.Evaluated.{Ranks, scope_in, place_by}
+use Rattle.evaluation.specs.internal.Evaluated.{Ranks}
 use Rattle.evaluation.specs.declared.evaluate.Ranked.{Ranked}
 use Rattle.net.proofs.Shut.{commands}
 use Rattle.net.proofs.Colours.{deeper}
 use Rattle.evaluation.proofs.Values.{obey_by, needed_by, needed_each}
 use Rattle.arc_expressions.proofs.Expressions.{deeper_expression, expression_step, expression_in_lem}
 use Rattle.evaluation.proofs.Weights.{joined_by, times_by, one_by, two_by, expression_past, expression_shut, expression_stray}
-use Rattle.row_lengths.specs.internal.MostArcs.{of_every, of_one, most_less, most, number_at, MostTold, MostArc}
+use Rattle.row_lengths.specs.internal.MostArcs.{of_every, of_one, most_less, most, number_at, MostTold}
 use Rattle.row_lengths.specs.declared.arcs.Most.{Most}
 
 -- ---- what the byte at a place tells of the expression that stands there: the number of a count
@@ -139,13 +138,3 @@ module _ (s : List ℕ) (n : Net) (place : Place) (left at count : ℕ) where
     pub most_stray : (byte_at s at ≡ 0x40 → ⊥) → (byte_at s at ≡ 0x41 → ⊥) → (byte_at s at ≡ 0x42 → ⊥) → (byte_at s at ≡ 0x43 → ⊥) → (byte_at s at ≡ 0x44 → ⊥)
         → MostTold count r (read_expression s n place left at)
     most_stray = expression_stray (MostTold count r) (λ k p. tt) s n left at place
-
--- what is told of the reading, once it is known
-pub arcs_told : (s : List ℕ) (n : Net) (place : Place) (left at count : ℕ) (r : Most) {e : Expression} {next : ℕ} → MostTold count r (read_expression s n place left at)
-    → read_expression s n place left at ≡ fine e next → r.arcs ≡ most count e
-arcs_told s n place left at count r told read = (subst (MostTold count r) read told).0
-
--- of the expression of an arc's entry
-pub entry_told : (s plan : List ℕ) (entry : Entry) (r : Most)
-    → ((known : List Place) (first second : ℕ) → MostTold entry.ranks r (read_expression s (scope_in plan known) (place_by entry.paired first second) 16 entry.expression)) → MostArc s plan entry r.arcs
-entry_told s plan entry r told known first second next x reads = arcs_told s (scope_in plan known) (place_by entry.paired first second) 16 entry.expression entry.ranks r (told known first second) reads
