@@ -4,7 +4,9 @@ ghost use Rattle.reading.specs.Basics.{byte_at};
 ghost use Rattle.runs.specs.internal.Terms.{Laid};
 ghost use Rattle.sums.specs.internal.Loaded.{ListedAt, one_arc, rank_arcs, TermsLoaded, ArcLoaded};
 
+use evaluation::Bound;
 use firing::Arc;
+use plan::Entry;
 use reading::{byte_at, once_more, word_at};
 use runs::store;
 use sums::{BoundArc, Multiset};
@@ -82,7 +84,7 @@ fn list_all(arc: &BoundArc, room: &mut [Arc]) -> Multiset
 #[inline(never)]
 fn load_listed(arc: &BoundArc, room: &mut [Arc], again: bool) -> usize
     requires { byte_at arc.now.bound.file.now arc.now.entry.expression ≡ 0x40 → ⊥ }
-    ensures is { ArcLoaded arc.now room.old room.new result }
+    ensures is { ArcLoaded arc.now.bound arc.now.entry room.old room.new result }
     ensures within { result ≤ length room.old }
 {
     if once_more(arc.bound.file, again) {
@@ -97,18 +99,21 @@ fn load_listed(arc: &BoundArc, room: &mut [Arc], again: bool) -> usize
     load_terms(entry.start, entry.ranks, &behind[..m.many], m.rest, front)
 }
 
-// The arcs of an arc under a binding: how many lie in the room's front then. A count of one colour or pair, 0x40, has one arc at most.
-pub fn load_arc(arc: &BoundArc, room: &mut [Arc]) -> usize
-    ensures is { ArcLoaded arc.now room.old room.new result }
+// The arcs of an arc under a binding, by its entry: how many lie in the room's front then. A count of one colour or pair, 0x40, has one arc at most.
+// Bound and entry come apart: put together for each arc of a row they would be copied at each, and 0x40 needs no copy.
+pub fn load_arc(bound: &Bound, entry: Entry, room: &mut [Arc]) -> usize
+    ensures is { ArcLoaded bound.now entry room.old room.new result }
     ensures within { result ≤ length room.old }
 {
-    let entry = arc.entry;
-    let file = arc.bound.file;
+    let file = bound.file;
     if byte_at(file, entry.expression) != 0x40 {
-        return load_listed(arc, room, true);
+        let arc = BoundArc {
+            bound: *bound,
+            entry,
+        };
+        return load_listed(&arc, room, true);
     }
-    let rank = arc
-        .bound
+    let rank = bound
         .rank_at(entry.paired, 15, entry.expression + 3)
         .rank;
     if entry.ranks <= rank {

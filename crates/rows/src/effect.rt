@@ -10,7 +10,6 @@ use bindings::has_effect;
 use firing::{Answer, Arc, Ends, Kind, some_lacks};
 use multiset::load_arc;
 use prepared::Transition;
-use sums::BoundArc;
 
 // The arcs of a kind, laid into a room's front: how many they are.
 fn load_kind(transition: &Transition, env: &[u8; 32], kind: Kind, room: &mut [Arc]) -> usize
@@ -21,7 +20,7 @@ fn load_kind(transition: &Transition, env: &[u8; 32], kind: Kind, room: &mut [Ar
     let bound = transition.bound(env);
     let mut end = 0;
     for entry in entries_of(transition, kind) {
-        end += load_arc(&BoundArc { bound, entry }, &mut room[end..]);
+        end += load_arc(&bound, entry, &mut room[end..]);
     }
     end
 }

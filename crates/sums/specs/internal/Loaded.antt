@@ -14,6 +14,8 @@ use Rattle.runs.specs.internal.Terms.{Laid, Terms, count_in}
 use Rattle.sums.specs.internal.Slots.{slots_for}
 use Rattle.sums.specs.declared.terms.Multiset.{Multiset}
 use Rattle.sums.specs.declared.bound_arc.BoundArc.{BoundArc}
+use Rattle.evaluation.specs.declared.evaluate.Bound.{Bound}
+use Rattle.plan.specs.declared.entry.Entry.{Entry}
 
 -- ---- the multiset of an arc expression
 -- how many counts of a colour stand in it
@@ -80,6 +82,6 @@ ExpressionLoaded s sizes vars env paired start count at room room' r =
     → slots_for s at count + length s / 2 ≤ length room
     → Laid (rank_arcs start count (λ rank. weight (scope sizes vars known) (bound env) rank e)) room room' r
 
--- those of an arc under a binding
-abbrev pub ArcLoaded : BoundArc → List Arc → List Arc → ℕ → Type 0
-ArcLoaded arc = ExpressionLoaded arc.bound.file.now (sets_in arc.bound.plan.now) (variables_in arc.bound.plan.now) arc.bound.env.now arc.entry.paired arc.entry.start arc.entry.ranks arc.entry.expression
+-- those of an arc under a binding, by its entry
+abbrev pub ArcLoaded : Bound → Entry → List Arc → List Arc → ℕ → Type 0
+ArcLoaded b e = ExpressionLoaded b.file.now (sets_in b.plan.now) (variables_in b.plan.now) b.env.now e.paired e.start e.ranks e.expression
