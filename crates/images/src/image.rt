@@ -50,7 +50,7 @@ impl RowTable<'_> {
         }
     }
 
-    // The row number of order number i, 4,294,967,295 where it has no row; env is lent for the colours of its binding.
+    // The row number of order number i, 4,294,967,295 where it has no row, as the format has it; env is lent for the colours of its binding.
     fn row_of(&self, orders: &[u8], i: usize, env: &mut [u8; 32]) -> u32
         requires { i * 6 + 6 ≤ length orders.now }
         ensures { result ≡ row_number (net_of self.now.drawing.now) (take 6 (drop (i * 6) orders.now)) }
