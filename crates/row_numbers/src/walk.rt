@@ -20,7 +20,8 @@ pub fn count_one(transition: &Transition, env: &[u8; 32]) -> usize
 
 // The number of a row that follows so many, or 4,294,967,295 where there is none.
 fn number_of(count: usize, next: usize) -> u32
-    ensures row { count < next → count < 65536 → result ≡ count }
+    requires { count < 65536 }
+    ensures row { count < next → result ≡ count }
     ensures none { next ≤ count → result ≡ 4294967295 }
 {
     // A plain choice: `then_some` with `unwrap_or` would only hide it.
