@@ -1,11 +1,11 @@
 -- The colours that an order names, given to a transition's variables one by one, and the number of the binding. Assumes nothing.
-use Rattle.std.specs.Prelude.{◌+◌, ◌*◌, ◌&&◌, ◌∷◌, Option, Some, None}
-use mathlib.Core.Path.{◌≡◌, sym, ap, ap₂, subst, ◌∙◌}
+use Rattle.std.specs.Prelude.{◌+◌, ◌*◌, ◌&&◌, ◌∷◌, if◌then◌else◌, Option, Some, None}
+use mathlib.Core.Path.{◌≡◌, refl, sym, ap, ap₂, subst, ◌∙◌}
 use mathlib.Core.Logic.{⊎_elim}
 use Prim.Native.Nat.{◌≤◌, ◌<◌, ◌^◌}
 use native.Mathlib.Omega.{arith}
 use native.Mathlib.Numerals.{add-one}
-use native.Mathlib.Nat.{eq-or-lt_of_le, mul-one, mul_assoc, add-mul, mul-le-mul, pow-suc, pow-le-pow_right}
+use native.Mathlib.Nat.{eq-or-lt_of_le, mul-one, mul_assoc, add-mul, suc-mul, mul-le-mul, pow-suc, pow-le-pow_right}
 use borrow.Author.Tests.{ltb-true, ltb-false, eq-eqb, ne_eqb}
 use lib.ListN.{set, length-map, length-drop, drop_of_length-le}
 use lib.Seq.{get_or-set_same, get_or-set_other, get_or-take, get_or-drop, drop-cons, length-take-le, ext_get_or}
@@ -17,8 +17,9 @@ use Rattle.net_file.specs.Formed.{Formed}
 use Rattle.bindings.specs.Orders.{fits}
 use Rattle.bindings.specs.internal.Bindings.{Binds, binding, numbered}
 use Rattle.bindings.specs.internal.Numbers.{digits, number}
-use Rattle.bindings.specs.internal.SlotSteps.{colours_at, Given, GivenOne}
+use Rattle.bindings.specs.internal.SlotSteps.{Given, GivenOne}
 use Rattle.plan.specs.declared.own.Own.{Own}
+use Rattle.plan.specs.internal.Layout.{OwnTold}
 use Rattle.bindings.proofs.Digits.{number-below, digits_number, number_front}
 use Rattle.bindings.proofs.NamedOrders.{fits_padded}
 use Rattle.bindings.proofs.Owning.{colours_in, theirs, their_sizes, theirs_apart, sizes_are, held_binds, SlotHeld, few_theirs, SlotTold, slot_none, slot_some}
@@ -29,6 +30,15 @@ pub record Giving (variables sizes colours env : List ℕ) (index k : ℕ) : Typ
   pub fit : fits sizes colours ≡ fits (drop k sizes) (drop k colours)
   pub is : number sizes colours ≡ index * product (drop k sizes) + number (drop k sizes) (drop k colours)
   pub held : (j : ℕ) → j < k → j < length variables → get_or (colours_in env variables) j 0 ≡ get_or colours j 0
+
+-- a number told where a test is true
+told_where : (b : Bool) {x next : ℕ} → Some next ≡ (if b then Some x else None) → (b ≡ true) × (next ≡ x)
+told_where true is = (refl, cc)
+told_where false is = absurd cc
+
+none_where : (b : Bool) (x : ℕ) → None ≡ (if b then Some x else None) → b ≡ false
+none_where true x is = absurd cc
+none_where false x is = refl
 
 module _ {variables sizes colours env : List ℕ} {index k colour : ℕ} (here : Giving variables sizes colours env index k)
     (is : colour ≡ get_or colours k 0) (byte : k < length colours) where
@@ -45,16 +55,16 @@ module _ {variables sizes colours env : List ℕ} {index k colour : ℕ} (here :
     unfolding number
     same_number = rw (drop_of_length-le sizes past, drop_of_length-le sizes (let h : length sizes ≤ k + 1 = omega arith in h))
 
-    unused_goes : {after : List ℕ} {r : Bool} {size : ℕ} → length variables ≤ k → Given None colour env after r → size ≡ 1 → r ≡ true → Giving variables sizes colours after (index * size + colour) (k + 1)
-    unused_goes {size = size} few given one e =
-        let zero_is = ltb-true colour 1 (sym given.0 ∙ e) in
+    unused_goes : {after : List ℕ} {so_far : ℕ} → length variables ≤ k → Given None colour index env after (Some so_far) → Giving variables sizes colours after so_far (k + 1)
+    unused_goes few given =
+        let (some, same) = told_where (ltb colour 1) given.0 in
+        let zero_is = ltb-true colour 1 some in
         let q : 0 ≡ colour = omega arith in
-        let same : index * size + colour ≡ index = rw (one, ← q) (omega (arith, mul-one index)) in
         rw (given.1, same) (record { fit = here.fit ∙ gives_none ∙ rw (eq-eqb 0 colour q); is = here.is ∙ same_number; held = λ j less lt. here.held j (omega arith) lt })
 
-    unused_fails : {after : List ℕ} {r : Bool} → Given None colour env after r → r ≡ false → fits sizes colours ≡ false
-    unused_fails given e =
-        let some = ltb-false colour 1 (sym given.0 ∙ e) in
+    unused_fails : {after : List ℕ} → Given None colour index env after None → fits sizes colours ≡ false
+    unused_fails given =
+        let some = ltb-false colour 1 (none_where (ltb colour 1) index given.0) in
         here.fit ∙ gives_none ∙ rw (ne_eqb 0 colour (λ q. omega arith))
 
   -- one that holds a variable
@@ -66,40 +76,50 @@ module _ {variables sizes colours env : List ℕ} {index k colour : ℕ} (here :
     unfolding fits
     gives_one = rw (next, first)
 
-    numbers_one : {size : ℕ} → size ≡ own.size → number sizes colours ≡ (index * size + colour) * product (drop (k + 1) sizes) + number (drop (k + 1) sizes) (drop (k + 1) colours)
+    numbers_one : number sizes colours ≡ (index * own.size + colour) * product (drop (k + 1) sizes) + number (drop (k + 1) sizes) (drop (k + 1) colours)
     unfolding number
-    numbers_one {size} is-size =
+    numbers_one =
         let rest : ℕ = product (drop (k + 1) sizes) in
-        let was : index * product (drop k sizes) + number (drop k sizes) (drop k colours) ≡ index * (size * rest) + (colour * rest + number (drop (k + 1) sizes) (drop (k + 1) colours)) =
-        rw (next, first, is-size) in
-        omega (arith, here.is, mul_assoc index size rest, add-mul (index * size) colour rest)
+        let was : index * product (drop k sizes) + number (drop k sizes) (drop k colours) ≡ index * (own.size * rest) + (colour * rest + number (drop (k + 1) sizes) (drop (k + 1) colours)) =
+        rw (next, first) in
+        omega (arith, here.is, mul_assoc index own.size rest, add-mul (index * own.size) colour rest)
 
-    used_goes : {after : List ℕ} {r : Bool} {size : ℕ} → Apart (λ v. v) variables → GivenOne own colour env after r → size ≡ own.size → r ≡ true → Giving variables sizes colours after (index * size + colour) (k + 1)
-    used_goes {after} apart given is-size e =
+    used_goes : {after : List ℕ} {so_far : ℕ} → Apart (λ v. v) variables → GivenOne own colour index env after (Some so_far) → Giving variables sizes colours after so_far (k + 1)
+    used_goes {after} apart given =
+        let (less, same) = told_where (ltb colour own.size) given.is in
         let inside = holds.inside in
         let colours_are : colours_in after variables ≡ set (colours_in env variables) k colour =
-        rw (given.stored e, holds.variable) (set_held env k colour apart inside (omega (arith, holds.variable, own.few_variables, given.room))) in
+        rw (given.stored (ltb-true colour own.size less), holds.variable) (set_held env k colour apart inside (omega (arith, holds.variable, own.few_variables, given.room))) in
         let wide : k < length (colours_in env variables) = rw length-map inside in
-        record {
-          fit = here.fit ∙ gives_one ∙ rw (sym given.is ∙ e);
-          is = numbers_one is-size;
-          held = λ j less lt. ap (λ l. get_or l j 0) colours_are ∙ ⊎_elim
+        rw same (record {
+          fit = here.fit ∙ gives_one ∙ rw less;
+          is = numbers_one;
+          held = λ j before lt. ap (λ l. get_or l j 0) colours_are ∙ ⊎_elim
               (λ s. rw s (get_or-set_same (colours_in env variables) k colour 0 wide ∙ is))
               (λ s. get_or-set_other (colours_in env variables) k j colour 0 (λ q. omega arith) ∙ here.held j (omega arith) lt)
               (eq-or-lt_of_le (let h : j ≤ k = omega arith in h));
-        }
+        })
 
-    used_fails : {after : List ℕ} {r : Bool} → GivenOne own colour env after r → r ≡ false → fits sizes colours ≡ false
-    used_fails given e = here.fit ∙ gives_one ∙ rw (sym given.is ∙ e)
+    used_fails : {after : List ℕ} → GivenOne own colour index env after None → fits sizes colours ≡ false
+    used_fails given = here.fit ∙ gives_one ∙ rw (none_where (ltb colour own.size) (index * own.size + colour) given.is)
 
 -- ---- by the table
 -- the number so far is small
-pub small_number : {index size c : ℕ} (k : ℕ) → index < 256 ^ k → size ≤ 255 → c ≤ 255 → index * size + c < 256 ^ (k + 1)
-small_number {index} {size} k small few byte =
-    let grown : suc index * 255 ≤ 256 ^ k * 255 = mul-le-mul small (let h : 255 ≤ 255 = omega arith in h) in
-    let less : index * size ≤ index * 255 = mul-le-mul (let h : index ≤ index = omega arith in h) few in
-    let power : 256 ^ (k + 1) ≡ 256 ^ k * 256 = rw (add-one k) (pow-suc 256 k) in
-    omega arith
+module _ {index : ℕ} (k : ℕ) (small : index < 256 ^ k) where
+  small_number : {size c : ℕ} → size ≤ 256 → c < size → index * size + c < 256 ^ (k + 1)
+  small_number {size} few less =
+      let grown : suc index * size ≤ 256 ^ k * 256 = mul-le-mul small few in
+      let power : 256 ^ (k + 1) ≡ 256 ^ k * 256 = rw (add-one k) (pow-suc 256 k) in
+      omega (arith, suc-mul index size)
+
+  pub give_small : {so_far : ℕ} (slot colour : ℕ) (env after : List ℕ) (own : Option Own) → OwnTold slot own → Given own colour index env after (Some so_far) → so_far < 256 ^ (k + 1)
+  give_small slot colour env after None told given =
+      let (some, same) = told_where (ltb colour 1) given.0 in
+      let power : 256 ^ (k + 1) ≡ 256 ^ k * 256 = rw (add-one k) (pow-suc 256 k) in
+      omega arith
+  give_small slot colour env after (Some own) told given =
+      let (less, same) = told_where (ltb colour own.size) given.is in
+      rw same (small_number (omega (arith, told.1)) (ltb-true colour own.size less))
 
 pub fits-number : {index : ℕ} (k : ℕ) → index < 256 ^ k → k ≤ 4 → index < 4294967296
 fits-number k small few = let most : 256 ^ k ≤ 4294967296 = pow-le-pow_right {n = 256} (omega arith) few in omega arith
@@ -118,13 +138,13 @@ module _ (n : Net) (t : ℕ) (orders : List ℕ) (at : ℕ) (whole : at + 4 ≤ 
     there_is : k < length named
     there_is = omega (arith, four)
 
-    pub give_goes : {after : List ℕ} {r : Bool} {size : ℕ} (own : Option Own) → SlotTold n t k own → Given own colour env after r → size ≡ colours_at own → r ≡ true → Giving (theirs n t) (their_sizes n t) named after (index * size + colour) (k + 1)
-    give_goes None told given sized e = let le = slot_none l lt k told in unused_goes here colour_is there_is (omega (arith, sizes_are n t)) le given sized e
-    give_goes (Some own) told given sized e = used_goes here colour_is there_is (sizes_are n t) (slot_some l lt k own told) (theirs_apart n t) given sized e
+    pub give_goes : {after : List ℕ} {so_far : ℕ} (own : Option Own) → SlotTold n t k own → Given own colour index env after (Some so_far) → Giving (theirs n t) (their_sizes n t) named after so_far (k + 1)
+    give_goes None told given = let le = slot_none l lt k told in unused_goes here colour_is there_is (omega (arith, sizes_are n t)) le given
+    give_goes (Some own) told given = used_goes here colour_is there_is (sizes_are n t) (slot_some l lt k own told) (theirs_apart n t) given
 
-    pub give_fails : (after : List ℕ) {r : Bool} (own : Option Own) → SlotTold n t k own → Given own colour env after r → r ≡ false → fits (their_sizes n t) named ≡ false
-    give_fails after None told given e = let le = slot_none l lt k told in unused_fails here colour_is there_is (omega (arith, sizes_are n t)) given e
-    give_fails after (Some own) told given e = used_fails here colour_is there_is (sizes_are n t) (slot_some l lt k own told) given e
+    pub give_fails : (after : List ℕ) (own : Option Own) → SlotTold n t k own → Given own colour index env after None → fits (their_sizes n t) named ≡ false
+    give_fails after None told given = let le = slot_none l lt k told in unused_fails here colour_is there_is (omega (arith, sizes_are n t)) given
+    give_fails after (Some own) told given = used_fails here colour_is there_is (sizes_are n t) (slot_some l lt k own told) given
 
   -- after the last slot all fit, the number is theirs, and the variables have them
   module _ {env : List ℕ} {index k : ℕ} (all : 4 ≤ k) (here : Giving (theirs n t) (their_sizes n t) named env index k) where

@@ -4,7 +4,7 @@ use mathlib.Core.Path.{◌≡◌, sym, ap, subst, ◌∙◌}
 use Prim.Native.Nat.{◌≤◌, ◌<◌}
 use native.Mathlib.Omega.{arith}
 use native.Mathlib.Nat.{add-zero}
-use Rattle.reading.specs.Basics.{ℕ, Bool, true, false, List, none, some, length, take, drop, byte_at, get_or}
+use Rattle.reading.specs.Basics.{ℕ, Bool, List, none, some, length, take, drop, byte_at, get_or}
 use Rattle.net.specs.Net.{Net}
 use Rattle.prepared.specs.internal.Prepared.{Prepared}
 use Rattle.prepared.specs.internal.Drawn.{Drawn, net_of}
@@ -14,7 +14,7 @@ use Rattle.bindings.specs.Orders.{fits, named}
 use Rattle.bindings.specs.internal.Bindings.{binding}
 use Rattle.bindings.specs.internal.Naming.{Names, NamedTold}
 use Rattle.bindings.specs.declared.binding.Numbered.{Numbered}
-use Rattle.bindings.specs.internal.SlotSteps.{colours_at, Given}
+use Rattle.bindings.specs.internal.SlotSteps.{Given}
 use Rattle.bindings.proofs.Owning.{theirs, their_sizes, SlotTold}
 use Rattle.bindings.proofs.Ordering.{named_other, named_past, named_unfit, named_fit, order_colours, order_byte}
 use Rattle.bindings.proofs.Giving.{Giving, give_goes, give_fails, give_fits, give_number, give_binds}
@@ -54,11 +54,11 @@ module _ (n : Net) (orders : List ℕ) (i : ℕ) where
     -- one slot more: its colour is one of its set, or not
     module _ {env : List ℕ} {index k colour : ℕ} (own : Option Own) (few : k < 4) (told : SlotTold n t k own) (byte : colour ≡ get_or orders (i * 6 + 2 + k) 0)
         (here : GivenTo n orders i t env index k) where
-      pub name_goes : {after : List ℕ} {r : Bool} {size : ℕ} → Given own colour env after r → size ≡ colours_at own → r ≡ true → GivenTo n orders i t after (index * size + colour) (k + 1)
-      name_goes given sized e = give_goes n t orders (i * 6 + 2) four (its_limits ready) inside few byte here own told given sized e
+      pub name_goes : {after : List ℕ} {so_far : ℕ} → Given own colour index env after (Some so_far) → GivenTo n orders i t after so_far (k + 1)
+      name_goes given = give_goes n t orders (i * 6 + 2) four (its_limits ready) inside few byte here own told given
 
-      pub name_fails : (after : List ℕ) {r : Bool} → Given own colour env after r → r ≡ false → named n order ≡ none
-      name_fails after given e = named_unfit n order (opening ∙ opens) below_it (fit_is (give_fails n t orders (i * 6 + 2) four (its_limits ready) inside few byte here after own told given e))
+      pub name_fails : (after : List ℕ) → Given own colour index env after None → named n order ≡ none
+      name_fails after given = named_unfit n order (opening ∙ opens) below_it (fit_is (give_fails n t orders (i * 6 + 2) four (its_limits ready) inside few byte here after own told given))
 
     -- all four
     pub name_ends : {env : List ℕ} {index k : ℕ} → 4 ≤ k → GivenTo n orders i t env index k → Names n order t index env

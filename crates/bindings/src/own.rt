@@ -45,6 +45,8 @@ fn turn(own: Option<Own>, env: &mut [u8; 32]) -> bool
 
 // Goes from a transition's binding to the next; the last variable changes fastest.
 // It stays beside skip_bindings, since it has no division and is done at every binding.
+// Built into its callers: the search and the walks go through it at every binding.
+#[inline]
 pub fn next_binding(transition: &Transition, env: &mut [u8; 32])
     ensures { (i : ℕ) → i + 1 < product (its_sizes transition.now) → BindsIts transition.now i env.old → BindsIts transition.now (i + 1) env.new }
 {

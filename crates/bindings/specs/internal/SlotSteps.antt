@@ -1,5 +1,5 @@
 -- What happens to the colour of one slot's variable; a slot that is not used has none.
-use Rattle.std.specs.Prelude.{◌≡◌, ◌≤◌, ◌<◌, set, ◌+◌, ◌/◌, ◌%◌, Option, Some, None}
+use Rattle.std.specs.Prelude.{◌≡◌, ◌≤◌, ◌<◌, set, ◌+◌, ◌*◌, ◌/◌, ◌%◌, if◌then◌else◌, Option, Some, None}
 use Rattle.reading.specs.Basics.{ℕ, Bool, true, false, List, length, get_or, ltb}
 use Rattle.plan.specs.declared.own.Own.{Own}
 
@@ -28,12 +28,12 @@ abbrev pub Skipped : Option Own → ℕ → List ℕ → List ℕ → ℕ → Ty
 Skipped None many env after r = (r ≡ many) × (after ≡ env)
 Skipped (Some own) many env after r = SkippedOne own many env after r
 
--- a slot's variable was given a colour, if it is one of its set; a slot that is not used has the colour 0
-pub record GivenOne (own : Own) (colour : ℕ) (env after : List ℕ) (r : Bool) : Type 0 where
+-- a slot's variable was given a colour, if it is one of its set: the number of the colours so far, index before it; a slot that is not used has the colour 0
+pub record GivenOne (own : Own) (colour index : ℕ) (env after : List ℕ) (r : Option ℕ) : Type 0 where
   pub room : length env ≡ 32
-  pub is : r ≡ ltb colour own.size
-  pub stored : r ≡ true → after ≡ set env own.variable colour
+  pub is : r ≡ (if ltb colour own.size then Some (index * own.size + colour) else None)
+  pub stored : colour < own.size → after ≡ set env own.variable colour
 
-abbrev pub Given : Option Own → ℕ → List ℕ → List ℕ → Bool → Type 0
-Given None colour env after r = (r ≡ ltb colour 1) × (after ≡ env)
-Given (Some own) colour env after r = GivenOne own colour env after r
+abbrev pub Given : Option Own → ℕ → ℕ → List ℕ → List ℕ → Option ℕ → Type 0
+Given None colour index env after r = (r ≡ (if ltb colour 1 then Some index else None)) × (after ≡ env)
+Given (Some own) colour index env after r = GivenOne own colour index env after r
