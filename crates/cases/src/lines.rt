@@ -1,4 +1,4 @@
-// The lines that several calls write, and the calls that fire a list.
+// The lines that several calls write, and the calls that fire a list. A reply is a line of several values, so it is a function and no Display of one.
 use reading::Refusal;
 use std::io;
 use std::io::{Read, Write};

@@ -12,7 +12,7 @@ pub(crate) fn after_in(size: u8, c: u16) -> u16
     if c + 1 == size as u16 { 0 } else { c + 1 }
 }
 
-// The colour before c.
+// The colour before c. By if, as its meaning is: the set may be empty, and c past its end.
 pub(crate) fn before_in(size: u8, c: u16) -> u16
     ensures is { result ≡ before size c }
     ensures small { (most : ℕ) → 255 ≤ most → c ≤ most → result ≤ most }

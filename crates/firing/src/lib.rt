@@ -175,7 +175,7 @@ pub fn answer(row: RowArcs, m: &[u16]) -> Answer
 }
 
 // Moves the marking by a row's takes and puts, where the row was answered 0.
-pub fn move_row(takes: &[Arc], puts: &[Arc], m: &mut [u16])
+fn move_row(takes: &[Arc], puts: &[Arc], m: &mut [u16])
     ensures { (caps : List ℕ) (hinders : List _) → SmallCapacities caps → Proper (length m.old) (row takes.now puts.now hinders)
         → 0 ≡ (fire caps (weights (row takes.now puts.now hinders)) m.old).answer
         → fired 0 m.new ≡ fire caps (weights (row takes.now puts.now hinders)) m.old }

@@ -84,6 +84,7 @@ fn pass_arcs(file: &[u8], count: usize, at: usize) -> Result<usize, Refusal>
 {
     let mut least: usize = 0;
     let mut next = at;
+    // A while: a step is done, more or a fault.
     while let Some(read) = arc_at(file, count, next, least)? {
         least = key(read.kind, read.arc.place) + 1;
         next += 5;
@@ -118,6 +119,7 @@ pub fn load_arcs(file: &[u8], at: usize, arcs: &mut [Arc]) -> Ends
         hinders: 0,
     };
     let mut next = at;
+    // A while: the arcs end where another byte stands.
     while let Some(kind) = arc_here(file, next) {
         arcs[ends.hinders] = arc_in(file, next);
         ends = later_ends(kind, ends);

@@ -53,6 +53,7 @@ fn read_list(
 {
     let mut count: usize = 0;
     let mut at = start;
+    // A while: a step is done, more or a fault.
     while let Some(value) = operand_at(file, command, &values, list.len(), count, at)? {
         list[count] = value;
         count += 1;
@@ -66,8 +67,7 @@ fn read_list(
 }
 
 // The set part: the sizes go into the front of a lent list of 16.
-pub fn read_sets(file: &[u8], sizes: &mut [u8], start: usize) -> Result<Part, Refusal>
-    requires { length sizes.old ≡ 16 }
+pub fn read_sets(file: &[u8], sizes: &mut [u8; 16], start: usize) -> Result<Part, Refusal>
     ensures few { Few 16 result }
     ensures is { sets_read sizes.new result ≡ whole file.now (set_part file.now) [] start }
 {
@@ -78,10 +78,9 @@ pub fn read_sets(file: &[u8], sizes: &mut [u8], start: usize) -> Result<Part, Re
 pub fn read_variables(
     file: &[u8],
     sets: &[u8],
-    vars: &mut [u8],
+    vars: &mut [u8; 32],
     start: usize,
 ) -> Result<Part, Refusal>
-    requires { length vars.old ≡ 32 }
     ensures few { Few 32 result }
     ensures is { sets_read vars.new result ≡ whole file.now (variable_part file.now (scope sets.now [] [])) [] start }
 {

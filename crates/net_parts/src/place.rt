@@ -92,20 +92,20 @@ fn place_at(
 pub fn read_places(
     file: &[u8],
     sets: &[u8],
-    kinds: &mut [PlaceSets],
-    starts: &mut [usize],
+    kinds: &mut [PlaceSets; 32],
+    starts: &mut [usize; 33],
     start: usize,
 ) -> Result<Part, Refusal>
-    requires kinds_len { length kinds.old ≡ 32 }
-    requires starts_len { length starts.old ≡ 33 }
     ensures is { (variables : List ℕ) → places_read kinds.new result
         ≡ whole file.now (place_part file.now (scope sets.now variables [])) [] start }
     ensures held { PlacesHeld sets.now kinds.new starts.new result }
+    ensures long { length kinds.new ≡ 32 }
 {
     let mut count: usize = 0;
     let mut total: usize = 0;
     let mut at = start;
     starts[0] = 0;
+    // A while: a step is done, more or a fault.
     while let Some(place) = place_at(file, sets, count, total, at)? {
         kinds[count] = place.sets;
         count += 1;

@@ -91,6 +91,7 @@ fn read_marked(
         → TokensTold file.now n start starts.now.starts.now initial.new result }
 {
     let mut at = start;
+    // A while: a step is done, more or a fault.
     while let Some(token) = token_at(file, starts, named, at)? {
         store(initial, token.flat, token.count);
         named[token.flat] = 1;

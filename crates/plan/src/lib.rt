@@ -1,4 +1,5 @@
-// The table of a prepared net: where each thing stands in it, and how it is read and written.
+// The table of a prepared net: where each thing stands in it, and how it is read and written. It is fixed memory, one array
+// of numbers that the project keeps at one length, and 0 in it says that there is no guard, arc or variable: only the functions here take it apart.
 #![tactic(auto)]
 
 mod entry;
@@ -82,7 +83,7 @@ pub fn own_of(plan: &[u32; 3584], t: usize, k: usize) -> Option<Own>
     Some(Own { variable, size })
 }
 
-// Entry i of the packed arcs, with what its place is like. The table is fixed memory of numbers: 0 stands where there is no arc.
+// Entry i of the packed arcs, joined with what its place is like to the one number of which the table's meaning speaks; 0 where there is no arc.
 #[tactic(auto, using(crate::proofs::Sections::arc_none, crate::proofs::Sections::arc_told))]
 fn number_at(plan: &[u32; 3584], i: usize) -> u64
     requires { i < 3072 }

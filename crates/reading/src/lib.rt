@@ -55,7 +55,8 @@ pub fn long_at(file: &[u8], at: usize) -> usize
 }
 
 // Whether a function that may call itself once more does. It promises the same both times, so it does not matter when it does; where
-// `again` is false it does not. The compiler keeps a function that can call itself apart: its tables lie in no other function's frame.
+// `again` is false it does not. A function that can call itself can be kept apart: its tables lie in no other function's frame. Today's compiler does so for
+// `#[inline(never)]`, which stands in front of each of them and which it may take for a hint; this stays beside it.
 pub fn once_more(file: &[u8], again: bool) -> bool
     ensures { result ≡ true → again ≡ true }
 {

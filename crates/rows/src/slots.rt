@@ -1,4 +1,4 @@
-// How many slots the rows of a net need in the lent lists.
+// How many slots the rows of a net need in the lent list.
 ghost use Rattle.std.specs.Prelude.{◌≡◌, ℕ, ◌≤◌, ◌<◌, ◌+◌, ◌/◌, leb};
 ghost use Rattle.prepared.specs.internal.Drawn.{net_of, its_net};
 ghost use Rattle.sums.specs.internal.Slots.{slots_for};
@@ -57,7 +57,7 @@ pub fn most_slots(drawing: &Drawing) -> usize
     most
 }
 
-// Whether lists of 1,024 slots have the room for rows that need so many, with a file of so many bytes.
+// Whether a list of 1,024 slots has the room for rows that need so many, with a file of so many bytes.
 pub fn is_small(slots: usize, len: usize) -> bool
     ensures { result ≡ leb (slots + len / 2) 1024 }
 {

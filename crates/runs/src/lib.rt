@@ -101,10 +101,8 @@ fn seat(run: &[Arc], rank: u16) -> usize
     ensures before { 0 < result → (get_or run.now (result - 1) (term 0 0)).place ≤ rank }
     ensures after { (n : ℕ) → result ≤ n → n < length run.now → rank < (get_or run.now n (term 0 0)).place }
 {
-    match run.iter().rposition(|a| a.place <= rank) {
-        Some(i) => i + 1,
-        None => 0,
-    }
+    let last = run.iter().rposition(|a| a.place <= rank);
+    last.map_or(0, |i| i + 1)
 }
 
 // Adds a term to the run of so many at a room's front: how many there are then. Where no slot is left behind them it changes nothing.

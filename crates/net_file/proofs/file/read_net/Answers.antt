@@ -34,7 +34,7 @@ returns-in_err-transitions c =
     rw (p.1, p.2) (transitions_refused c.args.file.now c.if-file-gt16384.false _ c.read_opening.ensures _ c.in_ok-next.was c.read_sets.new.sizes _ c.read_sets.ensures.is _ c.in_ok-sets.was c.read_variables.new.vars _ c.read_variables.ensures.is _ c.in_ok-variables.was c.read_places.new.kinds c.read_places.new.starts _ c.read_places.ensures.is _ c.in_ok-places.was c.read_transitions.new.heads c.read_transitions.new.arcs _ c.read_transitions.ensures c.in_err-transitions.was)
 
 pub invariant_of-starts : goal.invariant_of-starts
-invariant_of-starts c = let held = (rw c.in_ok-places.was at c.read_places.ensures.held) in record { rise = rising held (omega (arith, held.few, c.read_places.auto.starts)) }
+invariant_of-starts c = let held = (rw c.in_ok-places.was at c.read_places.ensures.held) in record { rise = rising held (omega (arith, held.few)) }
 
 pub returns-in_err-next-2 : goal.returns-in_err-next-2
 returns-in_err-next-2 c =
@@ -47,4 +47,4 @@ returns-in_err-read_closing c =
     rw (p.1, p.2) (closing_refused c.args.file.now c.if-file-gt16384.false _ c.read_opening.ensures _ c.in_ok-next.was c.read_sets.new.sizes _ c.read_sets.ensures.is _ c.in_ok-sets.was c.read_variables.new.vars _ c.read_variables.ensures.is _ c.in_ok-variables.was c.read_places.new.kinds c.read_places.new.starts _ c.read_places.ensures.is _ c.in_ok-places.was c.read_transitions.new.heads c.read_transitions.new.arcs _ c.read_transitions.ensures _ c.in_ok-transitions.was (rw c.in_ok-places.was at c.read_places.ensures.held) c.read_tokens.new.initial _ c.read_tokens.ensures _ c.in_ok-next-2.was _ c.read_closing.ensures c.in_err-read_closing.was)
 
 pub returns : goal.returns
-returns c = net_held c.args.file.now c.if-file-gt16384.false _ c.read_opening.ensures _ c.in_ok-next.was c.read_sets.new.sizes _ c.read_sets.ensures.is _ c.in_ok-sets.was c.read_variables.new.vars _ c.read_variables.ensures.is _ c.in_ok-variables.was c.read_places.new.kinds c.read_places.new.starts _ c.read_places.ensures.is _ c.in_ok-places.was c.read_transitions.new.heads c.read_transitions.new.arcs _ c.read_transitions.ensures _ c.in_ok-transitions.was (rw c.in_ok-places.was at c.read_places.ensures.held) c.read_tokens.new.initial _ c.read_tokens.ensures _ c.in_ok-next-2.was _ c.read_closing.ensures c.in_ok-read_closing.was (rw c.in_ok-sets.was at c.read_sets.ensures.few).0 (rw c.in_ok-variables.was at c.read_variables.ensures.few).0 (omega (arith, c.read_places.auto.kinds))
+returns c = net_held c.args.file.now c.if-file-gt16384.false _ c.read_opening.ensures _ c.in_ok-next.was c.read_sets.new.sizes _ c.read_sets.ensures.is _ c.in_ok-sets.was c.read_variables.new.vars _ c.read_variables.ensures.is _ c.in_ok-variables.was c.read_places.new.kinds c.read_places.new.starts _ c.read_places.ensures.is _ c.in_ok-places.was c.read_transitions.new.heads c.read_transitions.new.arcs _ c.read_transitions.ensures _ c.in_ok-transitions.was (rw c.in_ok-places.was at c.read_places.ensures.held) c.read_tokens.new.initial _ c.read_tokens.ensures _ c.in_ok-next-2.was _ c.read_closing.ensures c.in_ok-read_closing.was (rw c.in_ok-sets.was at c.read_sets.ensures.few).0 (rw c.in_ok-variables.was at c.read_variables.ensures.few).0 c.read_places.ensures.long

@@ -5,4 +5,4 @@ use Rattle.net_parts.proofs.Listing.{sets_listed}
 use Rattle.net_parts.proofs.list.read_sets.Goals as goal
 
 pub returns-clause-is : goal.returns-clause-is
-returns-clause-is c = (rw c.requires at c.read_list.ensures.is) ∙ ap (λ part. whole c.args.file.now part [] c.args.start) (sets_listed c.args.file.now)
+returns-clause-is c = (rw c.told-sizes at c.read_list.ensures.is) ∙ ap (λ part. whole c.args.file.now part [] c.args.start) (sets_listed c.args.file.now)

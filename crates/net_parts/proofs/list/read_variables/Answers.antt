@@ -5,4 +5,4 @@ use Rattle.net_parts.proofs.Listing.{variables_listed}
 use Rattle.net_parts.proofs.list.read_variables.Goals as goal
 
 pub returns-clause-is : goal.returns-clause-is
-returns-clause-is c = (rw c.requires at c.read_list.ensures.is) ∙ ap (λ part. whole c.args.file.now part [] c.args.start) (variables_listed c.args.file.now c.args.sets.now)
+returns-clause-is c = (rw c.told-vars at c.read_list.ensures.is) ∙ ap (λ part. whole c.args.file.now part [] c.args.start) (variables_listed c.args.file.now c.args.sets.now)
