@@ -34,7 +34,7 @@ impl<'a, const ARCS: usize> Marked<'a, ARCS> {
     {
         match load_bound(transition, env, self.marking, arcs) {
             Ok(ends) => rest_answer(row_arcs(arcs, ends), self.marking) == Answer::Fired,
-            Err(answer) => answer == Answer::Fired,
+            Err(_) => false,
         }
     }
 

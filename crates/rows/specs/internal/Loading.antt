@@ -39,9 +39,10 @@ pub record RowReady (n : Net) (b : Binding) (m : List ℕ) (list : List Arc) (en
   pub there : any (lacking m) (arcs_in list 0 ends.takes) ≡ false
   pub fires : fire [] (weights (row_in list ends.takes ends.puts ends.hinders)) m ≡ fire_binding n b m
 
--- a binding on a marking: its row is ready to fire, or it is answered without it
+-- a binding on a marking: its row is ready to fire, or it is answered 2 or 3 without it
 abbrev pub BoundTold : Net → Binding → List ℕ → List Arc → Result Ends Answer → Type 0
-BoundTold n b m list r = MatchResult r (λ ends. RowReady n b m list ends) (λ answer. fired (answer_number answer) m ≡ fire_binding n b m)
+BoundTold n b m list r = MatchResult r (λ ends. RowReady n b m list ends)
+    (λ answer. (2 ≤ answer_number answer) × (answer_number answer ≤ 3) × (fired (answer_number answer) m ≡ fire_binding n b m))
 
 -- its row was loaded as far as firing it needs
 abbrev pub LoadsBound : List ℕ → Net → List ℕ → ℕ → List ℕ → List Arc → List Arc → Result Ends Answer → Type 0

@@ -10,9 +10,9 @@ loop-entry-init c = record { upto = upto_begins c.into_iter-entry-iterator.ensur
 
 pub loop-entry-preserved : goal.loop-entry-preserved
 loop-entry-preserved c = record {
-  upto = kind_goes c.args.env.now c.loop-entry.invariant.upto c.in-Some.ensures.steps (rw (← c.bound-bound.ensures.is.0, ← c.bound-bound.ensures.is.1, ← c.bound-bound.ensures.is.2) c.load_arc-end.ensures.is) (omega (arith, c.loop-entry.invariant.within, c.loop-entry.auto.room));
+  upto = kind_goes c.args.bound.now.env.now c.loop-entry.invariant.upto c.in-Some.ensures.steps (rw (← c.requires.0, ← c.requires.1) c.load_arc-end.ensures.is) (omega (arith, c.loop-entry.invariant.within, c.loop-entry.auto.room));
   within = omega (arith, c.load_arc-end.ensures.within, length-behind c.loop-entry.end c.loop-entry.room, c.loop-entry.invariant.within, c.loop-entry.auto.room);
 }
 
 pub returns-clause-is : goal.returns-clause-is
-returns-clause-is c = kind_ends c.args.env.now c.loop-entry.invariant.upto c.in-None.ensures.steps
+returns-clause-is c = kind_ends c.args.bound.now.env.now c.loop-entry.invariant.upto c.in-None.ensures.steps

@@ -20,4 +20,5 @@ returns-in-Ok g c =
 pub returns-in-Err : goal.returns-in-Err
 returns-in-Err g c =
     let (same, it) = c.in-Some.ensures in
-    (rw same at c.in-Err.ensures.told) _ it.binds (search rules) c.requires.sized ∙ names (net_of c.args.self.drawing.now) _ _ it.is
+    let early = (rw same at c.in-Err.ensures.told) _ it.binds (search rules) c.requires.sized in
+    early.2 ∙ names (net_of c.args.self.drawing.now) _ _ it.is
