@@ -1,15 +1,15 @@
 -- How arcs are read, and where the loop over them stands. Assumes nothing.
-use Rattle.std.specs.Prelude.{◌+◌, ◌*◌, ◌∷◌, Result, Ok, Err}
+use Rattle.std.specs.Prelude.{◌+◌, ◌*◌, ◌∷◌, ◌++◌, Result, Ok, Err}
 use mathlib.Core.Path.{◌≡◌, refl, sym, ap, fun_ext, ◌∙◌}
 use mathlib.Core.Bool.{Bool, true, false, ◌&&◌, ◌||◌}
 use Prim.Native.Nat.{◌≤◌, ◌<◌, ◌-◌}
 use native.Mathlib.Omega.{arith}
 use borrow.Author.Tests.{lt-ltb, le-ltb, eq-eqb, ne_eqb, eqb-true, eqb-false}
 use lib.Bits.{bit_or}
-use lib.ListN.{set, length-set, replicate}
+use lib.ListN.{set, length-set, replicate, length-append}
 use Rattle.std.proofs.lemmas.List.{get_or-replicate, length-replicate}
-use lib.Seq.{get_or-set_same, get_or-set_other}
-use Rattle.reading.specs.Basics.{ℕ, zero, suc, List, [], Option, some, none, option_map, absent, length, get_or, with, find, any, eqb, ltb, byte_at}
+use lib.Seq.{get_or-set_same, get_or-set_other, length-take-le}
+use Rattle.reading.specs.Basics.{ℕ, zero, suc, List, [], Option, some, none, option_map, absent, length, get_or, take, with, find, any, eqb, ltb, byte_at}
 use Rattle.reading.specs.Reading.{Answer, fine, fault, under, whole}
 use Rattle.reading.proofs.Commands.{end, other, passes, done, fails, later, standing_none, stands_cut, stands_fails, stands_goes, both_hold, first_fails, second_fails}
 use Rattle.reading.proofs.Parts.{Reading, begins, goes_on, ends, stops}
@@ -32,6 +32,7 @@ use Rattle.net.proofs.Answers.{bits_or}
 use Rattle.net_parts.proofs.Placing.{length_places}
 use Rattle.net_parts.proofs.Tokening.{find_new, find-same}
 use Rattle.net.proofs.Inside.{expression_ends}
+use Rattle.net_transitions.proofs.Lent.{part_in, part_before}
 
 -- the place of a number, by its sets
 pub place_at_lem : (kinds : List PlaceSets) (p : ℕ) (instead : PlaceSets) → p < length kinds → get_or (places_of kinds) p (single 0) ≡ place_in (get_or kinds p instead)
@@ -144,44 +145,44 @@ module _ (s : List ℕ) (n : Net) (arcs : List Arc) (slot : ℕ → ℕ) (holds 
       (slot_empty (read_expression s n (place_at n p) 16) (option_map (λ a. a.expression) (arc_on arcs (0x16 + k) p)) (slot (k * 32 + p)) e (holds k p of_three known))
 
 -- a row with one more arc
-pub row_more : (s : List ℕ) (n : Net) (arcs : List Arc) (row : List ℕ) → RowHolds s n arcs (λ i. get_or row i 0) → length n.places ≤ 32 → length row ≡ 96
-    → (k p at : ℕ) (e : Expression) → k < 3 → p < length n.places → 0 < at → Standing (read_expression s n (place_at n p) 16) e at → get_or row (k * 32 + p) 0 ≡ 0
-    → RowHolds s n (with arcs (record { kind = 0x16 + k; place = p; expression = e })) (λ i. get_or (set row (k * 32 + p) at) i 0)
-row_more s n arcs row holds few sized k p at e of_three known pos stands free k2 p2 of-three2 known2 = go (eqb (0x16 + k) (0x16 + k2)) (eqb p p2) refl refl
+pub row_more : (s : List ℕ) (n : Net) (arcs : List Arc) (table : List ℕ) (from : ℕ) → RowHolds s n arcs (λ i. get_or table (from + i) 0) → length n.places ≤ 32 → from + 96 ≤ length table
+    → (k p at : ℕ) (e : Expression) → k < 3 → p < length n.places → 0 < at → Standing (read_expression s n (place_at n p) 16) e at → get_or table (from + (k * 32 + p)) 0 ≡ 0
+    → RowHolds s n (with arcs (record { kind = 0x16 + k; place = p; expression = e })) (λ i. get_or (set table (from + (k * 32 + p)) at) (from + i) 0)
+row_more s n arcs table from holds few sized k p at e of_three known pos stands free k2 p2 of-three2 known2 = go (eqb (0x16 + k) (0x16 + k2)) (eqb p p2) refl refl
   where
     apart : (k2 * 32 + p2 ≡ k * 32 + p → ⊥) → eqb (0x16 + k) (0x16 + k2) && eqb p p2 ≡ false
-        → Slot (read_expression s n (place_at n p2) 16) (option_map (λ a. a.expression) (arc_on (with arcs (record { kind = 0x16 + k; place = p; expression = e })) (0x16 + k2) p2)) (get_or (set row (k * 32 + p) at) (k2 * 32 + p2) 0)
+        → Slot (read_expression s n (place_at n p2) 16) (option_map (λ a. a.expression) (arc_on (with arcs (record { kind = 0x16 + k; place = p; expression = e })) (0x16 + k2) p2)) (get_or (set table (from + (k * 32 + p)) at) (from + (k2 * 32 + p2)) 0)
     apart ne f = slot_is (read_expression s n (place_at n p2) 16)
         (ap (λ o. option_map (λ a. a.expression) o) (find-same (λ a. eqb a.kind (0x16 + k2) && eqb a.place p2) arcs (record { kind = 0x16 + k; place = p; expression = e }) f))
-        (get_or-set_other row (k * 32 + p) (k2 * 32 + p2) at 0 ne) (holds k2 p2 of-three2 known2)
+        (get_or-set_other table (from + (k * 32 + p)) (from + (k2 * 32 + p2)) at 0 (λ same. ne (omega arith))) (holds k2 p2 of-three2 known2)
 
-    here : Slot (read_expression s n (place_at n p) 16) (option_map (λ a. a.expression) (arc_on (with arcs (record { kind = 0x16 + k; place = p; expression = e })) (0x16 + k) p)) (get_or (set row (k * 32 + p) at) (k * 32 + p) 0)
+    here : Slot (read_expression s n (place_at n p) 16) (option_map (λ a. a.expression) (arc_on (with arcs (record { kind = 0x16 + k; place = p; expression = e })) (0x16 + k) p)) (get_or (set table (from + (k * 32 + p)) at) (from + (k * 32 + p)) 0)
     here = slot_is (read_expression s n (place_at n p) 16)
         (ap (λ o. option_map (λ a. a.expression) o) (find_new (λ a. eqb a.kind (0x16 + k) && eqb a.place p) arcs (record { kind = 0x16 + k; place = p; expression = e })
-        (row_free s n arcs (λ i. get_or row i 0) holds k p of_three known free) (both_hold (eqb (0x16 + k) (0x16 + k)) (eqb p p) (eq-eqb (0x16 + k) (0x16 + k) refl) (eq-eqb p p refl))))
-        (get_or-set_same row (k * 32 + p) at 0 (omega arith)) (pos, stands)
+        (row_free s n arcs (λ i. get_or table (from + i) 0) holds k p of_three known free) (both_hold (eqb (0x16 + k) (0x16 + k)) (eqb p p) (eq-eqb (0x16 + k) (0x16 + k) refl) (eq-eqb p p refl))))
+        (get_or-set_same table (from + (k * 32 + p)) at 0 (omega arith)) (pos, stands)
 
     go : (x y : Bool) → eqb (0x16 + k) (0x16 + k2) ≡ x → eqb p p2 ≡ y
-        → Slot (read_expression s n (place_at n p2) 16) (option_map (λ a. a.expression) (arc_on (with arcs (record { kind = 0x16 + k; place = p; expression = e })) (0x16 + k2) p2)) (get_or (set row (k * 32 + p) at) (k2 * 32 + p2) 0)
+        → Slot (read_expression s n (place_at n p2) 16) (option_map (λ a. a.expression) (arc_on (with arcs (record { kind = 0x16 + k; place = p; expression = e })) (0x16 + k2) p2)) (get_or (set table (from + (k * 32 + p)) at) (from + (k2 * 32 + p2)) 0)
     go true true q z =
         let u : k ≡ k2 = omega (arith, eqb-true (0x16 + k) (0x16 + k2) q) in let w = eqb-true p p2 z in rw (← u, ← w) here
     go false y q z = apart (λ same. eqb-false (0x16 + k) (0x16 + k2) q (omega arith)) (first_fails (eqb (0x16 + k) (0x16 + k2)) (eqb p p2) q)
     go true false q z = apart (λ same. eqb-false p p2 z (let u = eqb-true (0x16 + k) (0x16 + k2) q in omega arith)) (second_fails (eqb (0x16 + k) (0x16 + k2)) (eqb p p2) z)
 
 -- ---- what a step of the code tells
-module _ (s : List ℕ) (n : Net) (arcs : List Arc) (at : ℕ) (row : List ℕ) (holds : RowHolds s n arcs (λ i. get_or row i 0)) (k : ℕ) (of_three : k < 3) (stands : byte_at s at ≡ 0x16 + k)
+module _ (s : List ℕ) (n : Net) (arcs : List Arc) (at : ℕ) (slots : ℕ → ℕ) (holds : RowHolds s n arcs slots) (k : ℕ) (of_three : k < 3) (stands : byte_at s at ≡ 0x16 + k)
     (whole-there : at + 2 ≤ length s) (p : ℕ) (place_is : p ≡ byte_at s (at + 1)) (known : p < length n.places) where
-  pub arc_again : 0 < get_or row (k * 32 + p) 0 → arc_part s n arcs at ≡ some (fault 9 at)
-  arc_again lt = arcs_again s n arcs at k of_three stands whole-there p place_is known (row_full s n arcs (λ i. get_or row i 0) holds k p of_three known lt)
+  pub arc_again : 0 < slots (k * 32 + p) → arc_part s n arcs at ≡ some (fault 9 at)
+  arc_again lt = arcs_again s n arcs at k of_three stands whole-there p place_is known (row_full s n arcs slots holds k p of_three known lt)
 
-  module _ (free : get_or row (k * 32 + p) 0 ≡ 0) where
+  module _ (free : slots (k * 32 + p) ≡ 0) where
     goes : arc_part s n arcs at ≡ some (under (λ e. with arcs (record { kind = 0x16 + k; place = p; expression = e })) (read_expression s n (place_at n p) 16 (at + 2)))
-    goes = arcs_go s n arcs at k of_three stands whole-there p place_is known (row_free s n arcs (λ i. get_or row i 0) holds k p of_three known free)
+    goes = arcs_go s n arcs at k of_three stands whole-there p place_is known (row_free s n arcs slots holds k p of_three known free)
 
     pub arc_fault : {r : Refusal} → Err r ≡ expression_told (read_expression s n (place_at n p) 16 (at + 2)) → Refuses (arc_part s n arcs at) r
     arc_fault e = rw goes (refuses_on (under (λ e. with arcs (record { kind = 0x16 + k; place = p; expression = e }))) (λ k p. refl) (heard_fault ceiling in_expression (read_expression s n (place_at n p) 16 (at + 2)) e))
 
-    pub arc_read : {r : Read} → Ok r ≡ expression_told (read_expression s n (place_at n p) 16 (at + 2)) → ArcRead s n arcs at row (k * 32 + p) r.uses r.next
+    pub arc_read : {r : Read} → Ok r ≡ expression_told (read_expression s n (place_at n p) 16 (at + 2)) → ArcRead s n arcs at slots (k * 32 + p) r.uses r.next
     arc_read {r} e =
         let h = heard ceiling in_expression (read_expression s n (place_at n p) 16 (at + 2)) e in
         record {
@@ -216,30 +217,35 @@ unfolding any
 any-with test [] a = or_false (test a)
 any-with test (x ∷ l) a = ap (λ b. test x || b) (any-with test l a) ∙ sym (or_or (test x) (any test l) (test a))
 
-pub record Arcing (s : List ℕ) (n : Net) (start : ℕ) (row : List ℕ) (uses at : ℕ) : Type 0 where
+pub record Arcing (s : List ℕ) (n : Net) (start : ℕ) (old table : List ℕ) (from uses at : ℕ) : Type 0 where
   pub arcs : List Arc
-  pub sized : length row ≡ 96
+  pub sized : from + 96 ≤ length table
+  pub kept : (i : ℕ) → i < from → get_or table i 0 ≡ get_or old i 0
   pub after : start ≤ at
   pub within : start ≤ length s → at ≤ length s
   pub reading : Reading s (arc_part s n) arcs at (whole s (arc_part s n) [] start)
-  pub holds : RowHolds s n arcs (λ i. get_or row i 0)
+  pub holds : RowHolds s n arcs (λ i. get_or table (from + i) 0)
   pub used : uses ≡ bits (λ v. any (λ a. in_expression v a.expression) arcs) 32
 
 -- from a row that is 0 everywhere
-pub arcing_begins : (s : List ℕ) (n : Net) (start : ℕ) {row : List ℕ} {slots : ℕ} → row ≡ replicate slots 0 → slots ≡ 96 → length n.places ≤ 32 → Arcing s n start row 0 start
+pub arcing_begins : (s : List ℕ) (n : Net) (start : ℕ) (zs : List ℕ) {old row : List ℕ} {from slots : ℕ} → from ≤ length old → row ≡ replicate slots 0 → slots ≡ 96 → length n.places ≤ 32
+    → Arcing s n start old (take from old ++ (row ++ zs)) from 0 start
 unfolding find any bits
-arcing_begins s n start {row} {slots} zeros all few = record {
-  arcs = [];
-  sized = ap length zeros ∙ length-replicate slots 0 ∙ all;
-  after = omega arith;
-  within = λ h. h;
-  reading = begins s (arc_part s n) [] start;
-  holds = λ k p hk hp. ap (λ l. get_or l (k * 32 + p) 0) zeros ∙ get_or-replicate slots (k * 32 + p) 0 0 (omega arith);
-  used = refl;
-}
+arcing_begins s n start zs {old} {row} {from} {slots} le zeros all few =
+    let long : length row ≡ 96 = ap length zeros ∙ length-replicate slots 0 ∙ all in
+    record {
+      arcs = [];
+      sized = rw (length-append (take from old) (row ++ zs), length-append row zs, length-take-le from old le) (omega arith);
+      kept = λ i lt. part_before old (row ++ zs) from i le lt;
+      after = omega arith;
+      within = λ h. h;
+      reading = begins s (arc_part s n) [] start;
+      holds = λ k p hk hp. part_in old row zs from (k * 32 + p) le (omega arith) ∙ ap (λ l. get_or l (k * 32 + p) 0) zeros ∙ get_or-replicate slots (k * 32 + p) 0 0 (omega arith);
+      used = refl;
+    }
 
-module _ {s : List ℕ} {n : Net} {start : ℕ} {row : List ℕ} {uses at : ℕ} (here : Arcing s n start row uses at) where
-  pub arcing_ends : ((arcs : List Arc) → RowHolds s n arcs (λ i. get_or row i 0) → arc_part s n arcs at ≡ none) → ArcsRead s n start row uses at
+module _ {s : List ℕ} {n : Net} {start : ℕ} {old table : List ℕ} {from uses at : ℕ} (here : Arcing s n start old table from uses at) where
+  pub arcing_ends : ((arcs : List Arc) → RowHolds s n arcs (λ i. get_or table (from + i) 0) → arc_part s n arcs at ≡ none) → ArcsRead s n start (λ i. get_or table (from + i) 0) uses at
   arcing_ends is = record {
     arcs = here.arcs;
     read = ends s (arc_part s n) here.reading (is here.arcs here.holds);
@@ -247,21 +253,22 @@ module _ {s : List ℕ} {n : Net} {start : ℕ} {row : List ℕ} {uses at : ℕ}
     used = here.used;
   }
 
-  pub arcing_stops : {r : Refusal} → ((arcs : List Arc) → RowHolds s n arcs (λ i. get_or row i 0) → Refuses (arc_part s n arcs at) r) → at < length s → Refuses (some (whole s (arc_part s n) [] start)) r
+  pub arcing_stops : {r : Refusal} → ((arcs : List Arc) → RowHolds s n arcs (λ i. get_or table (from + i) 0) → Refuses (arc_part s n arcs at) r) → at < length s → Refuses (some (whole s (arc_part s n) [] start)) r
   arcing_stops is inside = let h = is here.arcs here.holds in record { number = h.number; is = ap some (sym (stops s (arc_part s n) here.reading inside h.is)); reason = h.reason }
 
-  pub arcing_goes : length n.places ≤ 32 → {a : ArcStep} → ((arcs : List Arc) → RowHolds s n arcs (λ i. get_or row i 0) → ArcRead s n arcs at row a.slot a.uses a.next)
-      → (a.slot < 96) × (at + 2 < a.next) × (a.next ≤ length s) → Arcing s n start (set row a.slot (at + 2)) (bit_or uses a.uses) a.next
+  pub arcing_goes : length n.places ≤ 32 → {a : ArcStep} → ((arcs : List Arc) → RowHolds s n arcs (λ i. get_or table (from + i) 0) → ArcRead s n arcs at (λ i. get_or table (from + i) 0) a.slot a.uses a.next)
+      → (a.slot < 96) × (at + 2 < a.next) × (a.next ≤ length s) → Arcing s n start old (set table (from + a.slot) (at + 2)) from (bit_or uses a.uses) a.next
   arcing_goes few {a} is b =
       let h = is here.arcs here.holds in
       let x : Arc = record { kind = 0x16 + h.kind; place = h.place; expression = h.expression } in
       record {
         arcs = with here.arcs x;
-        sized = length-set row a.slot (at + 2) ∙ here.sized;
+        sized = rw (length-set table (from + a.slot) (at + 2)) here.sized;
+        kept = λ i lt. get_or-set_other table (from + a.slot) i (at + 2) 0 (λ same. omega arith) ∙ here.kept i lt;
         after = omega (arith, here.after, b.1);
         within = λ w. b.2;
         reading = goes_on s (arc_part s n) (with here.arcs x) a.next here.reading (omega (arith, b.1)) b.2 h.goes;
-        holds = rw h.is (row_more s n here.arcs row here.holds few here.sized h.kind h.place (at + 2) h.expression h.of_three h.known (omega arith)
+        holds = rw h.is (row_more s n here.arcs table from here.holds few here.sized h.kind h.place (at + 2) h.expression h.of_three h.known (omega arith)
             (record { next = a.next; reads = h.reads }) (rw h.is at h.free));
         used = joined x here.used h.used;
       }
@@ -284,7 +291,7 @@ module _ (s : List ℕ) (at : ℕ) (low : 0x16 ≤ byte_at s at) (high : byte_at
   after-arc {next} is-next =
       by_kind (λ k. byte_at s at ≡ 0x16 + k → next ≡ at + 2) (byte_at s at - 0x16) kind_is (λ e. is-next 1 (ap width_of e)) (λ e. is-next 1 (ap width_of e)) (λ e. is-next 1 (ap width_of e)) stands_there
 
-module _ (scope : Scope) (kinds : List PlaceSets) (row : List ℕ) (at : ℕ) (low : 0x16 ≤ byte_at scope.file.now at) (high : byte_at scope.file.now at ≤ 0x18) {next : ℕ}
+module _ (scope : Scope) (kinds : List PlaceSets) (slots : ℕ → ℕ) (at : ℕ) (low : 0x16 ≤ byte_at scope.file.now at) (high : byte_at scope.file.now at ≤ 0x18) {next : ℕ}
     (told : (w : ℕ) → width_of (byte_at scope.file.now at) ≡ some w → next ≡ at + (1 + w)) where
   abbrev s : List ℕ
   s = scope.file.now
@@ -315,22 +322,22 @@ module _ (scope : Scope) (kinds : List PlaceSets) (row : List ℕ) (at : ℕ) (l
       known_place : place < length (places_of kinds)
       known_place = rw (length_places kinds) lt
 
-      pub step_again : 0 < get_or row (kind * 32 + place) 0 → (arcs : List Arc) → RowHolds s n arcs (λ i. get_or row i 0) → arc_part s n arcs at ≡ some (fault 9 at)
-      step_again full arcs holds = arc_again s n arcs at row holds kind (kind_is s at low high) (stands_there s at low high) (rw is-next at whole-there) place refl known_place full
+      pub step_again : 0 < slots (kind * 32 + place) → (arcs : List Arc) → RowHolds s n arcs slots → arc_part s n arcs at ≡ some (fault 9 at)
+      step_again full arcs holds = arc_again s n arcs at slots holds kind (kind_is s at low high) (stands_there s at low high) (rw is-next at whole-there) place refl known_place full
 
-      module _ (empty : get_or row (kind * 32 + place) 0 ≤ 0) (instead : PlaceSets) {x : Result Read Refusal}
+      module _ (empty : slots (kind * 32 + place) ≤ 0) (instead : PlaceSets) {x : Result Read Refusal}
           (e : (places : List Place) → x ≡ expression_told (read_expression s (scope_of scope places) (place_in (get_or kinds place instead)) 16 next)) where
-        free : get_or row (kind * 32 + place) 0 ≡ 0
+        free : slots (kind * 32 + place) ≡ 0
         free = omega arith
 
         told_there : x ≡ expression_told (read_expression s n (place_at n place) 16 (at + 2))
         told_there = rw (place_at_lem kinds place instead lt) (rw is-next at (e (places_of kinds)))
 
-        pub step_fault : {r : Refusal} → x ≡ Err r → (arcs : List Arc) → RowHolds s n arcs (λ i. get_or row i 0) → Refuses (arc_part s n arcs at) r
-        step_fault q arcs holds = arc_fault s n arcs at row holds kind (kind_is s at low high) (stands_there s at low high) (rw is-next at whole-there) place refl known_place free (sym q ∙ told_there)
+        pub step_fault : {r : Refusal} → x ≡ Err r → (arcs : List Arc) → RowHolds s n arcs slots → Refuses (arc_part s n arcs at) r
+        step_fault q arcs holds = arc_fault s n arcs at slots holds kind (kind_is s at low high) (stands_there s at low high) (rw is-next at whole-there) place refl known_place free (sym q ∙ told_there)
 
-        pub step_read : {r : Read} → x ≡ Ok r → (arcs : List Arc) → RowHolds s n arcs (λ i. get_or row i 0) → ArcRead s n arcs at row (kind * 32 + place) r.uses r.next
-        step_read q arcs holds = arc_read s n arcs at row holds kind (kind_is s at low high) (stands_there s at low high) (rw is-next at whole-there) place refl known_place free (sym q ∙ told_there)
+        pub step_read : {r : Read} → x ≡ Ok r → (arcs : List Arc) → RowHolds s n arcs slots → ArcRead s n arcs at slots (kind * 32 + place) r.uses r.next
+        step_read q arcs holds = arc_read s n arcs at slots holds kind (kind_is s at low high) (stands_there s at low high) (rw is-next at whole-there) place refl known_place free (sym q ∙ told_there)
 
         pub step_within : {r : Read} → x ≡ Ok r → (at + 2 < r.next) × (r.next ≤ length s)
         step_within q = expression_within s n (place_at n place) 16 (at + 2) (sym q ∙ told_there)

@@ -1,4 +1,5 @@
 pub mod Spaces
+pub mod Lent
 pub mod Arcing
 pub mod Closing
 pub mod Transitioning

@@ -1,5 +1,5 @@
 -- How one transition is read. Assumes nothing.
-use Rattle.std.specs.Prelude.{◌+◌, ◌*◌, ◌∷◌, ◌++◌, if◌then◌else◌, Result, Ok, Err}
+use Rattle.std.specs.Prelude.{◌+◌, ◌*◌, ◌∷◌, if◌then◌else◌, Result, Ok, Err}
 use Rattle.std.specs.Prelude as std
 use mathlib.Core.Path.{◌≡◌, refl, sym, ap, ◌∙◌}
 use mathlib.Core.Bool.{Bool, true, false}
@@ -7,9 +7,7 @@ use Prim.Native.Nat.{◌≤◌, ◌<◌}
 use native.Mathlib.Omega.{arith}
 use borrow.Author.Tests.{lt-ltb, le-ltb, ne_eqb, eqb-true, eqb-false}
 use lib.Bits.{bit_or}
-use lib.ListN.{length-drop, get_or-append}
-use lib.Seq.{length-take-le, get_or-append-add}
-use Rattle.reading.specs.Basics.{ℕ, List, [], Option, some, none, option_map, given, length, get_or, take, drop, with, eqb, byte_at}
+use Rattle.reading.specs.Basics.{ℕ, List, [], Option, some, none, option_map, given, length, with, eqb, byte_at}
 use Rattle.reading.specs.Reading.{Answer, fine, fault, standing}
 use Rattle.reading.proofs.Commands.{end, other, passes, done, fails, standing_none, stands_fails, stands_goes}
 use Rattle.net.specs.Net.{Guard, always, Arc, Transition, Place, Net, place_at, arc_on, variables_of, binding_space, in_guard, in_transition}
@@ -19,7 +17,6 @@ use Rattle.net.specs.internal.ReaderEnums.{bits, guard_told, scope_of}
 use Rattle.net_parts.specs.internal.Tables.{places_of}
 use Rattle.net_transitions.specs.internal.TransitionTables.{Refuses, over, RowHolds, ArcsRead, guard_place, GuardHolds, ClosedTold, inside, TransitionRead}
 use Rattle.reading.specs.declared.refusal.Refusal.{Refusal}
-use Rattle.net_transitions.specs.declared.transition.TransitionStep.{TransitionStep}
 use Rattle.net.specs.declared.Read.{Read}
 use Rattle.net.specs.declared.PlaceSets.{PlaceSets}
 use Rattle.net.specs.declared.scope.Scope.{Scope}
@@ -61,7 +58,7 @@ module _ (s : List ℕ) (n : Net) (p : ℕ) where
 -- ---- the whole transition
 module _ (s : List ℕ) (n : Net) (transitions : List Transition) (at next : ℕ) where
   module _ {more used : ℕ} (g : Heard in_guard (read_guard_if s n next) more used) where
-    module _ {row : List ℕ} {uses last : ℕ} (a : ArcsRead s n more row uses last) where
+    module _ {slots : ℕ → ℕ} {uses last : ℕ} (a : ArcsRead s n more slots uses last) where
       variables_joined : bit_or used uses ≡ bits (λ v. in_transition v (record { guard = g.value; arcs = a.arcs })) 32
       variables_joined = rw (g.used, a.used, bits_or)
 
@@ -73,7 +70,7 @@ module _ (s : List ℕ) (n : Net) (transitions : List Transition) (at next : ℕ
 
       transition_read : {space : ℕ} → ended s n transitions at (record { guard = g.value; arcs = a.arcs }) last ≡ fine (with transitions (record { guard = g.value; arcs = a.arcs })) last
           → binding_space n (with transitions (record { guard = g.value; arcs = a.arcs })) ≡ space → length (variables_of n (record { guard = g.value; arcs = a.arcs })) ≤ 4
-          → TransitionRead s n transitions (some (inside s n transitions at next)) (λ i. get_or row i 0) (guard_place s next) (bit_or used uses) space last
+          → TransitionRead s n transitions (some (inside s n transitions at next)) slots (guard_place s next) (bit_or used uses) space last
       transition_read e f h = record {
         transition = record { guard = g.value; arcs = a.arcs };
         goes = ap some (ends_by ∙ e);
@@ -96,8 +93,8 @@ module _ (scope : Scope) (kinds : List PlaceSets) (next : ℕ) {guard : Result R
     pub guard_inside : next ≤ length s → (next ≤ g.next) × (g.next ≤ length s)
     guard_inside le = guard_within s n next heard_guard.value g.next heard_guard.is le
 
-    module _ (row : List ℕ) (at : ℕ) where
-      module _ {last uses : ℕ} (heard_arcs : ArcsRead s n g.next row uses last) (space : ℕ) (closed : Result ℕ Refusal)
+    module _ (slots : ℕ → ℕ) (at : ℕ) where
+      module _ {last uses : ℕ} (heard_arcs : ArcsRead s n g.next slots uses last) (space : ℕ) (closed : Result ℕ Refusal)
           (of_end : (places : List Place) (transitions : List Transition) (t : Transition) → bit_or g.uses uses ≡ bits (λ v. in_transition v t) 32
           → binding_space (scope_of scope places) transitions ≡ space → ClosedTold s (scope_of scope places) transitions at t last closed)
           (transitions : List Transition) (so_far : binding_space n transitions ≡ space) where
@@ -108,7 +105,7 @@ module _ (scope : Scope) (kinds : List PlaceSets) (next : ℕ) {guard : Result R
         stops_at_end q = end_faults s n transitions at next heard_guard heard_arcs (rw q at told_end)
 
         pub reads_whole : {total : ℕ} → closed ≡ Ok total
-            → TransitionRead s n transitions (some (inside s n transitions at next)) (λ i. get_or row i 0) (guard_place s next) (bit_or g.uses uses) total last
+            → TransitionRead s n transitions (some (inside s n transitions at next)) slots (guard_place s next) (bit_or g.uses uses) total last
         reads_whole q = let k = rw q at told_end in transition_read s n transitions at next heard_guard heard_arcs k.0 k.1 k.2
 
 -- ---- the command
@@ -136,26 +133,8 @@ module _ (s : List ℕ) (at : ℕ) {next : ℕ} (is-next : (w : ℕ) → width_o
   unfolding commands
   after_mark e = is-next 0 (ap width_of e)
 
--- ---- a row of the table of arcs
--- a part of a list that was put back: what stands in it
-pub part_in : (xs ys zs : List ℕ) (a i : ℕ) → a ≤ length xs → i < length ys → get_or (take a xs ++ (ys ++ zs)) (a + i) 0 ≡ get_or ys i 0
-part_in xs ys zs a i le lt =
-    ap (λ k. get_or (take a xs ++ (ys ++ zs)) (k + i) 0) (sym (length-take-le a xs le)) ∙ get_or-append-add (take a xs) (ys ++ zs) i 0 ∙ get_or-append ys zs 0 i lt
-
-pub part_sized : (xs : List ℕ) (a k : ℕ) → a + k ≤ length xs → length (take k (drop a xs)) ≡ k
-part_sized xs a k le = length-take-le k (drop a xs) (rw (length-drop a xs) (omega arith))
-
--- what is told of a row is told of any slots that hold the same
+-- ---- what is held of a row is held of any slots that hold the same
 module _ (s : List ℕ) (n : Net) (few : length n.places ≤ 32) (f g : ℕ → ℕ) (same : (i : ℕ) → i < 96 → f i ≡ g i) where
   pub row_same : (arcs : List Arc) → RowHolds s n arcs f → RowHolds s n arcs g
   row_same arcs holds k p of_three known =
       slot_is (read_expression s n (place_at n p) 16) {o = option_map (λ a. a.expression) (arc_on arcs (0x16 + k) p)} refl (sym (same (k * 32 + p) (omega arith))) (holds k p of_three known)
-
-  pub told_same : (transitions : List Transition) {x : Option (Answer (List Transition))} {t : TransitionStep} → TransitionRead s n transitions x f t.guard t.uses t.space t.next
-      → TransitionRead s n transitions x g t.guard t.uses t.space t.next
-  told_same transitions h = record {
-    transition = h.transition;
-    goes = h.goes;
-    holds = record { guarded = h.holds.guarded; arced = row_same h.transition.arcs h.holds.arced; used = h.holds.used; few = h.holds.few };
-    wide = h.wide;
-  }

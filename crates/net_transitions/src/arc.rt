@@ -1,5 +1,5 @@
-// The arcs of a transition: where each arc's expression stands goes into a row of 96 slots, 32 a kind.
-ghost use Rattle.std.specs.Prelude.{◌≡◌, List, ◌≤◌, length, get_or};
+// The arcs of a transition: where each arc's expression stands goes into a row of 96 slots of the table, 32 a kind.
+ghost use Rattle.std.specs.Prelude.{◌≡◌, List, ℕ, ◌≤◌, ◌<◌, ◌+◌, length, get_or};
 ghost use Rattle.net.specs.Net.{Arc};
 ghost use Rattle.net_transitions.specs.internal.TransitionTables.{over, RowHolds, ArcTold, ArcRoom, ArcsTold, ArcsRoom};
 
@@ -16,10 +16,16 @@ pub struct ArcStep {
     next: usize,
 }
 
-// The arc command at a place, over places by their sets; none where no such command stands.
-fn arc_at(ground: &Ground, row: &[u32; 96], at: usize) -> Result<Option<ArcStep>, Refusal>
-    ensures is { (arcs : List Arc) → RowHolds ground.now.scope.file.now (over ground.now.scope ground.now.kinds.now) arcs (λ i. get_or row.now i 0)
-        → ArcTold ground.now.scope.file.now (over ground.now.scope ground.now.kinds.now) arcs at row.now result }
+// The arc command at a place, over places by their sets, and the row of the table from a slot on; none where no such command stands.
+fn arc_at(
+    ground: &Ground,
+    arcs: &[u32; 3072],
+    from: usize,
+    at: usize,
+) -> Result<Option<ArcStep>, Refusal>
+    requires { from + 96 ≤ 3072 }
+    ensures is { (so_far : List Arc) → RowHolds ground.now.scope.file.now (over ground.now.scope ground.now.kinds.now) so_far (λ i. get_or arcs.now (from + i) 0)
+        → ArcTold ground.now.scope.file.now (over ground.now.scope ground.now.kinds.now) so_far at (λ i. get_or arcs.now (from + i) 0) result }
     ensures room { ArcRoom (length ground.now.scope.file.now) at result }
 {
     let file = ground.scope.file;
@@ -36,7 +42,8 @@ fn arc_at(ground: &Ground, row: &[u32; 96], at: usize) -> Result<Option<ArcStep>
         return refused(Reason::OutOfRange, at);
     }
     let slot = (b - 0x16) as usize * 32 + p;
-    if 0 < row[slot] {
+    // 0 says that no arc was read yet: no expression stands there, and the table is fixed memory of numbers.
+    if 0 < arcs[from + slot] {
         return refused(Reason::Doubled, at);
     }
     let e = read_expression(&ground.scope, ground.kinds[p], 16, next)?;
@@ -47,16 +54,24 @@ fn arc_at(ground: &Ground, row: &[u32; 96], at: usize) -> Result<Option<ArcStep>
     }))
 }
 
-// The arcs of one transition: the place after them and the variables in their expressions; or the first fault.
-pub fn read_arcs(ground: &Ground, row: &mut [u32; 96], start: usize) -> Result<Read, Refusal>
-    ensures is { ArcsTold ground.now.scope.file.now (over ground.now.scope ground.now.kinds.now) start row.new result }
+// The arcs of one transition, into the row from a slot on: the place after them and the variables in their expressions; or the first fault.
+pub fn read_arcs(
+    ground: &Ground,
+    arcs: &mut [u32; 3072],
+    from: usize,
+    start: usize,
+) -> Result<Read, Refusal>
+    requires { from + 96 ≤ 3072 }
+    ensures is { ArcsTold ground.now.scope.file.now (over ground.now.scope ground.now.kinds.now) start (λ i. get_or arcs.new (from + i) 0) result }
     ensures room { ArcsRoom (length ground.now.scope.file.now) start result }
+    ensures kept { (i : ℕ) → i < from → get_or arcs.new i 0 ≡ get_or arcs.old i 0 }
 {
-    row.fill(0);
+    arcs[from..from + 96].fill(0);
     let mut uses = 0;
     let mut at = start;
-    while let Some(arc) = arc_at(ground, row, at)? {
-        row[arc.slot] = (at + 2) as u32;
+    // A while: a step is done, more or a fault.
+    while let Some(arc) = arc_at(ground, arcs, from, at)? {
+        arcs[from + arc.slot] = (at + 2) as u32;
         uses |= arc.uses;
         at = arc.next;
     }

@@ -67,30 +67,32 @@ pub struct TransitionStep {
     pub next: usize,
 }
 
-// The transition whose command stands at a place and ends before next.
+// The transition whose command stands at a place and ends before next; its row is the next of the table.
 fn transition_in(
     ground: &Ground,
     before: Before,
-    row: &mut [u32; 96],
+    arcs: &mut [u32; 3072],
     at: usize,
     next: usize,
 ) -> Result<TransitionStep, Refusal>
+    requires few { before.count < 32 }
     requires at_lt_next { at < next }
     requires next_in_bounds { next ≤ length ground.now.scope.file.now }
     ensures is { (transitions : List Transition) → binding_space (over ground.now.scope ground.now.kinds.now) transitions ≡ before.space
         → TransitionTold ground.now.scope.file.now (over ground.now.scope ground.now.kinds.now) transitions
-        (some (inside ground.now.scope.file.now (over ground.now.scope ground.now.kinds.now) transitions at next)) (λ i. get_or row.new i 0) result }
+        (some (inside ground.now.scope.file.now (over ground.now.scope ground.now.kinds.now) transitions at next)) (λ i. get_or arcs.new (before.count * 96 + i) 0) result }
     ensures room { TransitionRoom (length ground.now.scope.file.now) at result }
+    ensures kept { (i : ℕ) → i < before.count * 96 → get_or arcs.new i 0 ≡ get_or arcs.old i 0 }
 {
     let guard = read_guard_if(&ground.scope, next)?;
-    let arcs = read_arcs(ground, row, guard.next)?;
-    let uses = guard.uses | arcs.uses;
-    let space = close_at(&ground.scope, uses, before, at, arcs.next)?;
+    let read = read_arcs(ground, arcs, before.count * 96, guard.next)?;
+    let uses = guard.uses | read.uses;
+    let space = close_at(&ground.scope, uses, before, at, read.next)?;
     Ok(TransitionStep {
         guard: guard_place(ground, next),
         uses,
         space,
-        next: arcs.next,
+        next: read.next,
     })
 }
 
@@ -117,10 +119,6 @@ pub fn transition_at(
         return refused(Reason::Overfull, at);
     }
     let next = after(ground.scope.file, at);
-    // The row is made apart and copied in: of a part of the table lent as an array it would not be known what it ends as.
-    let mut row = [0; 96];
-    let t = transition_in(ground, before, &mut row, at, next)?;
-    let from = before.count * 96;
-    arcs[from..from + 96].copy_from_slice(&row);
+    let t = transition_in(ground, before, arcs, at, next)?;
     Ok(Some(t))
 }

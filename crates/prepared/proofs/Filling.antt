@@ -11,7 +11,7 @@ use Rattle.reading.proofs.Lists.{length-below, get_d_below}
 use Rattle.net.specs.Net.{Net, in_transition, tokens_on, transition_at}
 use Rattle.net.specs.internal.ReaderEnums.{bits}
 use Rattle.net_file.specs.Limits.{Limits}
-use Rattle.net_transitions.proofs.Transitioning.{part_in}
+use Rattle.net_transitions.proofs.Lent.{part_in}
 use Rattle.plan.specs.internal.Layout.{up_to, low, arc_with, sets_in, variables_in, places_in, guards_in, own_in, packed_in, Placed}
 use Rattle.plan.proofs.Sections.{Placing, placing_goes, own_at, guard_at, arc_at_lem}
 use Rattle.net_parts.specs.internal.Tables.{count_of}

@@ -47,37 +47,37 @@ RowHolds s n arcs slot =
 abbrev pub over : Scope → List PlaceSets → Net
 over scope kinds = scope_of scope (places_of kinds)
 
--- an arc that was read: its slot, which was free, and the variables in its expression
-pub record ArcRead (s : List ℕ) (n : Net) (arcs : List Arc) (at : ℕ) (row : List ℕ) (slot uses next : ℕ) : Type 0 where
+-- an arc that was read over these slots: its slot, which was free, and the variables in its expression
+pub record ArcRead (s : List ℕ) (n : Net) (arcs : List Arc) (at : ℕ) (slots : ℕ → ℕ) (slot uses next : ℕ) : Type 0 where
   pub kind : ℕ
   pub place : ℕ
   pub expression : Expression
   pub of_three : kind < 3
   pub known : place < length n.places
   pub is : slot ≡ kind * 32 + place
-  pub free : get_or row slot 0 ≡ 0
+  pub free : slots slot ≡ 0
   pub reads : read_expression s n (place_at n place) 16 (at + 2) ≡ fine expression next
   pub used : uses ≡ bits (λ v. in_expression v expression) 32
   pub goes : arc_part s n arcs at ≡ some (fine (with arcs (record { kind = 0x16 + kind; place = place; expression = expression })) next)
 
-abbrev pub ArcTold : List ℕ → Net → List Arc → ℕ → List ℕ → Result (std.Option ArcStep) Refusal → Type 0
-ArcTold s n arcs at row (Ok std.None) = arc_part s n arcs at ≡ none
-ArcTold s n arcs at row (Ok (std.Some a)) = ArcRead s n arcs at row a.slot a.uses a.next
-ArcTold s n arcs at row (Err r) = Refuses (arc_part s n arcs at) r
+abbrev pub ArcTold : List ℕ → Net → List Arc → ℕ → (ℕ → ℕ) → Result (std.Option ArcStep) Refusal → Type 0
+ArcTold s n arcs at slots (Ok std.None) = arc_part s n arcs at ≡ none
+ArcTold s n arcs at slots (Ok (std.Some a)) = ArcRead s n arcs at slots a.slot a.uses a.next
+ArcTold s n arcs at slots (Err r) = Refuses (arc_part s n arcs at) r
 
 abbrev pub ArcRoom : ℕ → ℕ → Result (std.Option ArcStep) Refusal → Type 0
 ArcRoom len at r = Keeps (λ a. (a.slot < 96) × (at + 2 < a.next) × (a.next ≤ len)) len at r
 
 -- the arcs of a transition that were read: their slots, and the variables in their expressions
-pub record ArcsRead (s : List ℕ) (n : Net) (start : ℕ) (row : List ℕ) (uses next : ℕ) : Type 0 where
+pub record ArcsRead (s : List ℕ) (n : Net) (start : ℕ) (slots : ℕ → ℕ) (uses next : ℕ) : Type 0 where
   pub arcs : List Arc
   pub read : fine arcs next ≡ whole s (arc_part s n) [] start
-  pub holds : RowHolds s n arcs (λ i. get_or row i 0)
+  pub holds : RowHolds s n arcs slots
   pub used : uses ≡ bits (λ v. any (λ a. in_expression v a.expression) arcs) 32
 
-abbrev pub ArcsTold : List ℕ → Net → ℕ → List ℕ → Result Read Refusal → Type 0
-ArcsTold s n start row (Ok r) = ArcsRead s n start row r.uses r.next
-ArcsTold s n start row (Err r) = Refuses (some (whole s (arc_part s n) [] start)) r
+abbrev pub ArcsTold : List ℕ → Net → ℕ → (ℕ → ℕ) → Result Read Refusal → Type 0
+ArcsTold s n start slots (Ok r) = ArcsRead s n start slots r.uses r.next
+ArcsTold s n start slots (Err r) = Refuses (some (whole s (arc_part s n) [] start)) r
 
 abbrev pub ArcsRoom : ℕ → ℕ → Result Read Refusal → Type 0
 ArcsRoom len start (Ok r) = (start ≤ r.next) × (start ≤ len → r.next ≤ len)

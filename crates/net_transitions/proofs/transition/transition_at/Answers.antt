@@ -1,9 +1,8 @@
-use Rattle.std.proofs.Common.{◌≡◌, ◌<◌, ◌*◌, length, get_or, refl, ap, sym, ◌∙◌, arith}
+use Rattle.std.proofs.Common.{◌<◌, length, refl, sym, ◌∙◌, arith}
 use Rattle.std.proofs.lemmas.Result.{err_from_is_err_and}
 use Rattle.net_transitions.specs.internal.TransitionTables.{over}
 use Rattle.net_parts.proofs.Totals.{stands_in}
-use Rattle.net_parts.proofs.Placing.{length_places}
-use Rattle.net_transitions.proofs.Transitioning.{transitions_other, transitions_full, transitions_go, after_transition, part_in, told_same}
+use Rattle.net_transitions.proofs.Transitioning.{transitions_other, transitions_full, transitions_go, after_transition}
 use Rattle.net_transitions.proofs.transition.transition_at.Goals as goal
 
 pub returns-then-element-ne20-clause-is : goal.returns-then-element-ne20-clause-is
@@ -41,7 +40,4 @@ returns-clause-is c =
     let b = sym c.element.ensures ∙ c.if-element-ne20.false in
     let h = stands_in c.args.ground.now.scope.file.now c.args.at (omega (arith, b)) in
     let few : length ts < 32 = omega arith in
-    let sized : length c.copy_from_slice.new.self ≡ 96 = omega (arith, c.transition_in.array_long, ap length c.copy_from_slice.ensures.after) in
-    rw (transitions_go c.args.ground.now.scope.file.now (over c.args.ground.now.scope c.args.ground.now.kinds.now) ts c.args.at b (omega arith) (after_transition c.args.ground.now.scope.file.now c.args.at c.after-next.ensures b) few)
-    (told_same c.args.ground.now.scope.file.now (over c.args.ground.now.scope c.args.ground.now.kinds.now) (rw length_places c.args.ground.now.few_places) (λ i. get_or c.transition_in.new.row i 0) _
-    (λ i lt. ap (λ row. get_or row i 0) (sym c.copy_from_slice.ensures.after) ∙ sym (part_in c.args.arcs.now c.copy_from_slice.new.self _ (c.args.before.count * 96) i (omega arith) (omega arith))) ts (c.in_ok-t.ensures.is ts f))
+    rw (transitions_go c.args.ground.now.scope.file.now (over c.args.ground.now.scope c.args.ground.now.kinds.now) ts c.args.at b (omega arith) (after_transition c.args.ground.now.scope.file.now c.args.at c.after-next.ensures b) few) (c.in_ok-t.ensures.is ts f)

@@ -1,5 +1,5 @@
 use Rattle.std.proofs.Common.{drop, ◌∙◌, arith}
-use Rattle.net_transitions.proofs.Transitioning.{part_sized}
+use Rattle.net_transitions.proofs.Lent.{part_sized}
 use Rattle.prepared.proofs.Filling.{part_at, readied}
 use Rattle.prepared.proofs.fill.prepare.Goals as goal
 
