@@ -124,16 +124,16 @@ module _ {index : ℕ} (k : ℕ) (small : index < 256 ^ k) where
 pub fits-number : {index : ℕ} (k : ℕ) → index < 256 ^ k → k ≤ 4 → index < 4294967296
 fits-number k small few = let most : 256 ^ k ≤ 4294967296 = pow-le-pow_right {n = 256} (omega arith) few in omega arith
 
-module _ (n : Net) (t : ℕ) (orders : List ℕ) (at : ℕ) (whole : at + 4 ≤ length orders) (l : Limits n) (lt : t < length n.transitions) where
+module _ (n : Net) (t : ℕ) (order : List ℕ) (six : length order ≡ 6) (l : Limits n) (lt : t < length n.transitions) where
   abbrev named : List ℕ
-  named = take 4 (drop at orders)
+  named = drop 2 order
 
   four : length named ≡ 4
-  four = length-take-le 4 (drop at orders) (rw length-drop (omega arith))
+  four = omega (arith, length-drop 2 order)
 
-  module _ {env : List ℕ} {index k colour : ℕ} (inside : k < 4) (byte : colour ≡ get_or orders (at + k) 0) (here : Giving (theirs n t) (their_sizes n t) named env index k) where
+  module _ {env : List ℕ} {index k colour : ℕ} (inside : k < 4) (byte : colour ≡ get_or order (2 + k) 0) (here : Giving (theirs n t) (their_sizes n t) named env index k) where
     colour_is : colour ≡ get_or named k 0
-    colour_is = byte ∙ sym (get_or-take 4 (drop at orders) k 0 inside ∙ get_or-drop at orders k 0)
+    colour_is = byte ∙ sym (get_or-drop 2 order k 0)
 
     there_is : k < length named
     there_is = omega (arith, four)

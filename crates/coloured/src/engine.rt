@@ -1,5 +1,5 @@
 // Firing orders one after the other, on a net that has been read.
-ghost use Rattle.std.specs.Prelude.{◌≡◌, ◌+◌, ◌*◌, ◌/◌, ◌≤◌, length, take, drop};
+ghost use Rattle.std.specs.Prelude.{◌≡◌, ◌/◌, ◌≤◌, length};
 ghost use Rattle.reading.specs.Basics.{items};
 ghost use Rattle.firing.specs.Firing.{fired};
 ghost use Rattle.firing.specs.Replies.{answer_number};
@@ -26,13 +26,19 @@ struct Orders<'a, const ARCS: usize> {
 }
 
 impl<const ARCS: usize> Orders<'_, ARCS> {
-    // Fires the order number i; env is lent for the colours of its binding.
-    fn fire_nth(self, i: usize, m: &mut [u16], env: &mut [u8; 32], arcs: &mut [Arc; ARCS]) -> Answer
-        requires whole { i * 6 + 6 ≤ length self.list.now }
+    // Fires an order; env is lent for the colours of its binding.
+    fn fire_nth(
+        self,
+        order: &[u8],
+        m: &mut [u16],
+        env: &mut [u8; 32],
+        arcs: &mut [Arc; ARCS],
+    ) -> Answer
+        requires whole { length order.now ≡ 6 }
         requires sized { length m.old ≡ flat_place_count (net_of self.drawing.now) }
-        ensures { fired (answer_number result) m.new ≡ fire_order (net_of self.entry.drawing.now) (take 6 (drop (i * 6) self.entry.list.now)) m.old }
+        ensures { fired (answer_number result) m.new ≡ fire_order (net_of self.entry.drawing.now) order.now m.old }
     {
-        let Some(named) = name_order(self.drawing, self.list, i, env) else {
+        let Some(named) = name_order(self.drawing, order, env) else {
             return Answer::NoBinding;
         };
         match load_bound(&named.transition, env, m, arcs) {
@@ -49,7 +55,8 @@ impl<const ARCS: usize> Orders<'_, ARCS> {
     {
         let mut env = [0u8; 32];
         for i in 0..self.list.len() / 6 {
-            answers[i] = self.fire_nth(i, m, &mut env, arcs).number();
+            let order = &self.list[i * 6..i * 6 + 6];
+            answers[i] = self.fire_nth(order, m, &mut env, arcs).number();
         }
     }
 

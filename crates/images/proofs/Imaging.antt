@@ -4,8 +4,7 @@ use mathlib.Core.Path.{◌≡◌, refl, ap, ◌∙◌}
 use Prim.Native.Nat.{◌≤◌, ◌<◌}
 use native.Mathlib.Omega.{arith}
 use native.Mathlib.Numerals.{add-one}
-use lib.ListN.{length-drop}
-use lib.Seq.{drop-cons, length-take-le}
+use lib.Seq.{drop-cons}
 use Rattle.reading.specs.Basics.{ℕ, zero, suc, List, [], none, length, take, drop, items, over}
 use Rattle.reading.proofs.Lists.{get_d_at}
 use Rattle.firing.proofs.Running.{item_at, length-items}
@@ -21,19 +20,14 @@ use Rattle.row_numbers.proofs.Walking.{unnamed_number, named-number}
 use Rattle.flat_file.proofs.Appending.{Going, go_on, go_end, append_all}
 
 -- ---- one order
-module _ {n : Net} (limits : Limits n) (orders : List ℕ) (i : ℕ) where
-  abbrev order : List ℕ
-  order = take 6 (drop (i * 6) orders)
-
+module _ {n : Net} (limits : Limits n) (order : List ℕ) where
   -- it names no binding
   pub no_binding : named n order ≡ none → no_row ≡ row_number n order
   no_binding e = unnamed_number n limits order e
 
   -- the number of the binding that it names
-  pub the_number : {env : List ℕ} {t index x : ℕ} → i * 6 + 6 ≤ length orders → Names n order t index env → x ≡ row_number n (order_at n t index) → x ≡ row_number n order
-  the_number room it e =
-      let six : length order ≡ 6 = length-take-le 6 (drop (i * 6) orders) (omega (arith, length-drop (i * 6) orders)) in
-      e ∙ named-number n limits order six it.is
+  pub the_number : {env : List ℕ} {t index x : ℕ} → length order ≡ 6 → Names n order t index env → x ≡ row_number n (order_at n t index) → x ≡ row_number n order
+  the_number six it e = e ∙ named-number n limits order six it.is
 
 -- ---- order after order
 drop_past : {A : Type 0} (l : List A) (i : ℕ) → length l ≤ i → drop i l ≡ []

@@ -1,5 +1,5 @@
 // The images of a list of orders, by the table of row numbers.
-ghost use Rattle.std.specs.Prelude.{◌≡◌, ◌≤◌, ◌<◌, ◌+◌, ◌*◌, ◌/◌, length, take, drop};
+ghost use Rattle.std.specs.Prelude.{◌≡◌, ◌≤◌, ◌<◌, ◌+◌, ◌*◌, ◌/◌, length};
 ghost use Rattle.reading.specs.Basics.{over, product};
 ghost use Rattle.net_file.specs.Limits.{Limits};
 ghost use Rattle.prepared.specs.internal.Drawn.{net_of};
@@ -50,12 +50,12 @@ impl RowTable<'_> {
         }
     }
 
-    // The row number of order number i, 4,294,967,295 where it has no row, as the format has it; env is lent for the colours of its binding.
-    fn row_of(&self, orders: &[u8], i: usize, env: &mut [u8; 32]) -> u32
-        requires { i * 6 + 6 ≤ length orders.now }
-        ensures { result ≡ row_number (net_of self.now.drawing.now) (take 6 (drop (i * 6) orders.now)) }
+    // The row number of an order, 4,294,967,295 where it has no row, as the format has it; env is lent for the colours of its binding.
+    fn row_of(&self, order: &[u8], env: &mut [u8; 32]) -> u32
+        requires { length order.now ≡ 6 }
+        ensures { result ≡ row_number (net_of self.now.drawing.now) order.now }
     {
-        match name_order(self.drawing, orders, i, env) {
+        match name_order(self.drawing, order, env) {
             Some(binding) => self.row_at(&binding),
             None => u32::MAX,
         }
@@ -80,7 +80,8 @@ pub fn images_by<const N: usize>(drawing: &Drawing, orders: &[u8], out: &mut [u8
     let mut env = [0u8; 32];
     let mut next: usize = 0;
     for i in 0..orders.len() / 6 {
-        let row = table.row_of(orders, i, &mut env);
+        let order = &orders[i * 6..i * 6 + 6];
+        let row = table.row_of(order, &mut env);
         next = write_image(row, out, next);
     }
 }
