@@ -54,7 +54,8 @@ impl Arc {
     }
 }
 
-// Where a row's takes, puts and hinders end in a lent list; each kind starts where the one before it ends.
+// Where a row's takes, puts and hinders end in a lent list; each kind starts where the one before it ends. No slices: they would keep the list lent
+// while it is still filled, so what fills it says that the ends lie within it.
 #[derive(Clone, Copy, Debug, PartialEq, Eq)]
 pub struct Ends {
     pub takes: usize,

@@ -18,7 +18,7 @@ pub fn count_one(transition: &Transition, env: &[u8; 32]) -> usize
     usize::from(has_effect(transition, env))
 }
 
-// The number of a row that follows so many, or 4,294,967,295 where there is none.
+// The number of a row that follows so many, or 4,294,967,295 where there is none, as the format has it.
 fn number_of(count: usize, next: usize) -> u32
     requires { count < 65536 }
     ensures row { count < next → result ≡ count }
