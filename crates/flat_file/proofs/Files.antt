@@ -1,5 +1,5 @@
 -- The places and the rows of a file read so far, and the file's parts in turn. Assumes nothing.
-use Rattle.std.specs.Prelude.{◌+◌, ◌-◌, ◌*◌, ◌∷◌, if◌then◌else◌, Option, Some, None, Result, Ok, Err}
+use Rattle.std.specs.Prelude.{◌+◌, ◌-◌, ◌*◌, ◌∷◌, Option, Some, None, Result, Ok, Err}
 use mathlib.Core.Path.{◌≡◌, refl, sym, ap, ◌∙◌}
 use Prim.Native.Nat.{◌≤◌, ◌<◌}
 use native.Mathlib.Omega.{arith}
@@ -7,49 +7,28 @@ use native.Mathlib.Decide.{dec_lt}
 use borrow.Author.Tests.{eq-eqb, ne_eqb, ltb-true}
 use lib.ListN.{set, length-set, length-append, get_or-append}
 use lib.Seq.{get_or-set_same, get_or-set_other, get_or_at}
-use Rattle.reading.specs.Basics.{ℕ, Bool, true, false, List, [], option_map, none, some, given, length, get_or, ltb, eqb, find, with, byte_at, word_at}
-use Rattle.reading.specs.Reading.{Answer, fine, fault, under, ◌and_then◌, refused, outcome, Check, ◌unless◌, failing, Command, command, obey, standing, whole, file}
-use Rattle.reading.specs.Refusals.{number_of}
+use Rattle.reading.specs.Basics.{ℕ, Bool, true, false, List, [], option_map, none, some, length, get_or, ltb, find, with, byte_at, word_at}
+use Rattle.reading.specs.Reading.{Answer, fine, fault, under, ◌and_then◌, refused, outcome, ◌unless◌, Command, command, standing, whole, file}
+use Rattle.reading.specs.Refusals.{number_of, answered}
 use Rattle.reading.specs.declared.refusal.Refusal.{Refusal}
-use Rattle.reading.proofs.Commands.{known, passes, done, fails, passing, failed, other, end, standing_none, stands_cut, stands_fails, stands_goes, needed_past, needed_stray, needs_goes}
+use Rattle.reading.proofs.Commands.{known, passes, done, fails, other, end, standing_none, stands_cut, stands_fails, stands_goes}
+use Rattle.reading.specs.internal.Frame.{opened, closed, going}
+use Rattle.reading.proofs.Framed.{onto, standing_onto, goes_in, goes_out}
 use Rattle.reading.proofs.Parts.{Reading, begins, goes_on, ends, stops}
 use Rattle.firing.specs.Arcs.{Row, row}
 use Rattle.flat_file.specs.Flat.{Flat, place_part, row_part, read_flat}
-use Rattle.flat_file.specs.internal.ReaderEnums.{step_of, step_told, StepRoom, PlacesHeld, PlacesRead, ArcsPassed, arcs_at, RowsReadable, RowsHeld, RowsRead, opening, closing, going, Scanned}
+use Rattle.flat_file.specs.internal.ReaderEnums.{step_of, step_told, StepRoom, PlacesHeld, PlacesRead, ArcsPassed, arcs_at, RowsReadable, RowsHeld, RowsRead, Scanned}
 
 -- ---- a step at one command, whatever follows it
 module _ {A : Type 0} (go : ℕ → Answer A) where
-  abbrev onto : Answer ℕ → Answer A
-  onto answer = answer and_then λ _ next. go next
-
-  told_goes : (step : Result (Option ℕ) Refusal) → option_map onto (step_told (λ next. fine next next) step) ≡ step_told go step
+  told_goes : (step : Result (Option ℕ) Refusal) → option_map (onto go) (step_told (λ next. fine next next) step) ≡ step_told go step
   told_goes (Ok None) = refl
   told_goes (Ok (Some next)) = refl
   told_goes (Err e) = refl
 
-  obey_onto : (s : List ℕ) (byte width : ℕ) (checks : List Check) (at : ℕ)
-      → obey s at (command byte width checks go) ≡ onto (obey s at (command byte width checks (λ next. fine next next)))
-  unfolding obey
-  obey_onto s byte width checks at =
-      elim (ltb (length s) (at + (1 + width))) as (λ cut. (if cut then fault 2 (length s) else given (failing checks) (go (at + (1 + width))) λ number. fault number at)
-      ≡ onto (if cut then fault 2 (length s) else given (failing checks) (fine (at + (1 + width)) (at + (1 + width))) λ number. fault number at)) [
-        | true ↦ refl
-        | false ↦ elim (failing checks) as (λ k. given k (go (at + (1 + width))) (λ number. fault number at) ≡ onto (given k (fine (at + (1 + width)) (at + (1 + width))) λ number. fault number at)) [ none ↦ refl | some k ↦ refl ]
-      ]
-
-  standing_onto : (s : List ℕ) (byte width : ℕ) (checks : List Check) (at : ℕ)
-      → standing s (command byte width checks go ∷ []) at ≡ option_map onto (standing s (command byte width checks (λ next. fine next next) ∷ []) at)
-  unfolding standing find
-  standing_onto s byte width checks at =
-      elim (eqb (byte_at s at) byte) as (λ here. option_map (obey s at) (if here then some (command byte width checks go) else none)
-      ≡ option_map onto (option_map (obey s at) (if here then some (command byte width checks (λ next. fine next next)) else none))) [
-        | true ↦ ap some (obey_onto s byte width checks at)
-        | false ↦ refl
-      ]
-
   pub step_goes : (s : List ℕ) (byte width : ℕ) (room : Bool) (at : ℕ) (step : Result (Option ℕ) Refusal) → step_of s byte width room at ≡ step_told (λ next. fine next next) step
       → standing s (command byte (width - 1) ((4 unless room) ∷ []) go ∷ []) at ≡ step_told go step
-  step_goes s byte width room at step e = standing_onto s byte (width - 1) ((4 unless room) ∷ []) at ∙ ap (option_map onto) e ∙ told_goes step
+  step_goes s byte width room at step e = standing_onto go s byte (width - 1) ((4 unless room) ∷ []) at ∙ ap (option_map (onto go)) e ∙ told_goes step
 
 -- what stands at one command's place
 module _ (s : List ℕ) (byte width : ℕ) (room : Bool) (at : ℕ) where
@@ -222,25 +201,6 @@ module _ {s : List ℕ} {n start size : ℕ} {starts : List ℕ} {count at : ℕ
             stands = all_stand;
           }
 
--- ---- the end of the file: cut off, a stray byte, a tail, or nothing more
-module _ (s : List ℕ) (f : Flat) (at : ℕ) where
-  pub end_cut : length s ≤ at → closing s f at ≡ fault 2 (length s)
-  unfolding find
-  end_cut le = rw (needed_past s at (command 0x5F 0 [] (fine f) ∷ []) refl le)
-
-  pub end_stray : at < length s → (byte_at s at ≡ 0x5F → ⊥) → closing s f at ≡ fault 3 at
-  unfolding find
-  end_stray lt ne = rw (needed_stray s at (command 0x5F 0 [] (fine f) ∷ []) lt (other (ne_eqb (byte_at s at) 0x5F ne) end))
-
-  module _ (e : byte_at s at ≡ 0x5F) where
-    pub end_tail : at + 1 < length s → closing s f at ≡ fault 15 (at + 1)
-    unfolding find
-    end_tail lt = rw (needs_goes s at 0x5F (command 0x5F 0 [] (fine f) ∷ []) e refl (omega arith) done, failed (fails {k = 15} {checks = []} (ne_eqb (at + 1) (length s) (λ e. omega arith))))
-
-    pub end_fine : at + 1 ≡ length s → closing s f at ≡ fine f (at + 1)
-    unfolding find
-    end_fine last = rw (needs_goes s at 0x5F (command 0x5F 0 [] (fine f) ∷ []) e refl (omega arith) done, passing (passes {k = 15} (eq-eqb (at + 1) (length s) last) done))
-
 -- ---- the whole file, part after part
 abbrev content : List ℕ → ℕ → Answer Flat
 content s start =
@@ -248,15 +208,15 @@ content s start =
     whole s (row_part s (length initial)) [] at and_then λ rows end.
     fine (record { initial = initial; rows = rows }) end
 
-module _ (s : List ℕ) {first : Result ℕ Refusal} (is_opened : (content : ℕ → Answer Flat) → opening s content ≡ going content first) where
+module _ (s : List ℕ) {first : Result ℕ Refusal} (is_opened : opened s 0x02 (λ next. fine next next) ≡ going (λ next. fine next next) first) where
   pub not_opened : {x : Refusal} → first ≡ Err x → read_flat s ≡ refused (number_of x.reason) x.place
   unfolding read_flat file
-  not_opened e = rw (is_opened (content s), e)
+  not_opened e = rw (goes_in s 0x02 first is_opened (content s), e)
 
   module _ {start : ℕ} (e : first ≡ Ok start) where
-    read_on : read_flat s ≡ outcome (content s start and_then λ f at. closing s f at)
+    read_on : read_flat s ≡ outcome (content s start and_then closed s 0x5F)
     unfolding read_flat file
-    read_on = rw (is_opened (content s), e)
+    read_on = rw (goes_in s 0x02 first is_opened (content s), e)
 
     pub places_refused : (x : Refusal) → PlacesRead s start (Err x) → read_flat s ≡ refused (number_of x.reason) x.place
     places_refused x f = read_on ∙ rw (← f)
@@ -270,18 +230,22 @@ module _ (s : List ℕ) {first : Result ℕ Refusal} (is_opened : (content : ℕ
         abbrev found : Flat
         found = record { initial = places.initial; rows = held.rows }
 
-        pub not_closed : (x : Refusal) → closing s found end ≡ fault (number_of x.reason) x.place → read_flat s ≡ refused (number_of x.reason) x.place
-        not_closed x e = read_on ∙ rw (← places.is, places.sized, ← held.is, e)
+        left : read_flat s ≡ outcome (closed s 0x5F found end)
+        left = read_on ∙ rw (← places.is, places.sized, ← held.is)
 
-        pub all_read : closing s found end ≡ fine found (end + 1) → Scanned s starts (Ok (record { places = count; rows = rows }))
-        all_read e = (
-          found,
-          record {
-            is = read_on ∙ rw (← places.is, places.sized, ← held.is, e);
-            places_are = places.sized;
-            rows_are = held.sized;
-            few_places = places.few;
-            fits = held.fits;
-            stands = λ i lt room. held.stands i (omega (arith, held.sized)) room;
-          },
-        )
+        module _ {last : Result (Unit {0}) Refusal} (is_closed : closed s 0x5F (tt {0}) end ≡ answered (λ u. u) (λ u. end + 1) last) where
+          pub not_closed : {x : Refusal} → last ≡ Err x → read_flat s ≡ refused (number_of x.reason) x.place
+          not_closed e = left ∙ rw (goes_out s 0x5F found end last is_closed, e)
+
+          pub all_read : last ≡ Ok tt → Scanned s starts (Ok (record { places = count; rows = rows }))
+          all_read e = (
+            found,
+            record {
+              is = left ∙ rw (goes_out s 0x5F found end last is_closed, e);
+              places_are = places.sized;
+              rows_are = held.sized;
+              few_places = places.few;
+              fits = held.fits;
+              stands = λ i lt room. held.stands i (omega (arith, held.sized)) room;
+            },
+          )

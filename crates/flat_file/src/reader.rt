@@ -1,15 +1,14 @@
 // Reads flat files: the places, the rows, and a row's arcs.
 ghost use Rattle.std.specs.Prelude.{◌≡◌, List, [], ℕ, ◌<◌, ◌≤◌, ◌+◌, length};
 ghost use Rattle.reading.specs.Basics.{with, word_at, ltb};
-ghost use Rattle.reading.specs.Reading.{Answer, fine, under, whole};
-ghost use Rattle.reading.specs.Refusals.{answered};
+ghost use Rattle.reading.specs.Reading.{fine, under, whole};
 ghost use Rattle.firing.specs.Arcs.{Row, row, Proper};
 ghost use Rattle.firing.specs.internal.RowLists.{EndsWithin, row_in};
-ghost use Rattle.flat_file.specs.Flat.{Flat, place_part, arc_part, row_part};
-ghost use Rattle.flat_file.specs.internal.ReaderEnums.{most_arcs, ArcHere, arc_there, key, Least, arc_step, ArcRoom, later_ends, arcs_at, ArcsPassed, ArcsStand, step_of, step_told, StepRoom, PlacesRead, RowsRead, opening, closing, going, OpenRoom, Scanned};
+ghost use Rattle.flat_file.specs.Flat.{place_part, arc_part, row_part};
+ghost use Rattle.flat_file.specs.internal.ReaderEnums.{most_arcs, ArcHere, arc_there, key, Least, arc_step, ArcRoom, later_ends, arcs_at, ArcsPassed, ArcsStand, step_of, step_told, StepRoom, PlacesRead, RowsRead, Scanned};
 
 use firing::{Arc, Ends, Kind};
-use reading::{Reason, Refusal, element, refused, store};
+use reading::{Reason, Refusal, closes, element, opens, refused, store};
 
 // The u16 that stands whole at a place.
 fn word_in(file: &[u8], at: usize) -> u16
@@ -215,42 +214,6 @@ fn read_rows(file: &[u8], count: usize, start: usize, starts: &mut [u32]) -> Res
     })
 }
 
-// The place behind the opening: 0x02 and edition 1.
-fn opens(file: &[u8]) -> Result<usize, Refusal>
-    ensures is { (content : ℕ → Answer Flat) → opening file.now content ≡ going content result }
-    ensures room { OpenRoom (length file.now) result }
-{
-    if file.len() < 1 {
-        return refused(Reason::CutOff, file.len());
-    }
-    if file[0] != 2 {
-        return refused(Reason::StrayByte, 0);
-    }
-    if file.len() < 2 {
-        return refused(Reason::CutOff, file.len());
-    }
-    if file[1] != 1 {
-        return refused(Reason::OutOfRange, 0);
-    }
-    Ok(2)
-}
-
-// The file closes at a place with 0x5F, and nothing after it.
-fn closes(file: &[u8], at: usize) -> Result<(), Refusal>
-    ensures { (f : Flat) → closing file.now f at ≡ answered (λ u. f) (λ u. at + 1) result }
-{
-    if file.len() <= at {
-        return refused(Reason::CutOff, file.len());
-    }
-    if file[at] != 0x5F {
-        return refused(Reason::StrayByte, at);
-    }
-    if at + 1 < file.len() {
-        return refused(Reason::Tail, at + 1);
-    }
-    Ok(())
-}
-
 // How many flat places and rows a flat file has.
 #[derive(Clone, Copy)]
 pub struct FlatSizes {
@@ -262,10 +225,10 @@ pub struct FlatSizes {
 pub fn scan_file(file: &[u8], starts: &mut [u32]) -> Result<FlatSizes, Refusal>
     ensures { Scanned file.now starts.new result }
 {
-    let start = opens(file)?;
+    let start = opens(file, 0x02)?;
     let places = read_places(file, start)?;
     let rows = read_rows(file, places.count, places.next, starts)?;
-    closes(file, rows.next)?;
+    closes(file, rows.next, 0x5F)?;
     Ok(FlatSizes {
         places: places.count,
         rows: rows.count,

@@ -1,19 +1,18 @@
--- The whole file: part after part, and the first and the last command. Assumes nothing.
-use Rattle.std.specs.Prelude.{◌+◌, ◌∷◌, Result, Ok, Err}
+-- The whole file, part after part. Assumes nothing.
+use Rattle.std.specs.Prelude.{◌+◌, Result, Ok, Err}
 use mathlib.Core.Path.{◌≡◌, refl, sym, ap, ◌∙◌}
 use Prim.Native.Nat.{◌≤◌, ◌<◌}
 use native.Mathlib.Omega.{arith}
-use borrow.Author.Tests.{lt-ltb, le-ltb, eq-eqb, ne_eqb}
+use borrow.Author.Tests.{lt-ltb, le-ltb}
 use lib.Seq.{length-take-le, get_or-take}
 use Rattle.std.proofs.lemmas.List.{get_or-map}
-use Rattle.reading.specs.Basics.{ℕ, List, [], some, length, get_or, take, eqb, byte_at}
-use Rattle.reading.proofs.Commands.{end, other, passes, done, fails, needed_past, needed_stray, needs_cut, needs_fails, needs_goes}
-use Rattle.reading.proofs.Lists.{any_in, any_out, one_in, not_one}
-use Rattle.reading.specs.Reading.{Answer, fine, fault, ◌and_then◌, outcome, refused, ◌unless◌, checked, command, needed, whole, file}
-use Rattle.reading.specs.Refusals.{number_of}
+use Rattle.reading.specs.Basics.{ℕ, List, [], some, length, get_or, take}
+use Rattle.reading.specs.Reading.{Answer, fine, fault, ◌and_then◌, outcome, refused, whole, file}
+use Rattle.reading.specs.Refusals.{number_of, answered}
+use Rattle.reading.specs.internal.Frame.{opened, closed, going}
+use Rattle.reading.proofs.Framed.{goes_in, goes_out}
 use Rattle.reading.specs.declared.refusal.Refusal.{Refusal}
 use Rattle.net.specs.Net.{Place, single, Transition, Tokens, Net, net, variables_of, binding_space, scope}
-use Rattle.net.specs.Reader.{width_of}
 use Rattle.net_parts.specs.Parts.{set_part, variable_part, place_part, tokens_part}
 use Rattle.net_transitions.specs.Transitions.{transition_part}
 use Rattle.net_file.specs.NetFile.{content, read_net}
@@ -25,15 +24,13 @@ use Rattle.net_parts.specs.internal.Steps.{sets_read}
 use Rattle.net_parts.specs.declared.Part.{Part}
 use Rattle.net_transitions.specs.declared.transitions.Head.{Head}
 use Rattle.net_file.specs.declared.file.Tables.{Tables}
-use Rattle.net_file.specs.internal.NetTables.{opened, open_told, closed, close_told, NetHolds, NetHeld}
-use Rattle.net.proofs.Shut.{commands}
-use Rattle.net.proofs.Answers.{checked_goes, checked_stops}
+use Rattle.net_file.specs.internal.NetTables.{NetHolds, NetHeld}
 use Rattle.net_file.proofs.Refusals.{by_reason}
 
 -- ---- part after part
 -- what the reading of a file comes down to: what is left of its content, and the last command
 abbrev pub Left : List ℕ → Answer Net → Type 0
-Left s x = read_net s ≡ outcome (x and_then closed s)
+Left s x = read_net s ≡ outcome (x and_then closed s 0x1F)
 
 -- what follows each part
 abbrev pub after_transitions : List ℕ → List ℕ → List ℕ → List Place → List Transition → ℕ → Answer Net
@@ -93,58 +90,6 @@ module _ (s : List ℕ) (x : Tables) {sets variables places total : ℕ} (few_se
     counts = k.holds;
   }
 
--- ---- the first and the last command
-pub open_width : (s : List ℕ) → byte_at s 0 ≡ 0x01 → width_of (byte_at s 0) ≡ some 1
-unfolding commands
-open_width s e = ap width_of e
-
-pub close_width : (s : List ℕ) (at : ℕ) → byte_at s at ≡ 0x1F → width_of (byte_at s at) ≡ some 0
-unfolding commands
-close_width s at e = ap width_of e
-
-module _ (s : List ℕ) (read : ℕ → Answer Net) where
-  pub open_past : length s ≤ 0 → opened s read ≡ fault 2 (length s)
-  unfolding commands
-  open_past le = needed_past _ _ _ refl le
-
-  pub open_stray : 0 < length s → (byte_at s 0 ≡ 0x01 → ⊥) → opened s read ≡ fault 3 0
-  unfolding commands
-  open_stray lt ne = needed_stray _ _ _ lt (other (ne_eqb (byte_at s 0) 0x01 ne) end)
-
-  pub open_cut : byte_at s 0 ≡ 0x01 → length s < 2 → opened s read ≡ fault 2 (length s)
-  unfolding commands
-  open_cut e lt = needs_cut _ _ 0x01 _ e refl lt
-
-  pub open_edition : byte_at s 0 ≡ 0x01 → 2 ≤ length s → (byte_at s 1 ≡ 1 → ⊥) → opened s read ≡ fault 5 0
-  unfolding commands
-  open_edition e le ne = needs_fails _ _ 0x01 _ e refl le (fails (any_out (byte_at s 1) (1 ∷ []) (not_one ne)))
-
-  pub opens : byte_at s 0 ≡ 0x01 → 2 ≤ length s → byte_at s 1 ≡ 1 → opened s read ≡ read 2
-  unfolding commands
-  opens e le f = needs_goes _ _ 0x01 _ e refl le (passes (any_in (byte_at s 1) (1 ∷ []) (one_in f)) done)
-
-module _ (s : List ℕ) (n : Net) (at : ℕ) where
-  close_by : {x : Answer Net} → needed s (command 0x1F 0 [] (fine n) ∷ []) at ≡ x → closed s n at ≡ (x and_then λ a last. checked last ((15 unless eqb last (length s)) ∷ []) a last)
-  close_by e = rw e
-
-  pub close_past : length s ≤ at → closed s n at ≡ fault 2 (length s)
-  unfolding commands
-  close_past le = close_by (needed_past _ _ _ refl le)
-
-  pub close_stray : at < length s → (byte_at s at ≡ 0x1F → ⊥) → closed s n at ≡ fault 3 at
-  unfolding commands
-  close_stray lt ne = close_by (needed_stray _ _ _ lt (other (ne_eqb (byte_at s at) 0x1F ne) end))
-
-  there : byte_at s at ≡ 0x1F → at + 1 ≤ length s → needed s (command 0x1F 0 [] (fine n) ∷ []) at ≡ fine n (at + 1)
-  unfolding commands
-  there e le = needs_goes _ _ 0x1F _ e refl le done
-
-  pub close_more : byte_at s at ≡ 0x1F → at + 1 < length s → closed s n at ≡ fault 15 (at + 1)
-  close_more e lt = close_by (there e (omega arith)) ∙ checked_stops (at + 1) n (at + 1) (fails (ne_eqb (at + 1) (length s) (λ z. omega arith)))
-
-  pub closes : byte_at s at ≡ 0x1F → at + 1 ≡ length s → closed s n at ≡ fine n (length s)
-  closes e f = close_by (there e (omega arith)) ∙ checked_goes (at + 1) n (at + 1) (passes (eq-eqb (at + 1) (length s) f) done) ∙ ap (fine n) f
-
 -- ---- the file, part after part: each part's Result, and what it tells
 -- a fault of a part is the file's
 stops : {A : Type 0} (s : List ℕ) (f : A → ℕ → Answer Net) {x : Answer A} {k p : ℕ} → Left s (x and_then f) → fault k p ≡ x → read_net s ≡ refused k p
@@ -161,17 +106,17 @@ pub net-long : (s : List ℕ) → 16384 < length s → read_net s ≡ refused 1 
 unfolding read_net
 net-long s lt = rw (lt-ltb 16384 (length s) lt)
 
-net_by : (s : List ℕ) → length s ≤ 16384 → read_net s ≡ outcome (opened s (content s) and_then closed s)
+net_by : (s : List ℕ) → length s ≤ 16384 → read_net s ≡ outcome (opened s 0x01 (content s) and_then closed s 0x1F)
 unfolding read_net file
 net_by s fits = rw (le-ltb 16384 (length s) fits)
 
-module _ (s : List ℕ) (fits : length s ≤ 16384) (opening : Result ℕ Refusal) (told : (read : ℕ → Answer Net) → opened s read ≡ open_told read opening) where
+module _ (s : List ℕ) (fits : length s ≤ 16384) (opening : Result ℕ Refusal) (told : opened s 0x01 (λ next. fine next next) ≡ going (λ next. fine next next) opening) where
   pub opening_refused : {f : Refusal} → opening ≡ Err f → read_net s ≡ refused (number_of f.reason) f.place
-  opening_refused e = net_by s fits ∙ rw (told (content s), e)
+  opening_refused e = net_by s fits ∙ rw (goes_in s 0x01 opening told (content s), e)
 
   module _ (start : ℕ) (ok : opening ≡ Ok start) (sizes : List ℕ) (of_sets : Result Part Refusal) (sets_told : sets_read sizes of_sets ≡ whole s (set_part s) [] start) where
     left_sets : Left s (content s start)
-    left_sets = net_by s fits ∙ rw (told (content s), ok)
+    left_sets = net_by s fits ∙ rw (goes_in s 0x01 opening told (content s), ok)
 
     pub sets_refused : {f : Refusal} → of_sets ≡ Err f → read_net s ≡ refused (number_of f.reason) f.place
     sets_refused e = stops s (after_sets s) left_sets (rw e at sets_told)
@@ -227,7 +172,7 @@ module _ (s : List ℕ) (fits : length s ≤ 16384) (opening : Result ℕ Refusa
             tokens_refused e = stops s (λ tokens at. fine (net sets variables places transitions_are.transitions tokens) at) left_tokens
                 (rw e at tokens_told before_tokens (started_over held))
 
-            module _ (next : ℕ) (tokens_ok : of_tokens ≡ Ok next) (closing : Result (Unit {0}) Refusal) (closing_told : (n : Net) → closed s n next ≡ close_told s n closing) where
+            module _ (next : ℕ) (tokens_ok : of_tokens ≡ Ok next) (closing : Result (Unit {0}) Refusal) (closing_told : closed s 0x1F (tt {0}) next ≡ answered (λ u. u) (λ u. next + 1) closing) where
               tokens_are : TokensRead s before_tokens t.next starts initial next
               tokens_are = rw tokens_ok at tokens_told before_tokens (started_over held)
 
@@ -238,13 +183,13 @@ module _ (s : List ℕ) (fits : length s ≤ 16384) (opening : Result ℕ Refusa
               left_closing = goes s (λ tokens at. fine (net sets variables places transitions_are.transitions tokens) at) left_tokens tokens_are.read
 
               pub closing_refused : {f : Refusal} → closing ≡ Err f → read_net s ≡ refused (number_of f.reason) f.place
-              closing_refused e = left_closing ∙ ap outcome (closing_told the_net ∙ ap (close_told s the_net) e)
+              closing_refused e = left_closing ∙ ap outcome (goes_out s 0x1F the_net next closing closing_told ∙ ap (answered (λ u. the_net) (λ u. next + 1)) e)
 
               pub net_held : closing ≡ Ok tt → p.count ≤ 16 → q.count ≤ 32 → length kinds ≡ 32
                   → NetHeld s (record { sizes = sizes; vars = vars; kinds = kinds; starts = starts; heads = heads }) arcs initial
                   (record { sets = p.count; variables = q.count; places = r.count; total = r.total; transitions = t.count; space = t.total })
               net_held e few_sets few_variables sized = record {
                 value = the_net;
-                read = left_closing ∙ ap outcome (closing_told the_net ∙ ap (close_told s the_net) e);
+                read = left_closing ∙ ap outcome (goes_out s 0x1F the_net next closing closing_told ∙ ap (answered (λ u. the_net) (λ u. next + 1)) e);
                 holds = tables s (record { sizes = sizes; vars = vars; kinds = kinds; starts = starts; heads = heads }) few_sets few_variables sized held arcs initial transitions_are tokens_are;
               }

@@ -1,50 +1,11 @@
 // The whole net file, part after part, into lent tables.
-ghost use Rattle.std.specs.Prelude.{◌≡◌, ℕ};
-ghost use Rattle.reading.specs.Reading.{Answer};
-ghost use Rattle.net.specs.Net.{Net};
-ghost use Rattle.net_file.specs.internal.NetTables.{opened, open_told, closed, close_told, no_tables, NetTold};
+ghost use Rattle.std.specs.Prelude.{◌≡◌};
+ghost use Rattle.net_file.specs.internal.NetTables.{no_tables, NetTold};
 
-use net::{PlaceSets, Scope, after};
+use net::{PlaceSets, Scope};
 use net_parts::{Starts, read_places, read_sets, read_tokens, read_variables};
 use net_transitions::{Head, read_transitions};
-use reading::{Reason, Refusal, refused};
-
-// The first command: 0x01 and edition 1; the place after it.
-fn read_opening(file: &[u8]) -> Result<usize, Refusal>
-    ensures { (content : ℕ → Answer Net) → opened file.now content ≡ open_told content result }
-{
-    if file.len() < 1 {
-        return refused(Reason::CutOff, file.len());
-    }
-    if file[0] != 0x01 {
-        return refused(Reason::StrayByte, 0);
-    }
-    let next = after(file, 0);
-    if file.len() < next {
-        return refused(Reason::CutOff, file.len());
-    }
-    if file[1] != 1 {
-        return refused(Reason::OutOfRange, 0);
-    }
-    Ok(next)
-}
-
-// The last command: 0x1F, and nothing after it.
-fn read_closing(file: &[u8], at: usize) -> Result<(), Refusal>
-    ensures { (n : Net) → closed file.now n at ≡ close_told file.now n result }
-{
-    if file.len() <= at {
-        return refused(Reason::CutOff, file.len());
-    }
-    if file[at] != 0x1F {
-        return refused(Reason::StrayByte, at);
-    }
-    let next = after(file, at);
-    if next < file.len() {
-        return refused(Reason::Tail, next);
-    }
-    Ok(())
-}
+use reading::{Reason, Refusal, closes, opens, refused};
 
 // The tables of a net: each set's size, each variable's set, each place's sets and first flat place, and what each transition begins with.
 // Its arcs and its counts of tokens are lent apart: a caller has them where they stay.
@@ -98,7 +59,7 @@ pub fn read_net(
     if 16384 < file.len() {
         return refused(Reason::Overlong, 16384);
     }
-    let next = read_opening(file)?;
+    let next = opens(file, 0x01)?;
     let sets = read_sets(file, &mut tables.sizes, next)?;
     let variables = read_variables(
         file,
@@ -126,7 +87,7 @@ pub fn read_net(
         total: places.total,
     };
     let next = read_tokens(file, &starts, initial, transitions.next)?;
-    read_closing(file, next)?;
+    closes(file, next, 0x1F)?;
     Ok(Counts {
         sets: sets.count,
         variables: variables.count,

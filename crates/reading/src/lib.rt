@@ -2,11 +2,13 @@
 // Past the end a byte reads as 0, so none of these asks anything. Besides, what keeps a function apart from its caller.
 #![tactic(auto)]
 
+mod frame;
 mod refusal;
 
 ghost use Rattle.std.specs.Prelude.{◌≡◌, true, ◌<◌, ◌+◌, get_or, set};
 ghost use Rattle.reading.specs.Basics.{byte_at, word_at, long_at};
 
+pub use frame::{closes, opens};
 pub use refusal::{Reason, Refusal, refused};
 
 // An element of a list, or another value past its end.

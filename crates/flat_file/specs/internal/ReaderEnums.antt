@@ -2,7 +2,7 @@
 use Rattle.std.specs.Prelude.{◌≡◌, ◌⊎◌, ◌<◌, ◌≤◌, ◌/◌, min, ◌+◌, ◌-◌, ◌*◌, ◌&&◌, ◌∷◌, Option, Some, None, Result, Ok, Err}
 use Rattle.reading.specs.Basics.{ℕ, Bool, true, List, [], none, some, length, get_or, leb, eqb, with, any, byte_at, word_at}
 use Rattle.reading.specs.Basics as math
-use Rattle.reading.specs.Reading.{Answer, fine, fault, ◌and_then◌, accepted, refused, ◌unless◌, checked, command, standing, needed, whole}
+use Rattle.reading.specs.Reading.{Answer, fine, fault, accepted, refused, ◌unless◌, command, standing, whole}
 use Rattle.reading.specs.Refusals.{number_of}
 use Rattle.reading.specs.declared.refusal.Refusal.{Refusal}
 use Rattle.firing.specs.declared.Arc.{Arc}
@@ -150,23 +150,6 @@ RowsRead s n start starts (Ok p) = RowsHeld s n start starts p.count p.next
 RowsRead s n start starts (Err e) = fault (number_of e.reason) e.place ≡ whole s (row_part s n) [] start
 
 -- ---- the whole file
--- its opening command, and its end with nothing after it
-abbrev pub opening : List ℕ → (ℕ → Answer Flat) → Answer Flat
-opening s content = needed s (command 0x02 1 ((5 unless any (eqb (byte_at s 1)) (1 ∷ [])) ∷ []) content ∷ []) 0
-
-abbrev pub closing : List ℕ → Flat → ℕ → Answer Flat
-closing s f at = needed s (command 0x5F 0 [] (fine f) ∷ []) at and_then λ f end. checked end ((15 unless eqb end (length s)) ∷ []) f end
-
--- what follows at the place up to which a file was read
-abbrev pub going : {A : Type 0} → (ℕ → Answer A) → Result ℕ Refusal → Answer A
-going go (Ok next) = go next
-going go (Err e) = fault (number_of e.reason) e.place
-
--- the opening command takes two bytes
-abbrev pub OpenRoom : ℕ → Result ℕ Refusal → Type 0
-OpenRoom len (Ok next) = (next ≤ len) × (next ≤ 2)
-OpenRoom len (Err e) = Unit {0}
-
 -- a flat file's net of so many flat places and rows, with the start of each row's arcs as far as the list of starts reaches
 pub record FlatHeld (s starts : List ℕ) (places rows : ℕ) (f : Flat) : Type 0 where
   pub is : read_flat s ≡ accepted f

@@ -1,8 +1,8 @@
 -- What the reading of a whole net file tells, and what its tables hold.
-use Rattle.std.specs.Prelude.{◌≡◌, ◌≤◌, ◌<◌, ◌∷◌, Result, Ok, Err}
-use Rattle.reading.specs.Basics.{ℕ, List, [], length, get_or, take, replicate, eqb, any, byte_at}
-use Rattle.reading.specs.Reading.{Answer, fine, fault, ◌and_then◌, accepted, refused, ◌unless◌, checked, command, needed}
-use Rattle.reading.specs.Refusals.{number_of, answered}
+use Rattle.std.specs.Prelude.{◌≡◌, ◌≤◌, ◌<◌, Result, Ok, Err}
+use Rattle.reading.specs.Basics.{ℕ, List, length, get_or, take, replicate}
+use Rattle.reading.specs.Reading.{accepted, refused}
+use Rattle.reading.specs.Refusals.{number_of}
 use Rattle.reading.specs.declared.refusal.Refusal.{Refusal}
 use Rattle.net.specs.Net.{Net, place_at, binding_space, scope}
 use Rattle.net_file.specs.NetFile.{read_net}
@@ -13,22 +13,6 @@ use Rattle.net_parts.specs.internal.Tables.{places_of, Started, Holds, count_of}
 use Rattle.net_transitions.specs.internal.TransitionTables.{no_head, TransitionsHold}
 use Rattle.net_file.specs.declared.file.Tables.{Tables}
 use Rattle.net_file.specs.declared.file.Counts.{Counts}
-
--- ---- the first and the last command
-abbrev pub opened : List ℕ → (ℕ → Answer Net) → Answer Net
-opened s content = needed s (command 0x01 1 ((5 unless any (eqb (byte_at s 1)) (1 ∷ [])) ∷ []) content ∷ []) 0
-
-abbrev pub open_told : (ℕ → Answer Net) → Result ℕ Refusal → Answer Net
-open_told content (Ok next) = content next
-open_told content (Err r) = fault (number_of r.reason) r.place
-
-abbrev pub closed : List ℕ → Net → ℕ → Answer Net
-closed s n at =
-    needed s (command 0x1F 0 [] (fine n) ∷ []) at and_then λ a end.
-    checked end ((15 unless eqb end (length s)) ∷ []) a end
-
-abbrev pub close_told : List ℕ → Net → Result (Unit {0}) Refusal → Answer Net
-close_told s n r = answered (λ u. n) (λ u. length s) r
 
 -- ---- the whole net
 -- the net that guards and arcs are read over: its sets, its variables and its places

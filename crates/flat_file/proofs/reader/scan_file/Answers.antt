@@ -20,7 +20,7 @@ returns-in_err-rows c =
 pub returns-in_err-closes : goal.returns-in_err-closes
 returns-in_err-closes c =
     let p = err_from_is_err_and c.from_residual-in_err-closes.result c.from_residual-in_err-closes.ensures.1 in
-    rw (p.1, p.2) (not_closed _ c.opens.ensures.is c.in_ok-start.was c.in_ok-places.ensures c.in_ok-rows.ensures _ (c.in_err-closes.ensures _))
+    rw (p.1, p.2) (not_closed _ c.opens.ensures.is c.in_ok-start.was c.in_ok-places.ensures c.in_ok-rows.ensures c.closes.ensures c.in_err-closes.was)
 
 pub returns : goal.returns
-returns c = all_read _ c.opens.ensures.is c.in_ok-start.was c.in_ok-places.ensures c.in_ok-rows.ensures (c.in_ok-closes.ensures _)
+returns c = all_read _ c.opens.ensures.is c.in_ok-start.was c.in_ok-places.ensures c.in_ok-rows.ensures c.closes.ensures c.in_ok-closes.was
