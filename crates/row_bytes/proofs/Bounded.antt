@@ -14,8 +14,9 @@ use Rattle.prepared.specs.internal.Drawn.{Drawn, net_of, IsDrawn}
 use Rattle.bindings.specs.Effect.{effect, flat_row}
 use Rattle.bindings.specs.internal.Bindings.{numbered}
 use Rattle.row_lengths.specs.internal.MostRows.{MostRow}
-use Rattle.row_bytes.specs.internal.RowBytes.{binding_bytes, transition_bytes, Ruled}
+use Rattle.row_bytes.specs.internal.RowBytes.{binding_bytes, transition_bytes}
 use Rattle.row_numbers.specs.internal.Walked.{takes_effect, entries}
+use Rattle.row_numbers.specs.internal.Marks.{RowsCounted}
 use Rattle.row_numbers.proofs.Effects.{effects-most}
 use Rattle.row_numbers.proofs.Marking.{marks_few}
 use Rattle.row_bytes.proofs.RowBytes.{Measuring, measure_goes, measure_ends}
@@ -53,19 +54,19 @@ pub product-most : (rows row : ℕ) → rows ≤ 65536 → row ≤ 31456801 → 
 product-most rows row h k = omega (arith, mul-le-mul h k)
 
 -- ---- what is known of the net
-module _ {drawing : Drawn} {marks counts : List ℕ} (ready : IsDrawn drawing.file drawing.plan) (ruled : Ruled drawing marks counts) {t : ℕ} (lt : t < length (net_of drawing).transitions) where
+module _ {drawing : Drawn} {counts : List ℕ} (ready : IsDrawn drawing.file drawing.plan) (counted : RowsCounted (net_of drawing) counts (length (net_of drawing).transitions)) {t : ℕ} (lt : t < length (net_of drawing).transitions) where
   abbrev many : ℕ
   many = product (sizes_of (net_of drawing) (transition_at (net_of drawing) t))
 
   -- a transition has few rows
   pub rows_few : get_or counts t 0 ≤ 65536
-  rows_few = omega (arith, ruled.counted.row t lt, effects-most (net_of drawing) t many, marks_few ready {many = many} {base = entries (net_of drawing) drawing.plan t} lt refl refl)
+  rows_few = omega (arith, counted.row t lt, effects-most (net_of drawing) t many, marks_few ready {many = many} {base = entries (net_of drawing) drawing.plan t} lt refl refl)
 
   -- and they take no more bytes than so many of the longest
   pub transition_most : {most : ℕ} → MostRow (net_of drawing) t most → length (transition_bytes (net_of drawing) t) ≤ get_or counts t 0 * (1 + 5 * most)
   unfolding transition_bytes
   transition_most told =
-      rw (ruled.counted.row t lt) (pieces_most (binding_bytes (net_of drawing) t) (takes_effect (net_of drawing) t) _ 0 many (λ i a b. bytes_if (net_of drawing) t i _ (λ w e. omega (
+      rw (counted.row t lt) (pieces_most (binding_bytes (net_of drawing) t) (takes_effect (net_of drawing) t) _ 0 many (λ i a b. bytes_if (net_of drawing) t i _ (λ w e. omega (
         arith,
         length-row (flat_row (net_of drawing) w),
         told i w (omega arith) e,

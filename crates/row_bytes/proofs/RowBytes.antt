@@ -213,13 +213,13 @@ module _ {transition : DrawnTransition} {marks : List ℕ} {many base : ℕ} (kn
   all_given = ap (λ k. flat_map (bytes_at transition) (below k)) known.size
 
 -- ---- from one transition to the next
-module _ {drawing : Drawn} {marks counts : List ℕ} (ready : IsDrawn drawing.file drawing.plan) (ruled : Ruled drawing marks counts) {t base : ℕ} (lt : t < length (net_of drawing).transitions)
+module _ {drawing : Drawn} {marks : List ℕ} (ready : IsDrawn drawing.file drawing.plan) (ruled : Ruled drawing marks) {t base : ℕ} (lt : t < length (net_of drawing).transitions)
     (from : base ≡ entries (net_of drawing) drawing.plan t) {transition : DrawnTransition} (is : transition ≡ drawn_transition drawing t) {many : ℕ} (size : many ≡ product (its_sizes transition)) where
   -- what is known of it
   pub known_of : Known transition marks many base
   known_of =
       let e : many ≡ product (sizes_of (net_of drawing) (transition_at (net_of drawing) t)) = rw is at size in
-      rw is (record { limits = its_limits ready; size = e; few = marks_few ready lt e from; told = marks_told ready lt e from ruled.marked })
+      rw is (record { limits = its_limits ready; size = e; few = marks_few ready lt e from; told = marks_told ready lt e from ruled })
 
   -- where the next one's marks stand
   pub entries_then : {more : ℕ} → more ≡ entries_at (its_every_row transition) (product (its_sizes transition)) → base + more ≡ entries (net_of drawing) drawing.plan (t + 1)

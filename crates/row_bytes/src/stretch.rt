@@ -41,7 +41,7 @@ impl<'a, const ARCS: usize> Iterator for Stretches<'a, ARCS> {
     ghost remaining = { λ s. at_most (32 - s.t) };
 
     fn next(&mut self) -> Option<Stretch<'a, ARCS>> {
-        let Marked { drawing, marks, .. } = self.net;
+        let Marked { drawing, marks } = self.net;
         let t = self.t;
         if drawing.transitions() <= t {
             return None;

@@ -5,22 +5,19 @@ use Prim.Native.Nat.{◌≤◌, ◌<◌}
 use native.Mathlib.Omega.{arith}
 use borrow.Author.Tests.{le-leb, lt-leb, leb-true, leb-false}
 use lib.ListN.{length-append, length-map}
-use Rattle.reading.specs.Basics.{ℕ, Bool, true, false, List, [], flat_map, length, take, replicate, leb, over}
+use Rattle.reading.specs.Basics.{ℕ, Bool, true, false, List, [], flat_map, length, take, leb, over}
 use Rattle.reading.specs.Reading.{Outcome, accepted, refused, refusing}
 use Rattle.flat_file.specs.Flat.{write_flat}
 use Rattle.flat_file.proofs.Written.{place_bytes, length_places}
 use Rattle.net.specs.Net.{Net, flat_place_count}
 use Rattle.net_file.specs.NetFile.{read_net}
 use Rattle.prepared.specs.internal.Prepared.{Prepared, InitialCounts}
-use Rattle.prepared.specs.internal.Drawn.{Drawn, net_of}
 use Rattle.rows.proofs.FlatPlaces.{flat_places_lem}
 use Rattle.bindings.specs.Effect.{flat_places}
 use Rattle.row_numbers.specs.Unfolding.{initial_at, unfolded, flat_file, WriteCall, unfold_call, line, program}
-use Rattle.row_bytes.specs.internal.RowBytes.{all_bytes, Ruled}
-use Rattle.row_numbers.specs.internal.Marks.{Blank, Marked, RowsCounted}
+use Rattle.row_bytes.specs.internal.RowBytes.{all_bytes}
 use Rattle.flat_file.specs.internal.Output.{Appended}
 use Rattle.flat_file.proofs.Appending.{append_then, append_all, append_count}
-use Rattle.row_numbers.proofs.Marking.{blank_words}
 use Rattle.row_bytes.proofs.RowBytes.{rows_bytes}
 use Rattle.unfolding.proofs.Initial.{initial_counted}
 
@@ -70,11 +67,7 @@ module _ {s plan : List ℕ} {n : Net} (ready : Prepared s n plan) where
         → Appended o2 o3 n2 n3 (all_bytes n) → Appended o3 o4 n3 n4 (0x5F ∷ []) → Appended o o4 0 n4 (flat_file n)
     file_written {o} {o4 = o4} {n4 = n4} head places rows end = subst (Appended o o4 0 n4) file_is (append_then (append_then (append_then head places) rows) end)
 
--- ---- what the code tells: the marks, and whether there is space
-pub ruled : {d : Drawn} {marks counts : List ℕ} → (Blank (replicate 2048 0) 0 → Marked (net_of d) d.plan marks (length (net_of d).transitions) × RowsCounted (net_of d) counts (length (net_of d).transitions))
-    → Ruled d marks counts
-ruled told = let (marked, counted) = told (blank_words 2048) in record { marked = marked; counted = counted }
-
+-- ---- what the code tells: whether there is space
 module _ {s plan : List ℕ} {n : Net} (ready : Prepared s n plan) {initial : List ℕ} (counts : initial ≡ (unfolded n).initial) (out : List ℕ) {fits : Bool}
     (told : fits ≡ leb (3 + 3 * flat_place_count n + length (all_bytes n)) (length out)) where
   pub has_space : fits ≡ true → 3 + 3 * length initial + length (all_bytes n) ≤ length out

@@ -46,10 +46,9 @@ impl<'a, const ARCS: usize> Counted<'a, ARCS> {
         let net = Marked::<ARCS> {
             drawing,
             marks: &marks,
-            counts: &counts,
         };
         let mut arcs = [Arc::default(); ARCS];
-        if !net.fits(&mut arcs, out.len()) {
+        if !net.fits(&counts, &mut arcs, out.len()) {
             return refused(Reason::NoSpace, 0);
         }
         let mut next = write_head(out, 0);

@@ -32,6 +32,7 @@ fn put_decimal(digits: usize, n: usize, out: &mut [u8], at: usize) -> usize
 }
 
 // The line of a refusal; it gives the line's length.
+// Not by `Display` of the refusal: the line's contract is its bytes, and no contract tells what `Display` writes.
 pub(crate) fn write_line(refusal: Refusal, out: &mut [u8]) -> usize
     requires { 23 ≤ length out.old }
     ensures { let text = line (number_of refusal.reason) refusal.place in (result ≡ length text) × (out.new ≡ over text out.old) }

@@ -9,7 +9,7 @@ use Rattle.rows.specs.internal.Effects.{room}
 use Rattle.bindings.specs.internal.Bindings.{numbered, its_sizes, BindsIts}
 use Rattle.prepared.specs.internal.Drawn.{Drawn, net_of, DrawnTransition, its_net}
 use Rattle.row_numbers.specs.internal.Walked.{its_every_row, it_takes}
-use Rattle.row_numbers.specs.internal.Marks.{has_row, Marked, RowsCounted}
+use Rattle.row_numbers.specs.internal.Marks.{has_row, Marked}
 
 -- what binding number i of a transition gives the flat file: its row's bytes, none where it has no effect
 unfoldable pub binding_bytes : Net → ℕ → ℕ → List ℕ
@@ -23,10 +23,9 @@ transition_bytes n t = flat_map (binding_bytes n t) (below (product (sizes_of n 
 abbrev pub all_bytes : Net → List ℕ
 all_bytes n = flat_map (transition_bytes n) (below (length n.transitions))
 
--- of each transition's bindings the marks tell which have an effect, and another table tells how many
-pub record Ruled (drawing : Drawn) (marks counts : List ℕ) : Type 0 where
-  pub marked : Marked (net_of drawing) drawing.plan marks (length (net_of drawing).transitions)
-  pub counted : RowsCounted (net_of drawing) counts (length (net_of drawing).transitions)
+-- of each transition's bindings the marks tell which have an effect
+abbrev pub Ruled : Drawn → List ℕ → Type 0
+Ruled d marks = Marked (net_of d) d.plan marks (length (net_of d).transitions)
 
 -- a transition has so many bindings, and their marks, if it has some, stand from base on
 pub record Known (transition : DrawnTransition) (marks : List ℕ) (many base : ℕ) : Type 0 where

@@ -1,10 +1,14 @@
 use native.Mathlib.Omega.{arith}
 use Rattle.flat_file.proofs.Appending.{next_places}
-use Rattle.unfolding.proofs.Unfolds.{ruled, file_written, has_space, call_short, call_whole}
+use Rattle.row_numbers.proofs.Marking.{blank_words}
+use Rattle.unfolding.proofs.Unfolds.{file_written, has_space, call_short, call_whole}
 use Rattle.unfolding.proofs.call.Counted.write_file.Goals as goal
 
 pub invariant_of-net-clause-ruled : goal.invariant_of-net-clause-ruled
-invariant_of-net-clause-ruled g c = ruled c.mark_all.ensures
+invariant_of-net-clause-ruled g c = (c.mark_all.ensures (blank_words 2048)).0
+
+pub fits-requires : goal.fits-requires
+fits-requires g c = (omega arith, (omega arith, (c.mark_all.ensures (blank_words 2048)).1))
 
 pub returns-then-not-fits : goal.returns-then-not-fits
 returns-then-not-fits g c = rw c.refused.ensures (call_short c.initial_counts-initial.ensures.known c.initial_counts-initial.ensures.is c.args.out.now c.fits.ensures c.if-not-fits.true)
