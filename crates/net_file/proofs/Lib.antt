@@ -4,3 +4,4 @@ pub mod Formed
 pub mod Refusals
 pub mod Whole
 pub mod Examples
+pub mod Widths

@@ -37,6 +37,7 @@ impl Tables {
 }
 
 // How much a net that was read has of everything: its flat places as the total, and its binding space.
+// It stands beside the tables, which are fixed memory: no heap, so no list of a table's own length.
 #[derive(Clone, Copy, Debug, PartialEq, Eq)]
 pub struct Counts {
     pub sets: usize,

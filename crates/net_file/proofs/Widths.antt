@@ -1,0 +1,10 @@
+-- The first and the last command have in the list of commands the widths by which a file is opened and closed. Assumes nothing.
+use mathlib.Core.Path.{◌≡◌, refl}
+use Rattle.reading.specs.Basics.{some}
+use Rattle.net.specs.Reader.{width_of}
+
+pub opening_width : width_of 0x01 ≡ some 1
+opening_width = refl
+
+pub closing_width : width_of 0x1F ≡ some 0
+closing_width = refl
