@@ -4,7 +4,9 @@ use Rattle.reading.specs.Basics.{some}
 use Rattle.net.specs.Reader.{width_of}
 
 pub opening_width : width_of 0x01 ≡ some 1
+unfolding width_of
 opening_width = refl
 
 pub closing_width : width_of 0x1F ≡ some 0
+unfolding width_of
 closing_width = refl
