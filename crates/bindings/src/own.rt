@@ -44,7 +44,8 @@ fn turn(own: Option<Own>, env: &mut [u8; 32]) -> bool
 }
 
 // Goes from a transition's binding to the next; the last variable changes fastest.
-// It stays beside skip_bindings, since it has no division and is done at every binding.
+// It stays beside skip_bindings, since it has no division and is done at every binding. The colours are lent apart from their transition: each step changes
+// them alone.
 // Built into its callers: the search and the walks go through it at every binding.
 #[inline]
 pub fn next_binding(transition: &Transition, env: &mut [u8; 32])

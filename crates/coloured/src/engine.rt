@@ -104,6 +104,7 @@ pub fn fire_on<'a>(
 ) -> Result<usize, Refusal>
     ensures { fire_called result marking.new answers.new ≡ fire_orders drawing.now.file marking.old list.now answers.old }
 {
+    // Two types, so the choice stands where they are made.
     if is_small(most_slots(drawing), drawing.file().len()) {
         return Orders::<1024> { drawing, list }.fire_in(marking, answers, true);
     }

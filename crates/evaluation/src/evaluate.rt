@@ -10,7 +10,8 @@ use crate::step::{Comparison, after_in, before_in};
 use plan::{set_in, size_in};
 use reading::element;
 
-// The colour that an expression means, its set, and the place after it.
+// The colour that an expression means, its set, and the place after it. This and the next two are structs of their own: one for any value would have no
+// name for what is told.
 #[derive(Clone, Copy, Debug, PartialEq, Eq)]
 pub struct Value {
     pub colour: u16,

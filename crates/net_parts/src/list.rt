@@ -59,6 +59,7 @@ fn read_list(
         count += 1;
         at += 2;
     }
+    // A list comes to no total; that of places does.
     Ok(Part {
         count,
         total: 0,

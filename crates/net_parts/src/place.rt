@@ -88,7 +88,7 @@ fn place_at(
     }))
 }
 
-// The place part, over so many sets; its total is the colours of all places together.
+// The place part, over so many sets; its total is the colours of all places together. Two tables: of starts there is one more, and tokens are read by them alone.
 pub fn read_places(
     file: &[u8],
     sets: &[u8],

@@ -43,7 +43,8 @@ pub struct TokenRead {
     next: usize,
 }
 
-// The tokens command at a place; a flat place that has had its command is marked by 1.
+// The tokens command at a place; a flat place that has had its command is marked by 1. A mark is a number as a count is: what is said of one list is
+// said of the other.
 fn token_at(
     file: &[u8],
     starts: &Starts,

@@ -23,4 +23,3 @@ module _ {s plan : List ℕ} {n : Net} (p : Prepared s n plan) where
 module _ (s plan initial : List ℕ) {r : Result (Unit {0}) Refusal} where
   pub the_net : {done : Unit {0}} → r ≡ Ok done → PreparedTold s plan initial r → Readied s plan initial
   the_net e h = subst (PreparedTold s plan initial) e h
-

@@ -1,4 +1,4 @@
-// Packs the table of arcs in place: of each row of 32 slots, one a place, only those that hold an arc, by rising place.
+// Packs the table of arcs, fixed memory of numbers where 0 is no arc, in place: of each row of 32 slots, one a place, only those that hold an arc, by rising place.
 ghost use Rattle.std.specs.Prelude.{◌≡◌, ℕ, ◌≤◌, ◌<◌, ◌+◌, length, get_or, take, if◌then◌else◌};
 ghost use Rattle.evaluation.specs.internal.Evaluated.{is_pair};
 ghost use Rattle.net.specs.internal.ReaderEnums.{place_in};

@@ -10,7 +10,8 @@ use prepared::Transition;
 use rows::entries_of;
 use sums::BoundArc;
 
-// How many a transition's arcs of a kind give at most.
+// How many a transition's arcs of a kind give at most. As kind_slots of rows, but for what is added of each arc: a function handed in for it would need the
+// clauses of both.
 fn most_kind(transition: &Transition, kind: Kind) -> usize
     ensures is { MostKind (its_net transition.now) transition.now.number (kind_number kind) result }
     ensures inside { IsInside transition.now.drawing.file transition.now.drawing.plan transition.now.number }

@@ -113,6 +113,7 @@ pub fn first_on<'a>(drawing: &'a Drawing<'a>, marking: &'a [u16]) -> Searched<Or
     requires { length marking.now ≡ flat_place_count (net_of drawing.now) }
     ensures { first_fires (net_of drawing.now) marking.now ≡ searched bytes_of result }
 {
+    // Two types, so the choice stands where they are made.
     if is_small(most_slots(drawing), drawing.file().len()) {
         return Marked::<1024> { drawing, marking }.first_in(true);
     }

@@ -76,6 +76,7 @@ pub fn unfold(net: &[u8], out: &mut [u8]) -> Result<usize, Refusal>
     let mut plan = [0u32; 3584];
     let mut initial = [0u16; 4096];
     let drawing = Drawing::read(net, &mut plan, &mut initial)?;
+    // Two types, so the choice stands where they are made.
     if is_small(most_slots(&drawing), drawing.file().len()) {
         return Counted::<1024> {
             drawing: &drawing,
