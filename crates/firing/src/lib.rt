@@ -12,8 +12,8 @@ ghost use Rattle.firing.specs.Replies.{answer_number};
 ghost use Rattle.firing.specs.internal.RowLists.{EndsWithin, row_in, row_held};
 ghost use Rattle.firing.specs.internal.Steps.{lacking, hindering, spilling, SmallCapacities, Sought, changed};
 
-use reading::{element, store};
 pub use kind::Kind;
+use reading::{element, store};
 pub use replies::{Answer, Searched};
 
 // An arc of a row: a flat place, and the weight there.

@@ -113,9 +113,7 @@ pub fn load_arc(bound: &Bound, entry: Entry, room: &mut [Arc]) -> usize
         };
         return load_listed(&arc, room, true);
     }
-    let rank = bound
-        .rank_at(entry.paired, 15, entry.expression + 3)
-        .rank;
+    let rank = bound.rank_at(entry.paired, 15, entry.expression + 3).rank;
     if entry.ranks <= rank {
         return 0;
     }

@@ -13,7 +13,7 @@ returns-then-file-at-clause-is c r f = rw c.refused.ensures (arc_cut _ _ _ _ c.i
 pub returns-then-count-arc-clause-is : goal.returns-then-count-arc-clause-is
 returns-then-count-arc-clause-is c r f =
     rw c.refused-then-count-arc.ensures (elim c.then-count-arc.either [
-      inl h ↦ arc_beyond _ _ _ _ c.in-Some.kind c.in-Some.ensures.1 c.if-file-at.false (rw c.arc_in-arc.ensures at h)
+      | inl h ↦ arc_beyond _ _ _ _ c.in-Some.kind c.in-Some.ensures.1 c.if-file-at.false (rw c.arc_in-arc.ensures at h)
       | inr h ↦ arc_weightless _ _ _ _ c.in-Some.kind c.in-Some.ensures.1 c.if-file-at.false (rw c.arc_in-arc.ensures at h.1)
     ])
 
