@@ -6,7 +6,7 @@ ghost use Rattle.codes.specs.Codes.{returned, count_code};
 
 use reading::Refusal;
 
-// A code, and two numbers behind the lent ones. The codes are the C interface's numbers.
+// A code, and two numbers behind the lent ones. The codes are the C interface's numbers, and first and second its two places for them.
 pub fn give(code: u8, one: usize, two: usize, first: &mut usize, second: &mut usize) -> u8
     ensures { (rest : List ℕ) (lent : List (List ℕ)) → returned result (first.new ∷ second.new ∷ rest) lent ≡ returned code (one ∷ two ∷ rest) lent }
 {

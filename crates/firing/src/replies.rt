@@ -22,6 +22,7 @@ impl Answer {
     }
 }
 
+// As a caller of Rust expects it; the contracts in this repository speak of `number`.
 impl From<Answer> for u8 {
     fn from(answer: Answer) -> u8
         ensures { result ≡ answer_number answer }

@@ -1,4 +1,5 @@
-// Reads a net file and fills the one table of its net.
+// Reads a net file and fills the one table of its net. That there are at most 32 places or transitions is asked of each function here: of a net that was
+// read `read_net` tells it, and what they take is numbers alone.
 ghost use Rattle.std.specs.Prelude.{◌≡◌, [], ◌∷◌, map, ◌≤◌, ◌<◌, length, take};
 ghost use Rattle.reading.specs.Basics.{below};
 ghost use Rattle.plan.specs.internal.Layout.{Placed};

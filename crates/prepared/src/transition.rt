@@ -6,7 +6,7 @@ use evaluation::Bound;
 use plan::{Own, guard_of, own_of};
 use std::marker::Model;
 
-// A file, its table, and a transition's number in it.
+// A file, its table, and a transition's number in it. A Drawing's two fields again: through one each would be a step further, and the methods would be the same.
 #[derive(Drop)]
 pub struct Transition<'a> {
     pub(crate) file: &'a [u8],

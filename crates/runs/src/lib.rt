@@ -1,4 +1,6 @@
 // Keeps terms in a lent room by rising rank: stored, multiplied, and two runs of them joined to one. A term is an arc whose place is a rank.
+// How many slots were filled is told as a number, with the promise that it is no more than there are: what else would say it, a slice, could not be joined
+// in place. The operator and what every other rank has (p, q) go together through three functions, which each take them apart.
 #![tactic(auto)]
 
 ghost use Rattle.std.specs.Prelude.{◌≡◌, true, [], ◌∷◌, ℕ, ◌≤◌, ◌<◌, ◌+◌, ◌-◌, ◌*◌, length, get_or, take};

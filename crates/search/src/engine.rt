@@ -27,7 +27,8 @@ struct Marked<'a, const ARCS: usize> {
 }
 
 impl<'a, const ARCS: usize> Marked<'a, ARCS> {
-    // Whether a binding of a transition, whose colours env has, would fire.
+    // Whether a binding of a transition, whose colours env has, would fire. It and the next ask that the transition is one of the drawing: a struct of both
+    // would be made at each.
     fn fires_bound(self, transition: &Transition, env: &[u8; 32], arcs: &mut [Arc; ARCS]) -> bool
         requires { transition.now.drawing ≡ self.drawing.now }
         ensures { (i : ℕ) → BindsIts transition.now i env.now → result ≡ fires_its transition.now self.entry.marking.now i }
