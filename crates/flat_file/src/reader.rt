@@ -55,17 +55,29 @@ fn key(kind: Kind, place: u16) -> usize
     kind as usize * 65536 + place as usize
 }
 
-// The arc at a place of the file, over so many flat places; None where the row ends. The least key allowed is given.
+// Where a file has no room for an arc from a place on: it is cut off if one begins there, else the row ends.
+fn short_at(file: &[u8], at: usize) -> Result<Option<ArcRead>, Refusal>
+    requires { length file.now < at + 5 }
+    ensures is { (count : ℕ) (before : Row) → arc_part file.now count before at ≡ arc_step (at + 5) before result }
+    ensures room { (count least : ℕ) → ArcRoom (length file.now) count at least result }
+{
+    match arc_here(file, at) {
+        Some(_) => refused(Reason::CutOff, file.len()),
+        None => Ok(None),
+    }
+}
+
+// The arc at a place of the file, over so many flat places; None where the row ends. Whether an arc has room is asked first: of every arc but a file's last it is the one test of an index. The least key allowed is given.
 fn arc_at(file: &[u8], count: usize, at: usize, least: usize) -> Result<Option<ArcRead>, Refusal>
     ensures is { (before : Row) → Least before least → arc_part file.now count before at ≡ arc_step (at + 5) before result }
     ensures room { ArcRoom (length file.now) count at least result }
 {
+    if file.len() < 5 || file.len() - 5 < at {
+        return short_at(file, at);
+    }
     let Some(kind) = arc_here(file, at) else {
         return Ok(None);
     };
-    if file.len() < at + 5 {
-        return refused(Reason::CutOff, file.len());
-    }
     let arc = arc_in(file, at);
     if count <= arc.place as usize || arc.weight < 1 {
         return refused(Reason::OutOfRange, at);
