@@ -1,4 +1,5 @@
 // Reading the parts of a case from a reader.
+ghost use Rattle.std.specs.Prelude.{◌≡◌, length};
 ghost use Rattle.std.specs.Counts.{IsPrefixLen};
 
 use std::io::Read;
@@ -42,8 +43,11 @@ fn read_long<R: Read>(from: &mut R) -> u32 {
     u32::from_le_bytes(buf)
 }
 
-// Reads a buffer of bytes, with its length in front, to the start of buf, and gives it; none of it where buf is too short.
-pub fn read_bytes<'a, R: Read>(from: &mut R, buf: &'a mut [u8]) -> &'a mut [u8] {
+// Reads a buffer of bytes, with its length in front, to the start of buf, and gives it where it stands; none of it where buf is too short.
+pub fn read_bytes<'a, R: Read>(from: &mut R, buf: &'a mut [u8]) -> &'a mut [u8]
+    ensures place { result.ref_ptr ≡ buf.entry.ref_ptr }
+    ensures count { IsPrefixLen (length result.now) buf.old }
+{
     let length = read_long(from) as usize;
     let n = if length > buf.len() {
         0
@@ -53,8 +57,11 @@ pub fn read_bytes<'a, R: Read>(from: &mut R, buf: &'a mut [u8]) -> &'a mut [u8] 
     &mut buf[..n]
 }
 
-// Reads a buffer of counts, two bytes each, to the start of marking, and gives them.
-pub fn read_counts<'a, R: Read>(from: &mut R, marking: &'a mut [u16]) -> &'a mut [u16] {
+// Reads a buffer of counts, two bytes each, to the start of marking, and gives them where they stand.
+pub fn read_counts<'a, R: Read>(from: &mut R, marking: &'a mut [u16]) -> &'a mut [u16]
+    ensures place { result.ref_ptr ≡ marking.entry.ref_ptr }
+    ensures count { IsPrefixLen (length result.now) marking.old }
+{
     let mut list = [0u8; LIST_BYTES];
     let n = spread(read_bytes(from, &mut list), marking);
     &mut marking[..n]
