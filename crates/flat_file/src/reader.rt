@@ -139,18 +139,20 @@ pub fn load_arcs(file: &[u8], at: usize, arcs: &mut [Arc]) -> Ends
     ends
 }
 
-// The place behind a command of a width that stands at a place, where there is room for it; None where another byte stands there.
+// The place behind a command of a width that stands at a place, after so many of at most so many; None where another byte stands there. A count and its
+// limit: whether there is room, handed in, would be worked out for each command ahead of its byte.
 fn command_at(
     file: &[u8],
     at: usize,
     byte: u8,
     width: usize,
-    room: bool,
+    count: usize,
+    limit: usize,
 ) -> Result<Option<usize>, Refusal>
     requires byte_bound { 0 < byte }
     requires width_bound { (0 < width) × (width < 4) }
-    ensures is { step_of file.now byte width room at ≡ step_told (λ next. fine next next) result }
-    ensures room { StepRoom room width (length file.now) at result }
+    ensures is { step_of file.now byte width (ltb count limit) at ≡ step_told (λ next. fine next next) result }
+    ensures room { StepRoom (ltb count limit) width (length file.now) at result }
 {
     if element(file, at, 0) != byte {
         return Ok(None);
@@ -158,7 +160,7 @@ fn command_at(
     if file.len() < at + width {
         return refused(Reason::CutOff, file.len());
     }
-    if !room {
+    if limit <= count {
         return refused(Reason::Overfull, at);
     }
     Ok(Some(at + width))
@@ -170,7 +172,7 @@ fn place_at(file: &[u8], count: usize, at: usize) -> Result<Option<usize>, Refus
         ≡ step_told (fine (with initial (word_at file.now (at + 1)))) result }
     ensures room { StepRoom (ltb count 4096) 3 (length file.now) at result }
 {
-    command_at(file, at, 0x50, 3, count < 4096)
+    command_at(file, at, 0x50, 3, count, 4096)
 }
 
 // What has been read of a file: so many flat places, or rows, up to a place.
@@ -201,7 +203,7 @@ fn row_at(file: &[u8], rows: usize, at: usize) -> Result<Option<usize>, Refusal>
         ≡ step_told (λ next. under (with before) (whole file.now (arc_part file.now places) (row [] [] []) next)) result }
     ensures room { StepRoom (ltb rows 65536) 1 (length file.now) at result }
 {
-    command_at(file, at, 0x51, 1, rows < 65536)
+    command_at(file, at, 0x51, 1, rows, 65536)
 }
 
 // The rows, over so many flat places: where each row's arcs start goes into the front of starts, as far as it reaches. Each
