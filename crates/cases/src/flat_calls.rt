@@ -2,10 +2,10 @@
 use crate::lines::fired_case;
 use std::io;
 use std::io::{Read, Write};
-use streams::{FILE_BYTES, MARKING_COUNTS, read_bytes, read_counts};
+use streams::{file_buffer, marking_buffer, read_bytes, read_counts};
 
 pub fn sizes_case<R: Read, W: Write>(from: &mut R, to: &mut W) -> io::Result<()> {
-    let mut file = [0u8; FILE_BYTES];
+    let mut file = file_buffer();
     let file = read_bytes(from, &mut file);
     match flat::flat_sizes(file) {
         Ok(sizes) => writeln!(to, "places {} rows {}", sizes.places, sizes.rows),
@@ -14,9 +14,9 @@ pub fn sizes_case<R: Read, W: Write>(from: &mut R, to: &mut W) -> io::Result<()>
 }
 
 pub fn first_case<R: Read, W: Write>(from: &mut R, to: &mut W) -> io::Result<()> {
-    let mut file = [0u8; FILE_BYTES];
+    let mut file = file_buffer();
+    let mut marking = marking_buffer();
     let file = read_bytes(from, &mut file);
-    let mut marking = [0u16; MARKING_COUNTS];
     let marking = read_counts(from, &mut marking);
     let searched = match flat::first_row(file, marking) {
         Ok(searched) => searched,

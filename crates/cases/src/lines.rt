@@ -2,7 +2,7 @@
 use reading::Refusal;
 use std::io;
 use std::io::{Read, Write};
-use streams::{FILE_BYTES, LIST_BYTES, MARKING_COUNTS, read_bytes, read_counts, say_list};
+use streams::{file_buffer, list_buffer, marking_buffer, read_bytes, read_counts, say_list};
 
 // A line of a count, or of the refusal.
 pub fn say_reply<W: Write>(
@@ -16,19 +16,20 @@ pub fn say_reply<W: Write>(
     }
 }
 
-// A case that fires a list, of images or of orders.
+// A case that fires a list, of images or of orders. Here as in each case the buffers stand first: one that is made further down is cleared twice, where the
+// function begins and where it stands.
 pub fn fired_case<R: Read, W: Write, F>(from: &mut R, to: &mut W, fire: F) -> io::Result<()>
 where
     F: FnOnce(&[u8], &mut [u16], &[u8], &mut [u8]) -> Result<usize, Refusal>,
     requires { F.IsAlwaysCallable fire }
 {
-    let mut file = [0u8; FILE_BYTES];
+    let mut file = file_buffer();
+    let mut marking = marking_buffer();
+    let mut list = list_buffer();
+    let mut answers = list_buffer();
     let file = read_bytes(from, &mut file);
-    let mut marking = [0u16; MARKING_COUNTS];
     let marking = read_counts(from, &mut marking);
-    let mut list = [0u8; LIST_BYTES];
     let list = read_bytes(from, &mut list);
-    let mut answers = [0u8; LIST_BYTES];
     let answers = read_bytes(from, &mut answers);
     say_reply(to, "answered", fire(file, marking, list, answers))?;
     say_list(to, "marking", marking)?;

@@ -4,24 +4,24 @@ use bindings::Order;
 use std::io;
 use std::io::{Read, Write};
 use streams::{
-    FILE_BYTES, LIST_BYTES, MARKING_COUNTS, read_bytes, read_counts, read_row, say_list,
+    file_buffer, list_buffer, marking_buffer, read_bytes, read_counts, read_row, say_list,
 };
 
 pub fn unfold_case<R: Read, W: Write>(from: &mut R, to: &mut W) -> io::Result<()> {
-    let mut file = [0u8; FILE_BYTES];
+    let mut file = file_buffer();
+    let mut out = file_buffer();
     let file = read_bytes(from, &mut file);
-    let mut out = [0u8; FILE_BYTES];
     let out = read_bytes(from, &mut out);
     say_reply(to, "written", unfolding::unfold(file, out))?;
     say_list(to, "output", out)
 }
 
 pub fn images_case<R: Read, W: Write>(from: &mut R, to: &mut W) -> io::Result<()> {
-    let mut file = [0u8; FILE_BYTES];
+    let mut file = file_buffer();
+    let mut orders = list_buffer();
+    let mut out = list_buffer();
     let file = read_bytes(from, &mut file);
-    let mut orders = [0u8; LIST_BYTES];
     let orders = read_bytes(from, &mut orders);
-    let mut out = [0u8; LIST_BYTES];
     let out = read_bytes(from, &mut out);
     say_reply(to, "answered", images::images(file, orders, out))?;
     say_list(to, "output", out)
@@ -38,7 +38,7 @@ fn say_order<W: Write>(to: &mut W, word: &str, order: Order) -> io::Result<()> {
 }
 
 pub fn order_case<R: Read, W: Write>(from: &mut R, to: &mut W) -> io::Result<()> {
-    let mut file = [0u8; FILE_BYTES];
+    let mut file = file_buffer();
     let file = read_bytes(from, &mut file);
     let row = read_row(from);
     match images::row_order(file, row) {
@@ -56,9 +56,9 @@ pub fn orders_case<R: Read, W: Write>(from: &mut R, to: &mut W) -> io::Result<()
 }
 
 pub fn first_order_case<R: Read, W: Write>(from: &mut R, to: &mut W) -> io::Result<()> {
-    let mut file = [0u8; FILE_BYTES];
+    let mut file = file_buffer();
+    let mut marking = marking_buffer();
     let file = read_bytes(from, &mut file);
-    let mut marking = [0u16; MARKING_COUNTS];
     let marking = read_counts(from, &mut marking);
     let searched = match search::first_order(file, marking) {
         Ok(searched) => searched,
@@ -74,7 +74,7 @@ pub fn first_order_case<R: Read, W: Write>(from: &mut R, to: &mut W) -> io::Resu
 }
 
 pub fn net_sizes_case<R: Read, W: Write>(from: &mut R, to: &mut W) -> io::Result<()> {
-    let mut file = [0u8; FILE_BYTES];
+    let mut file = file_buffer();
     let file = read_bytes(from, &mut file);
     match net_reader::net_sizes(file) {
         Ok(sizes) => writeln!(

@@ -13,6 +13,27 @@ pub const LIST_BYTES: usize = 65536;
 // The counts that there is room for in a marking; wrong ones of twice 4,096 counts and one more have room in it.
 pub const MARKING_COUNTS: usize = 16384;
 
+// A buffer for a file, or for what a call writes.
+pub fn file_buffer() -> [u8; FILE_BYTES]
+    ensures { 131072 ≡ length result }
+{
+    [0; FILE_BYTES]
+}
+
+// A buffer for a list, of images, orders or answers.
+pub fn list_buffer() -> [u8; LIST_BYTES]
+    ensures { 65536 ≡ length result }
+{
+    [0; LIST_BYTES]
+}
+
+// A buffer for a marking.
+pub fn marking_buffer() -> [u16; MARKING_COUNTS]
+    ensures { 16384 ≡ length result }
+{
+    [0; MARKING_COUNTS]
+}
+
 // Reads until buf is full, the input ends or a read fails, and answers how many bytes there are at the start of buf.
 fn read_full<R: Read>(from: &mut R, buf: &mut [u8]) -> usize
     ensures { IsPrefixLen result buf.new }
@@ -62,7 +83,7 @@ pub fn read_counts<'a, R: Read>(from: &mut R, marking: &'a mut [u16]) -> &'a mut
     ensures place { result.ref_ptr ≡ marking.entry.ref_ptr }
     ensures count { IsPrefixLen (length result.now) marking.old }
 {
-    let mut list = [0u8; LIST_BYTES];
+    let mut list = list_buffer();
     let n = spread(read_bytes(from, &mut list), marking);
     &mut marking[..n]
 }

@@ -5,6 +5,7 @@ mod input;
 mod text;
 
 pub use input::{
-    FILE_BYTES, LIST_BYTES, MARKING_COUNTS, read_bytes, read_call, read_counts, read_row,
+    FILE_BYTES, LIST_BYTES, MARKING_COUNTS, file_buffer, list_buffer, marking_buffer, read_bytes,
+    read_call, read_counts, read_row,
 };
 pub use text::say_list;
