@@ -25,7 +25,6 @@ use Rattle.net_parts.specs.declared.Part.{Part}
 use Rattle.net_transitions.specs.declared.transitions.Head.{Head}
 use Rattle.net_file.specs.declared.file.Tables.{Tables}
 use Rattle.net_file.specs.internal.NetTables.{NetHolds, NetHeld}
-use Rattle.net_file.proofs.Refusals.{by_reason}
 
 -- ---- part after part
 -- what the reading of a file comes down to: what is left of its content, and the last command
@@ -154,7 +153,7 @@ module _ (s : List ℕ) (fits : length s ≤ 16384) (opening : Result ℕ Refusa
           pub transitions_refused : {f : Refusal} → of_transitions ≡ Err f → read_net s ≡ refused (number_of f.reason) f.place
           transitions_refused {f} e =
               let h = rw e at transitions_told in
-              by_reason s f (stops s (after_transitions s sets variables places) left_transitions (sym (some_is h.is))) h.reason
+              rw h.reason at (stops s (after_transitions s sets variables places) left_transitions (sym (some_is h.is)))
 
           module _ (t : Part) (transitions_ok : of_transitions ≡ Ok t) (held : Started (scope (take p.count sizes) [] []) (places_of (take r.count kinds)) starts r.count r.total)
               (initial : List ℕ) (of_tokens : Result ℕ Refusal)

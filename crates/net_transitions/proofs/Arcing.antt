@@ -11,18 +11,18 @@ use Rattle.std.proofs.lemmas.List.{get_or-replicate, length-replicate}
 use lib.Seq.{get_or-set_same, get_or-set_other, length-take-le}
 use Rattle.reading.specs.Basics.{ℕ, zero, suc, List, [], Option, some, none, option_map, absent, length, get_or, take, with, find, any, eqb, ltb, byte_at}
 use Rattle.reading.specs.Reading.{Answer, fine, fault, under, whole}
+use Rattle.reading.specs.Refusals.{number_of}
 use Rattle.reading.proofs.Commands.{end, other, passes, done, fails, later, standing_none, stands_cut, stands_fails, stands_goes, both_hold, first_fails, second_fails}
 use Rattle.reading.proofs.Parts.{Reading, begins, goes_on, ends, stops}
 use Rattle.net.specs.Net.{Expression, Place, single, Arc, Net, place_at, arc_on, ceiling, in_expression}
 use Rattle.net.specs.Reader.{width_of, read_expression}
 use Rattle.net_transitions.specs.Transitions.{arc_part}
-use Rattle.net.specs.internal.ReaderEnums.{bits, told, place_in, scope_of}
+use Rattle.net.specs.internal.ReaderEnums.{bits, told, place_in, scope_of, answer_of}
 use Rattle.net.specs.internal.ReaderEnums.{whole as whole_read}
 use Rattle.arc_expressions.specs.internal.ReaderEnums.{expression_told}
 use Rattle.net_parts.specs.internal.Tables.{places_of}
 use Rattle.net_transitions.specs.internal.TransitionTables.{Refuses, over, Standing, Slot, RowHolds, ArcRead, ArcsRead}
 use Rattle.reading.specs.declared.refusal.Refusal.{Refusal}
-use Rattle.reading.specs.internal.Reasons.{reason_of}
 use Rattle.net.specs.declared.Read.{Read}
 use Rattle.net.specs.declared.PlaceSets.{PlaceSets}
 use Rattle.net.specs.declared.scope.Scope.{Scope}
@@ -126,13 +126,13 @@ pub record Heard {A : Type 0} (stands : ℕ → A → Bool) (x : Answer A) (next
   pub used : uses ≡ bits (λ v. stands v value) 32
 
 module _ {A : Type 0} (measure : A → ℕ) (stands : ℕ → A → Bool) where
-  pub heard : (x : Answer A) {r : Read} → Ok r ≡ told measure stands x → Heard stands x r.next r.uses
+  pub heard : (x : Answer A) {r : Read} → fine r r.next ≡ told measure stands x → Heard stands x r.next r.uses
   heard (fine a n) {r} e = let q : r ≡ whole_read measure stands a n = cc in record { value = a; is = ap (λ k. fine a k) (sym (ap (λ w. w.next) q)); used = ap (λ w. w.uses) q }
   heard (fault k p) e = absurd (let w : ◌≡◌ {A = ℕ} 0 1 = cc in omega arith)
 
-  pub heard_fault : (x : Answer A) {r : Refusal} → Err r ≡ told measure stands x → Refuses (some x) r
+  pub heard_fault : (x : Answer A) {r : Refusal} → answer_of (Err r) ≡ told measure stands x → Refuses (some x) r
   heard_fault (fine a n) e = absurd (let w : ◌≡◌ {A = ℕ} 0 1 = cc in omega arith)
-  heard_fault (fault k p) {r} e = let q : r ≡ record { reason = reason_of k; place = p } = cc in record { number = k; is = ap (λ place. some (fault k place)) (sym (ap (λ w. w.place) q)); reason = sym (ap (λ w. w.reason) q) }
+  heard_fault (fault k p) {r} e = let q : k ≡ number_of r.reason = cc in let at : p ≡ r.place = cc in record { number = k; is = ap (λ place. some (fault k place)) at; reason = q }
 
 -- ---- the slots of a transition's arcs
 module _ (s : List ℕ) (n : Net) (arcs : List Arc) (slot : ℕ → ℕ) (holds : RowHolds s n arcs slot) (k p : ℕ) (of_three : k < 3) (known : p < length n.places) where
@@ -179,10 +179,10 @@ module _ (s : List ℕ) (n : Net) (arcs : List Arc) (at : ℕ) (slots : ℕ → 
     goes : arc_part s n arcs at ≡ some (under (λ e. with arcs (record { kind = 0x16 + k; place = p; expression = e })) (read_expression s n (place_at n p) 16 (at + 2)))
     goes = arcs_go s n arcs at k of_three stands whole-there p place_is known (row_free s n arcs slots holds k p of_three known free)
 
-    pub arc_fault : {r : Refusal} → Err r ≡ expression_told (read_expression s n (place_at n p) 16 (at + 2)) → Refuses (arc_part s n arcs at) r
+    pub arc_fault : {r : Refusal} → answer_of (Err r) ≡ expression_told (read_expression s n (place_at n p) 16 (at + 2)) → Refuses (arc_part s n arcs at) r
     arc_fault e = rw goes (refuses_on (under (λ e. with arcs (record { kind = 0x16 + k; place = p; expression = e }))) (λ k p. refl) (heard_fault ceiling in_expression (read_expression s n (place_at n p) 16 (at + 2)) e))
 
-    pub arc_read : {r : Read} → Ok r ≡ expression_told (read_expression s n (place_at n p) 16 (at + 2)) → ArcRead s n arcs at slots (k * 32 + p) r.uses r.next
+    pub arc_read : {r : Read} → fine r r.next ≡ expression_told (read_expression s n (place_at n p) 16 (at + 2)) → ArcRead s n arcs at slots (k * 32 + p) r.uses r.next
     arc_read {r} e =
         let h = heard ceiling in_expression (read_expression s n (place_at n p) 16 (at + 2)) e in
         record {
@@ -199,7 +199,7 @@ module _ (s : List ℕ) (n : Net) (arcs : List Arc) (at : ℕ) (slots : ℕ → 
         }
 
 -- a whole expression ends within the file
-pub expression_within : (s : List ℕ) (n : Net) (place : Place) (left at : ℕ) {r : Read} → Ok r ≡ expression_told (read_expression s n place left at) → (at < r.next) × (r.next ≤ length s)
+pub expression_within : (s : List ℕ) (n : Net) (place : Place) (left at : ℕ) {r : Read} → fine r r.next ≡ expression_told (read_expression s n place left at) → (at < r.next) × (r.next ≤ length s)
 expression_within s n place left at e =
     let h = heard ceiling in_expression (read_expression s n place left at) e in rw h.is at (expression_ends s n place left at)
 
@@ -325,19 +325,19 @@ module _ (scope : Scope) (kinds : List PlaceSets) (slots : ℕ → ℕ) (at : �
       pub step_again : 0 < slots (kind * 32 + place) → (arcs : List Arc) → RowHolds s n arcs slots → arc_part s n arcs at ≡ some (fault 9 at)
       step_again full arcs holds = arc_again s n arcs at slots holds kind (kind_is s at low high) (stands_there s at low high) (rw is-next at whole-there) place refl known_place full
 
-      module _ (empty : slots (kind * 32 + place) ≤ 0) (instead : PlaceSets) {x : Result Read Refusal}
-          (e : (places : List Place) → x ≡ expression_told (read_expression s (scope_of scope places) (place_in (get_or kinds place instead)) 16 next)) where
+      module _ (empty : slots (kind * 32 + place) ≤ 0) (instead : PlaceSets) (x : Result Read Refusal)
+          (e : (places : List Place) → answer_of x ≡ expression_told (read_expression s (scope_of scope places) (place_in (get_or kinds place instead)) 16 next)) where
         free : slots (kind * 32 + place) ≡ 0
         free = omega arith
 
-        told_there : x ≡ expression_told (read_expression s n (place_at n place) 16 (at + 2))
+        told_there : answer_of x ≡ expression_told (read_expression s n (place_at n place) 16 (at + 2))
         told_there = rw (place_at_lem kinds place instead lt) (rw is-next at (e (places_of kinds)))
 
         pub step_fault : {r : Refusal} → x ≡ Err r → (arcs : List Arc) → RowHolds s n arcs slots → Refuses (arc_part s n arcs at) r
-        step_fault q arcs holds = arc_fault s n arcs at slots holds kind (kind_is s at low high) (stands_there s at low high) (rw is-next at whole-there) place refl known_place free (sym q ∙ told_there)
+        step_fault q arcs holds = arc_fault s n arcs at slots holds kind (kind_is s at low high) (stands_there s at low high) (rw is-next at whole-there) place refl known_place free (ap answer_of (sym q) ∙ told_there)
 
         pub step_read : {r : Read} → x ≡ Ok r → (arcs : List Arc) → RowHolds s n arcs slots → ArcRead s n arcs at slots (kind * 32 + place) r.uses r.next
-        step_read q arcs holds = arc_read s n arcs at slots holds kind (kind_is s at low high) (stands_there s at low high) (rw is-next at whole-there) place refl known_place free (sym q ∙ told_there)
+        step_read q arcs holds = arc_read s n arcs at slots holds kind (kind_is s at low high) (stands_there s at low high) (rw is-next at whole-there) place refl known_place free (ap answer_of (sym q) ∙ told_there)
 
         pub step_within : {r : Read} → x ≡ Ok r → (at + 2 < r.next) × (r.next ≤ length s)
-        step_within q = expression_within s n (place_at n place) 16 (at + 2) (sym q ∙ told_there)
+        step_within q = expression_within s n (place_at n place) 16 (at + 2) (ap answer_of (sym q) ∙ told_there)

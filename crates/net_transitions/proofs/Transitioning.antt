@@ -13,7 +13,7 @@ use Rattle.reading.proofs.Commands.{end, other, passes, done, fails, standing_no
 use Rattle.net.specs.Net.{Guard, always, Arc, Transition, Place, Net, place_at, arc_on, variables_of, binding_space, in_guard, in_transition}
 use Rattle.net.specs.Reader.{width_of, command, read_guard, read_guard_if, read_expression}
 use Rattle.net_transitions.specs.Transitions.{ended, transition_part}
-use Rattle.net.specs.internal.ReaderEnums.{bits, guard_told, scope_of}
+use Rattle.net.specs.internal.ReaderEnums.{bits, guard_told, scope_of, answer_of}
 use Rattle.net_parts.specs.internal.Tables.{places_of}
 use Rattle.net_transitions.specs.internal.TransitionTables.{Refuses, over, RowHolds, ArcsRead, guard_place, GuardHolds, ClosedTold, inside, TransitionRead}
 use Rattle.reading.specs.declared.refusal.Refusal.{Refusal}
@@ -79,7 +79,7 @@ module _ (s : List ℕ) (n : Net) (transitions : List Transition) (at next : ℕ
       }
 
 -- ---- a transition by what the code's calls tell: of its guard, of its arcs, and of its end
-module _ (scope : Scope) (kinds : List PlaceSets) (next : ℕ) {guard : Result Read Refusal} (of_guard : (places : List Place) → guard ≡ guard_told (read_guard_if scope.file.now (scope_of scope places) next)) where
+module _ (scope : Scope) (kinds : List PlaceSets) (next : ℕ) (guard : Result Read Refusal) (of_guard : (places : List Place) → answer_of guard ≡ guard_told (read_guard_if scope.file.now (scope_of scope places) next)) where
   abbrev s : List ℕ
   s = scope.file.now
 
@@ -88,7 +88,7 @@ module _ (scope : Scope) (kinds : List PlaceSets) (next : ℕ) {guard : Result R
 
   module _ {g : Read} (whole-guard : guard ≡ Ok g) where
     heard_guard : Heard in_guard (read_guard_if s n next) g.next g.uses
-    heard_guard = heard (λ g. 0) in_guard (read_guard_if s n next) (sym whole-guard ∙ of_guard (places_of kinds))
+    heard_guard = heard (λ g. 0) in_guard (read_guard_if s n next) (ap answer_of (sym whole-guard) ∙ of_guard (places_of kinds))
 
     pub guard_inside : next ≤ length s → (next ≤ g.next) × (g.next ≤ length s)
     guard_inside le = guard_within s n next heard_guard.value g.next heard_guard.is le

@@ -68,13 +68,21 @@ pub fn guard_of(plan: &[u32; 3584], t: usize) -> Option<usize>
     (0 < place).then_some(place as usize)
 }
 
-// What slot k of a transition's own variables holds, if it is used.
+// Slot k of a transition's own variables, as its number stands in the table.
 #[tactic(auto, using(crate::proofs::Sections::own_at))]
+pub fn slot_of(plan: &[u32; 3584], t: usize, k: usize) -> u32
+    requires { (t < 32) × (k < 4) }
+    ensures { result ≡ get_or (own_in plan.now) (t * 4 + k) 0 }
+{
+    plan[152 + (t * 4 + k)]
+}
+
+// What slot k of a transition's own variables holds, if it is used.
 pub fn own_of(plan: &[u32; 3584], t: usize, k: usize) -> Option<Own>
     requires { (t < 32) × (k < 4) }
     ensures { OwnTold (get_or (own_in plan.now) (t * 4 + k) 0) result }
 {
-    let slot = plan[152 + (t * 4 + k)];
+    let slot = slot_of(plan, t, k);
     let size = (slot % 256) as u8;
     if size < 1 {
         return None;

@@ -8,6 +8,8 @@ use Rattle.reading.specs.Basics.{ℕ, zero, suc, Bool, true, false, List, [], Op
 use Rattle.reading.specs.Reading.{Answer, fine, fault, ◌and_then◌, under, outcome, refused, Check, ◌unless◌, failing, Command, obey, standing, needed, Part, onward, repeat, file}
 use Rattle.reading.specs.Refusals.{number_of}
 use Rattle.reading.specs.internal.Reasons.{reason_of}
+use Rattle.reading.specs.declared.refusal.Reason.{Reason}
+use Rattle.reading.specs.declared.refusal.Reason.TheVariants as reason
 use Rattle.reading.proofs.Lists.{All, end, also, all_in, every_in, in_from}
 use Rattle.reading.proofs.Within.{by_test}
 use Rattle.reading.proofs.Keeps.{both_true}
@@ -111,3 +113,21 @@ pub numbered : (k : ℕ) → 1 ≤ k → k ≤ 15 → number_of (reason_of k) �
 unfolding every numbers_from
 numbered k least small = eqb-true (number_of (reason_of k)) k
     (all_in (every_in (λ j. eqb (number_of (reason_of j)) j) (numbers_from 1 15) refl) (in_from 1 15 least (omega arith)))
+
+-- and the reason of a reason's number is that reason
+pub named : (r : Reason) → reason_of (number_of r) ≡ r
+named reason.Overlong = refl
+named reason.CutOff = refl
+named reason.StrayByte = refl
+named reason.Overfull = refl
+named reason.OutOfRange = refl
+named reason.MixedColours = refl
+named reason.TooDeep = refl
+named reason.Overweight = refl
+named reason.Doubled = refl
+named reason.ManyVariables = refl
+named reason.WideBinding = refl
+named reason.WrongMarking = refl
+named reason.RaggedList = refl
+named reason.NoSpace = refl
+named reason.Tail = refl

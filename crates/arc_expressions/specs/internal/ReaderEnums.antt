@@ -11,7 +11,7 @@ use Rattle.arc_expressions.specs.declared.operator.Operator.{Operator}
 use Rattle.arc_expressions.specs.declared.operator.Operator.TheVariants.{Plus, Minus}
 
 -- an arc expression tells its ceiling
-abbrev pub expression_told : Answer Expression → Result Read Refusal
+abbrev pub expression_told : Answer Expression → Answer Read
 expression_told answer = told ceiling in_expression answer
 
 -- no ceiling passes 65,535

@@ -1,19 +1,20 @@
-use Rattle.std.proofs.Common.{arith, ◌∙◌}
+use Rattle.std.proofs.Common.{ap, arith, ◌∙◌}
 use Rattle.std.proofs.lemmas.Result.{err_from_is_err_and}
+use Rattle.net.specs.internal.ReaderEnums.{answer_of}
 use Rattle.net.proofs.Guards.{guard_past, guard_stray, guard_deep, true_read, opposite_read, compared_read, two_read, two_first, two_second, two_whole}
 use Rattle.net.proofs.+read_guard.Goals as goal
 use Rattle.net.proofs.+read_guard.Goals.{then-b-lt32-via-then-b-lt32, then-b-lt32-via-else-b-lt32+then-b-gt37}
 
 pub returns-then-scope-at : goal.returns-then-scope-at
-returns-then-scope-at t c places = c.refused.ensures ∙ guard_past _ _ _ _ c.if-scope-at.true
+returns-then-scope-at t c places = ap answer_of c.refused.ensures ∙ guard_past _ _ _ _ c.if-scope-at.true
 
 pub returns-then-b-lt32 : goal.returns-then-b-lt32
 returns-then-b-lt32 t c places =
-    c.refused-then-b-lt32.ensures ∙ guard_stray _ _ _ _ (omega arith) (λ b low high e. omega arith)
+    ap answer_of c.refused-then-b-lt32.ensures ∙ guard_stray _ _ _ _ (omega arith) (λ b low high e. omega arith)
 
 pub returns-then-left-eq0 : goal.returns-then-left-eq0
 returns-then-left-eq0 t c places =
-    c.refused-then-left-eq0.ensures ∙ guard_deep _ _ _ _ (omega arith) (omega arith) (omega arith) (omega arith)
+    ap answer_of c.refused-then-left-eq0.ensures ∙ guard_deep _ _ _ _ (omega arith) (omega arith) (omega arith) (omega arith)
 
 pub returns-in_err-a-in-34 : goal.returns-in_err-a-in-34
 returns-in_err-a-in-34 t c places =

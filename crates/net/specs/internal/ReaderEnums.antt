@@ -1,8 +1,8 @@
 -- What the code's enums say, in the terms of the meanings.
 use Rattle.std.specs.Prelude.{◌^◌, ◌+◌, if◌then◌else◌, ◌/◌, ◌%◌, Option, Some, None, Result}
 use Rattle.reading.specs.Basics.{ℕ, zero, suc, Bool, eqb, given, List, get_or}
-use Rattle.reading.specs.Reading.{Answer}
-use Rattle.reading.specs.internal.Reasons.{result_of}
+use Rattle.reading.specs.Reading.{Answer, fine, fault}
+use Rattle.reading.specs.Refusals.{answered}
 use Rattle.reading.specs.declared.refusal.Refusal.{Refusal}
 use Rattle.net.specs.Net.{Colour, Guard, Net, Place, single, pair, scope, set_of, in_colour, in_guard}
 use Rattle.net.specs.Reader.{width_of}
@@ -32,14 +32,20 @@ scope_of s places = scope s.sizes.now s.vars.now places
 abbrev pub whole : {A : Type 0} → (A → ℕ) → (ℕ → A → Bool) → A → ℕ → Read
 whole measure stands a next = record { next = next; set = measure a; uses = bits (λ v. stands v a) 32 }
 
-abbrev pub told : {A : Type 0} → (A → ℕ) → (ℕ → A → Bool) → Answer A → Result Read Refusal
-told measure stands answer = result_of (whole measure stands) answer
+-- what is told of an answer: the number of a fault too
+abbrev pub told : {A : Type 0} → (A → ℕ) → (ℕ → A → Bool) → Answer A → Answer Read
+told measure stands (fine a next) = fine (whole measure stands a next) next
+told measure stands (fault number place) = fault number place
+
+-- what a Result tells
+abbrev pub answer_of : Result Read Refusal → Answer Read
+answer_of result = answered (λ r. r) (λ r. r.next) result
 
 -- a colour tells its set, a guard nothing
-abbrev pub colour_told : Net → Answer Colour → Result Read Refusal
+abbrev pub colour_told : Net → Answer Colour → Answer Read
 colour_told n answer = told (set_of n) in_colour answer
 
-abbrev pub guard_told : Answer Guard → Result Read Refusal
+abbrev pub guard_told : Answer Guard → Answer Read
 guard_told answer = told (λ g. 0) in_guard answer
 
 -- a place by its set, or its two sets

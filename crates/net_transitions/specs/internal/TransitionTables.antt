@@ -3,7 +3,7 @@ use Rattle.std.specs.Prelude.{◌≡◌, ◌<◌, ◌≤◌, ◌+◌, ◌*◌, i
 use Rattle.std.specs.Prelude as std
 use Rattle.reading.specs.Basics.{ℕ, List, [], Option, none, some, option_map, with, any, length, get_or, eqb, byte_at}
 use Rattle.reading.specs.Reading.{Answer, fine, fault, ◌and_then◌, whole}
-use Rattle.reading.specs.internal.Reasons.{reason_of}
+use Rattle.reading.specs.Refusals.{number_of}
 use Rattle.net.specs.Net.{Guard, always, Expression, Arc, Transition, Net, place_at, arc_on, in_expression, variables_of, binding_space, in_transition, no_transition, scope}
 use Rattle.net.specs.Reader.{read_guard, read_guard_if, read_expression}
 use Rattle.net_transitions.specs.Transitions.{arc_part, ended, transition_part}
@@ -20,11 +20,11 @@ use Rattle.net_transitions.specs.declared.transition.TransitionStep.{TransitionS
 use Rattle.net_transitions.specs.declared.transitions.Head.{Head}
 
 -- ---- refusals
--- what is read, if anything, is a fault, and the refusal has its reason and its place
+-- what is read, if anything, is a fault, and the refusal has its number and its place
 pub record Refuses {A : Type 0} (x : Option (Answer A)) (r : Refusal) : Type 0 where
   pub number : ℕ
   pub is : x ≡ some (fault number r.place)
-  pub reason : reason_of number ≡ r.reason
+  pub reason : number ≡ number_of r.reason
 
 -- ---- arcs
 -- what stands at a place of the file, by a reading

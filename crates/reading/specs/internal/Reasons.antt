@@ -1,4 +1,4 @@
--- The reason with a number, and the Result of an answer, by which contracts for the crates above say what a Result is.
+-- The reason with a number, and the Result of an answer: no other Result tells that answer (`one_result` of `net`).
 use Rattle.std.specs.Prelude.{Result, Ok, Err, if◌then◌else◌}
 use Rattle.reading.specs.Basics.{ℕ, eqb}
 use Rattle.reading.specs.Reading.{Answer, fine, fault}

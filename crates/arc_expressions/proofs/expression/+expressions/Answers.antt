@@ -1,6 +1,6 @@
-use Rattle.std.proofs.Common.{arith, ◌∙◌}
+use Rattle.std.proofs.Common.{ap, arith, ◌∙◌}
 use Rattle.net.specs.Net.{ceiling, in_expression}
-use Rattle.net.specs.internal.ReaderEnums.{bits}
+use Rattle.net.specs.internal.ReaderEnums.{bits, answer_of}
 use Rattle.arc_expressions.specs.declared.operator.Operator.TheVariants.{Plus, Minus}
 use Rattle.arc_expressions.proofs.Expressions.{joined-whole, times_whole, expression_past, expression_below, expression_above, expression_cut, expression_deep, amount_goes, all_goes, times_goes, plus_goes, minus_goes}
 use Rattle.arc_expressions.proofs.expression.+expressions.Goals as goal
@@ -8,32 +8,32 @@ use Rattle.arc_expressions.proofs.expression.+expressions.Goals.{read_expression
 
 pub joined-returns-in-Plus-clause-is : goal.joined-returns-in-Plus-clause-is
 joined-returns-in-Plus-clause-is t c places =
-    c.capped.ensures.is ∙ rw c.in-Plus.is (joined-whole _ _ _ _ _ _ Plus (c.in_ok-one.ensures.is places) (c.in_ok-two.ensures.is places))
+    ap answer_of c.capped.ensures.is ∙ rw c.in-Plus.is (joined-whole _ _ _ _ _ _ Plus (c.in_ok-one.ensures.is places) (c.in_ok-two.ensures.is places))
 
 pub joined-returns-in-Minus-clause-is : goal.joined-returns-in-Minus-clause-is
 joined-returns-in-Minus-clause-is t c places =
-    c.capped-in-Minus.ensures.is ∙ rw c.in-Minus.is (joined-whole _ _ _ _ _ _ Minus (c.in_ok-one.ensures.is places) (c.in_ok-two.ensures.is places))
+    ap answer_of c.capped-in-Minus.ensures.is ∙ rw c.in-Minus.is (joined-whole _ _ _ _ _ _ Minus (c.in_ok-one.ensures.is places) (c.in_ok-two.ensures.is places))
 
 pub multiplied-returns-clause-is : goal.multiplied-returns-clause-is
 multiplied-returns-clause-is t c places =
-    c.capped.ensures.is ∙ rw c.from.ensures (times_whole _ _ _ _ _ _ _ (c.in_ok-e.ensures.is places))
+    ap answer_of c.capped.ensures.is ∙ rw c.from.ensures (times_whole _ _ _ _ _ _ _ (c.in_ok-e.ensures.is places))
 
 pub read_expression-returns-then-scope-at-clause-is : goal.read_expression-returns-then-scope-at-clause-is
-read_expression-returns-then-scope-at-clause-is t c places = c.refused.ensures ∙ expression_past _ _ _ _ _ c.if-scope-at.true
+read_expression-returns-then-scope-at-clause-is t c places = ap answer_of c.refused.ensures ∙ expression_past _ _ _ _ _ c.if-scope-at.true
 
 pub read_expression-returns-then-b-lt64-clause-is : goal.read_expression-returns-then-b-lt64-clause-is
-read_expression-returns-then-b-lt64-clause-is t c places = c.refused-then-b-lt64.ensures ∙ elim c.then-b-lt64.branch [
+read_expression-returns-then-b-lt64-clause-is t c places = ap answer_of c.refused-then-b-lt64.ensures ∙ elim c.then-b-lt64.branch [
   | read_expression-then-b-lt64-via-then-b-lt64 w ↦ expression_below _ _ _ _ _ (omega arith) (omega arith)
   | read_expression-then-b-lt64-via-else-b-lt64+then-b-gt68 w ↦ expression_above _ _ _ _ _ (omega arith) (omega arith)
 ]
 
 pub read_expression-returns-then-scope-next-clause-is : goal.read_expression-returns-then-scope-next-clause-is
 read_expression-returns-then-scope-next-clause-is t c places =
-    c.refused-then-scope-next.ensures ∙ expression_cut _ _ _ _ _ c.after-next.ensures (omega arith) (omega arith) (omega arith)
+    ap answer_of c.refused-then-scope-next.ensures ∙ expression_cut _ _ _ _ _ c.after-next.ensures (omega arith) (omega arith) (omega arith)
 
 pub read_expression-returns-then-left-eq0-clause-is : goal.read_expression-returns-then-left-eq0-clause-is
 read_expression-returns-then-left-eq0-clause-is t c places =
-    c.refused-then-left-eq0.ensures ∙ expression_deep _ _ _ _ _ c.after-next.ensures (omega arith) (omega arith) (omega arith) (omega arith)
+    ap answer_of c.refused-then-left-eq0.ensures ∙ expression_deep _ _ _ _ _ c.after-next.ensures (omega arith) (omega arith) (omega arith) (omega arith)
 
 pub read_expression-returns-in-64-clause-is : goal.read_expression-returns-in-64-clause-is
 read_expression-returns-in-64-clause-is t c places =

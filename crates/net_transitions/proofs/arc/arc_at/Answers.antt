@@ -33,10 +33,10 @@ pub returns-in_err-e-clause-is : goal.returns-in_err-e-clause-is
 returns-in_err-e-clause-is c =
     λ arcs h.
     let p = err_from_is_err_and c.from_residual.result c.from_residual.ensures.1 in
-    rw (p.1, p.2) (step_fault c.args.ground.now.scope c.args.ground.now.kinds.now (λ i. get_or c.args.arcs.now (c.args.from + i) 0) c.args.at (omega (arith, c.element-b.ensures)) (omega (arith, c.element-b.ensures)) c.after-next.ensures (omega arith) (omega arith) (rw c.element-b.ensures at c.if-arcs-from-gt0.false) _ c.read_expression.ensures.is c.in_err-e.was arcs h)
+    rw (p.1, p.2) (step_fault c.args.ground.now.scope c.args.ground.now.kinds.now (λ i. get_or c.args.arcs.now (c.args.from + i) 0) c.args.at (omega (arith, c.element-b.ensures)) (omega (arith, c.element-b.ensures)) c.after-next.ensures (omega arith) (omega arith) (rw c.element-b.ensures at c.if-arcs-from-gt0.false) _ _ c.read_expression.ensures.is c.in_err-e.was arcs h)
 
 pub returns-clause-is : goal.returns-clause-is
-returns-clause-is c = λ arcs h. rw c.element-b.ensures (step_read c.args.ground.now.scope c.args.ground.now.kinds.now (λ i. get_or c.args.arcs.now (c.args.from + i) 0) c.args.at (omega (arith, c.element-b.ensures)) (omega (arith, c.element-b.ensures)) c.after-next.ensures (omega arith) (omega arith) (rw c.element-b.ensures at c.if-arcs-from-gt0.false) _ c.read_expression.ensures.is c.in_ok-e.was arcs h)
+returns-clause-is c = λ arcs h. rw c.element-b.ensures (step_read c.args.ground.now.scope c.args.ground.now.kinds.now (λ i. get_or c.args.arcs.now (c.args.from + i) 0) c.args.at (omega (arith, c.element-b.ensures)) (omega (arith, c.element-b.ensures)) c.after-next.ensures (omega arith) (omega arith) (rw c.element-b.ensures at c.if-arcs-from-gt0.false) _ _ c.read_expression.ensures.is c.in_ok-e.was arcs h)
 
 pub returns-clause-room : goal.returns-clause-room
-returns-clause-room c = let w = step_within c.args.ground.now.scope c.args.ground.now.kinds.now (λ i. get_or c.args.arcs.now (c.args.from + i) 0) c.args.at (omega (arith, c.element-b.ensures)) (omega (arith, c.element-b.ensures)) c.after-next.ensures (omega arith) (omega arith) (rw c.element-b.ensures at c.if-arcs-from-gt0.false) _ c.read_expression.ensures.is c.in_ok-e.was in (omega (arith, c.element-b.ensures), w.0, w.1)
+returns-clause-room c = let w = step_within c.args.ground.now.scope c.args.ground.now.kinds.now (λ i. get_or c.args.arcs.now (c.args.from + i) 0) c.args.at (omega (arith, c.element-b.ensures)) (omega (arith, c.element-b.ensures)) c.after-next.ensures (omega arith) (omega arith) (rw c.element-b.ensures at c.if-arcs-from-gt0.false) _ _ c.read_expression.ensures.is c.in_ok-e.was in (omega (arith, c.element-b.ensures), w.0, w.1)
