@@ -22,13 +22,13 @@ pub fn count_of(uses: u32, variables: usize) -> usize
     (0..variables).filter(|v| has(uses, *v)).count()
 }
 
-// The size of a variable's set.
-pub fn size_of(scope: &Scope, v: usize) -> usize
-    ensures is { result ≡ size_in scope.now.sizes.now scope.now.vars.now v }
+// The size of a variable's set, from the sizes of all sets and the set of each variable.
+pub fn size_of(sizes: &[u8], vars: &[u8], v: usize) -> usize
+    ensures is { result ≡ size_in sizes.now vars.now v }
     ensures small { result ≤ 255 }
 {
-    let set = element(scope.vars, v, 0);
-    usize::from(element(scope.sizes, usize::from(set), 0))
+    let set = element(vars, v, 0);
+    usize::from(element(sizes, usize::from(set), 0))
 }
 
 // How many bindings the variables of a set have: the product of the sizes of their sets. More than 65,536 where the set has more than 4.
@@ -46,7 +46,7 @@ pub fn bindings_of(uses: u32, scope: &Scope) -> usize
     let mut total = 1;
     for v in 0..scope.vars.len() {
         if has(uses, v) {
-            total *= size_of(scope, v);
+            total *= size_of(scope.sizes, scope.vars, v);
         }
     }
     total

@@ -104,6 +104,7 @@ lists_placed {sizes} {vars} {own} {p₄ = p₄} few few' long a b c e owns =
     record {
       sets = stands_on 8 sizes e (omega arith) (λ i lt. c.others.front (8 + i) (omega arith) ∙ stands_on 8 sizes b (omega arith) a.values_are i lt);
       variables = stands_on 24 vars e (omega arith) (λ i lt. c.others.front (24 + i) (omega arith) ∙ b.values_are i lt);
+      uses = λ t lt. e.kept.front (88 + t) (omega arith) ∙ c.uses_are t lt;
       guards = λ t lt. e.kept.front (120 + t) (omega arith) ∙ c.guards_are t lt;
       owned = λ n es ev l are used. record {
         slot = λ t k lt less. own_at p₄ (t * 4 + k) ∙ e.values_are (t * 4 + k) (omega (arith, l.transitions)) ∙ (owns n es ev l are used).slot t k lt less;

@@ -12,7 +12,7 @@ use Rattle.reading.specs.Basics.{ℕ, zero, suc, Bool, true, false, List, [], ma
 use Rattle.net.specs.Net.{Net, variables_of, in_transition, transition_at}
 use Rattle.net.specs.internal.ReaderEnums.{bits, member}
 use Rattle.net_file.specs.Limits.{Limits}
-use Rattle.net_transitions.proofs.Spaces.{keep-bits, below_next, count_grows}
+use Rattle.net_transitions.proofs.Spaces.{past, keep-bits, below_next, count_grows}
 use Rattle.prepared.specs.internal.TransitionVariables.{own_of, SlotsListed}
 use Rattle.net_transitions.specs.internal.TransitionTables.{no_head}
 use Rattle.net_transitions.specs.declared.transitions.Head.{Head}
@@ -103,6 +103,14 @@ module _ {uses base k v : ℕ} {f : ℕ → ℕ} {own : List ℕ} (here : Listin
   -- at the end they hold all entries
   pub list_ends : {n : ℕ} → v ≡ n → n ≤ 32 → (stands : ℕ → Bool) → uses ≡ bits stands 32 → (j : ℕ) → j < 4 → get_or own (base + j) 0 ≡ get_or (map f (keep stands (below n))) j 0
   list_ends all le stands e j lt = here.slots j lt ∙ ap (λ l. get_or (map f l) j 0) (rw all (keep-bits stands e le))
+
+-- what is in a set of 32 bits is below 32
+pub member_below : {uses v : ℕ} → uses < 4294967296 → member uses v ≡ true → v < 32
+member_below {uses} {v} small e = go (ltb v 32) refl
+  where
+    go : (t : Bool) → ltb v 32 ≡ t → v < 32
+    go true q = ltb-true v 32 q
+    go false q = clash refl e (past uses 32 v small (ltb-false v 32 q))
 
 -- as few entries by the set of bits as by the test
 pub few_entries : {uses n : ℕ} (f : ℕ → ℕ) (stands : ℕ → Bool) → uses ≡ bits stands 32 → n ≤ 32 → length (keep stands (below n)) ≤ 4 → length (entries f (member uses) n) ≤ 4

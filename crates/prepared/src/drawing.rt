@@ -8,7 +8,7 @@ use reading::Refusal;
 use std::marker::Model;
 
 // A net file and its table.
-#[derive(Drop)]
+#[derive(Clone, Drop)]
 pub struct Drawing<'a> {
     pub(crate) file: &'a [u8],
     pub(crate) plan: &'a [u32; 3584],
@@ -38,6 +38,14 @@ impl<'a> Drawing<'a> {
     {
         prepare(net, plan, initial)?;
         Ok(Drawing { file: net, plan })
+    }
+
+    // The drawing of a file that was read before and its table, which can be kept and copied by themselves.
+    pub fn of(file: &'a [u8], plan: &'a [u32; 3584]) -> Drawing<'a>
+        requires { IsDrawn file.now plan.now }
+        ensures { (result.file ≡ file.now) × (result.plan ≡ plan.now) }
+    {
+        Drawing { file, plan }
     }
 
     // Its file.

@@ -8,7 +8,6 @@ ghost use Rattle.prepared.specs.internal.Filled.{HeadsPlaced, ListsPlaced, Packe
 
 use crate::own::list_variables;
 use crate::pack::{pack_arcs, shape_of};
-use net::Scope;
 use net_file::{Counts, Tables, read_net};
 use net_transitions::Head;
 use plan::place_list;
@@ -43,19 +42,16 @@ fn place_heads(heads: &[Head; 32], plan: &mut [u32; 3584])
 }
 
 // Sets and variables, and of each transition its variables, as bits and one by one, and where its guard stands.
-fn place_lists(net: &[u8], tables: &Tables, counts: &Counts, plan: &mut [u32; 3584])
+fn place_lists(tables: &Tables, counts: &Counts, plan: &mut [u32; 3584])
     requires { (counts.now.sets ≤ 16) × (counts.now.variables ≤ 32) × (counts.now.transitions ≤ 32) }
     ensures placed { ListsPlaced (take counts.now.sets tables.now.sizes) (take counts.now.variables tables.now.vars) tables.now.heads counts.now.transitions plan.old plan.new }
     ensures long { (length tables.now.sizes ≡ 16) × (length tables.now.vars ≡ 32) }
 {
-    let scope = Scope {
-        file: net,
-        sizes: &tables.sizes[..counts.sets],
-        vars: &tables.vars[..counts.variables],
-    };
-    let own = list_variables(&scope, &tables.heads, counts.transitions);
-    place_list(scope.sizes, 8, plan);
-    place_list(scope.vars, 24, plan);
+    let sizes = &tables.sizes[..counts.sets];
+    let vars = &tables.vars[..counts.variables];
+    let own = list_variables(&tables.heads, sizes, vars, counts.transitions);
+    place_list(sizes, 8, plan);
+    place_list(vars, 24, plan);
     place_heads(&tables.heads, plan);
     place_list(&own, 152, plan);
 }
@@ -89,17 +85,13 @@ fn read_packed(
     Ok(counts)
 }
 
-// Reads a net file into its table, and its initial counts into a list, as far as it reaches.
-pub(crate) fn prepare(
-    net: &[u8],
-    plan: &mut [u32; 3584],
-    initial: &mut [u16],
-) -> Result<(), Refusal>
+// Reads a net file into its table, and its initial counts into a list, as far as it reaches. The table is the caller's again then, and `Drawing::of` takes it with its file.
+pub fn prepare(net: &[u8], plan: &mut [u32; 3584], initial: &mut [u16]) -> Result<(), Refusal>
     ensures { PreparedTold net.now plan.new initial.new result }
 {
     let mut tables = Tables::new();
     let counts = read_packed(net, &mut tables, &mut plan[512..], initial)?;
-    place_lists(net, &tables, &counts, plan);
+    place_lists(&tables, &counts, plan);
     place_shapes(&tables, counts.places, plan);
     place_counts(&counts, plan);
     Ok(())

@@ -8,4 +8,8 @@ mod pack;
 mod transition;
 
 pub use drawing::Drawing;
+pub use fill::prepare;
+pub use net_transitions::size_of;
+pub use own::{list_variables, uses_at};
+pub use pack::pack_arcs;
 pub use transition::Transition;

@@ -7,7 +7,7 @@ use plan::{Own, guard_of, own_of};
 use std::marker::Model;
 
 // A file, its table, and a transition's number in it. A Drawing's two fields again: through one each would be a step further, and the methods would be the same.
-#[derive(Drop)]
+#[derive(Clone, Drop)]
 pub struct Transition<'a> {
     pub(crate) file: &'a [u8],
     pub(crate) plan: &'a [u32; 3584],
@@ -59,10 +59,7 @@ impl<'a> Transition<'a> {
     pub fn drawing(&self) -> Drawing<'a>
         ensures { result ≡ self.now.drawing }
     {
-        Drawing {
-            file: self.file,
-            plan: self.plan,
-        }
+        Drawing::of(self.file, self.plan)
     }
 
     // Its net's file and table with a colour for each variable.

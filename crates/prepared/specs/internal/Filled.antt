@@ -33,10 +33,11 @@ pub record HeadsPlaced (heads : List Head) (before plan : List ℕ) : Type 0 whe
   pub guards_are : (t : ℕ) → t < 32 → get_or plan (120 + t) 0 ≡ guard_number (get_or heads t no_head).guard
   pub others : OthersKept 88 64 before plan
 
--- sets, variables, and of each transition its variables one by one, and where its guard stands; what stands behind them is kept
+-- sets, variables, and of each transition its variables, as bits and one by one, and where its guard stands; what stands behind them is kept
 pub record ListsPlaced (sizes vars : List ℕ) (heads : List Head) (transitions : ℕ) (before plan : List ℕ) : Type 0 where
   pub sets : ListStands 8 sizes plan
   pub variables : ListStands 24 vars plan
+  pub uses : (t : ℕ) → t < 32 → get_or plan (88 + t) 0 ≡ (get_or heads t no_head).uses
   pub guards : (t : ℕ) → t < 32 → get_or plan (120 + t) 0 ≡ guard_number (get_or heads t no_head).guard
   pub owned : (n : Net) → n.sets ≡ sizes → n.variables ≡ vars → Limits n → length n.transitions ≡ transitions
       → ((t : ℕ) → t < length n.transitions → (get_or heads t no_head).uses ≡ bits (λ v. in_transition v (transition_at n t)) 32) → Owned n (own_in plan)

@@ -1,10 +1,19 @@
 use Rattle.std.proofs.Common.{◌*◌, ◌+◌, ap, sym, ◌∙◌, arith}
-use Rattle.prepared.proofs.Listing.{slotting_begins, slotting_goes, slotting_passes, slotting_full, list_ends, few_entries}
+use Rattle.prepared.proofs.Listing.{member_below, slotting_begins, slotting_goes, slotting_passes, slotting_full, list_ends, few_entries}
 use Rattle.prepared.proofs.own.list_slots.Goals as goal
 use Rattle.prepared.proofs.own.list_slots.Goals.{then-k-lt4+then-has, else-k-lt4, else-k-lt4-via-then-k-lt4+else-has, else-k-lt4-via-else-k-lt4}
 
 pub loop-v-init : goal.loop-v-init
 loop-v-init c = slotting_begins _ _ _ _ _ c.told-own
+
+pub overflow_mul-own : goal.overflow_mul-own
+overflow_mul-own c = omega (arith, member_below (omega arith) (sym c.has.ensures ∙ c.if-has.true))
+
+pub overflow_add-own : goal.overflow_add-own
+overflow_add-own c = omega (arith, c.size_of.ensures.small, member_below (omega arith) (sym c.has.ensures ∙ c.if-has.true))
+
+pub overflow_cast-own : goal.overflow_cast-own
+overflow_cast-own c = omega (arith, c.size_of.ensures.small, member_below (omega arith) (sym c.has.ensures ∙ c.if-has.true))
 
 pub loop-v-preserved : goal.loop-v-preserved
 loop-v-preserved c =
@@ -17,10 +26,10 @@ loop-v-preserved c =
     ]
 
 pub returns : goal.returns
-returns c =
+returns c = λ le.
     let here = c.loop-v.invariant in
     record {
-      slots = λ stands e few zeros. list_ends (here.listed (few_entries _ stands e c.args.scope.now.few_variables few) zeros) (omega arith) c.args.scope.now.few_variables stands e;
+      slots = λ stands e few zeros. list_ends (here.listed (few_entries _ stands e le few) zeros) (omega arith) le stands e;
       front = here.front;
       back = here.back;
     }

@@ -4,4 +4,4 @@ use Rattle.prepared.proofs.Listing.{Slotting}
 use Rattle.prepared.proofs.own.list_slots.Given as goal
 
 abbrev pub invariant-loop-v : goal.invariant-loop-v
-invariant-loop-v l = Slotting l.uses (slot_of l.scope.sizes.now l.scope.vars.now) l.base (length l.scope.vars.now) l.initial.own l.own l.k l.v
+invariant-loop-v l = Slotting l.uses (slot_of l.sizes l.vars) l.base (length l.vars) l.initial.own l.own l.k l.v
