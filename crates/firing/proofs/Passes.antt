@@ -11,6 +11,7 @@ use native.Mathlib.Omega.{arith}
 use Prim.Native.Nat.{◌≤◌}
 use borrow.Author.Tests.{le-ltb, ltb-false, leb-true, leb-false}
 use Rattle.reading.specs.Basics.{ℕ, Bool, true, false, not, ltb, leb, List, [], length, get_or, take, drop, find, any}
+use Rattle.firing.specs.Firing.{capacity}
 use Rattle.firing.specs.Arcs.{Arc, Rising, none, more, weight_in}
 use Rattle.firing.specs.internal.Steps.{spilling, Sought, changed_by, changed}
 use Rattle.firing.proofs.Rows.{weight_hit, weight_skip, weight-below}
@@ -37,18 +38,19 @@ rising_on (more f i w r) = from_0 r
 -- ---- looking for an arc
 -- those in front that stand below p have no weight at p or a later place
 pub sought_at : (l : List Arc) (p : ℕ) → Sought l p (drop (position_or_len (λ a. leb p a.place) l) l)
-sought_at [] p = record { passed = λ q h. refl; rises = λ n r. none }
+sought_at [] p = record { passed = λ q h. refl; rises = λ n r. none; stopped = λ other h. absurd (omega arith) }
 sought_at (a ∷ l) p = go (leb p a.place) refl (sought_at l p)
   where
     go : (t : Bool) → leb p a.place ≡ t → Sought l p (drop (position_or_len (λ a. leb p a.place) l) l)
         → Sought (a ∷ l) p (drop (if not t then 1 + position_or_len (λ a. leb p a.place) l else 0) (a ∷ l))
-    go true e later = record { passed = λ q h. refl; rises = λ n r. rising_here r (leb-true p a.place e) }
+    go true e later = record { passed = λ q h. refl; rises = λ n r. rising_here r (leb-true p a.place e); stopped = λ other h. leb-true p a.place e }
     go false e later =
         let below : a.place < p = leb-false p a.place e in
         rw one-add
         (record {
           passed = λ q h. weight_skip a l q (λ z. omega arith) ∙ later.passed q h;
           rises = λ n r. later.rises n (rising_on r);
+          stopped = later.stopped;
         })
 
 -- the same from what a search for the first of the others tells, or the end
@@ -97,31 +99,33 @@ module _ (f : ℕ → ℕ → ℕ) (arcs : List Arc) (m : List ℕ) where
 
 -- ---- the puts, and the takes at their places
 -- a count that fits with the put fits with the take away
-fits : (m : List ℕ) (takes : List Arc) (a : Arc) → spilling [] m [] a ≡ false → spilling [] m takes a ≡ false
+fits : (caps m : List ℕ) (takes : List Arc) (a : Arc) → spilling caps m [] a ≡ false → spilling caps m takes a ≡ false
 unfolding weight_in find
-fits m takes a h = let k = ltb-false 65535 (get_or m a.place 0 - 0 + a.weight) h in le-ltb 65535 (get_or m a.place 0 - weight_in takes a.place + a.weight) (omega arith)
+fits caps m takes a h =
+    let k = ltb-false (capacity caps a.place) (get_or m a.place 0 - 0 + a.weight) h in
+    le-ltb (capacity caps a.place) (get_or m a.place 0 - weight_in takes a.place + a.weight) (omega arith)
 
 pub none_taken : (p : ℕ) → 0 ≡ weight_in [] p
 none_taken p = weight_none [] p (omega arith)
 
-module _ (takes puts : List Arc) (m : List ℕ) (n : ℕ) where
+module _ (takes puts : List Arc) (caps m : List ℕ) (n : ℕ) where
   -- the puts from number i on, each with a take of the rest, tell whether some put spills
   pub record Spilling (rest : List Arc) (i : ℕ) : Type 0 where
     pub from : ℕ
     pub rising : Rising n 0 rest
     pub ahead : Rising n from (drop i puts)
     pub later : (q : ℕ) → from ≤ q → weight_in takes q ≡ weight_in rest q
-    pub same : any (spilling [] m takes) puts ≡ any (spilling [] m takes) (drop i puts)
+    pub same : any (spilling caps m takes) puts ≡ any (spilling caps m takes) (drop i puts)
 
   pub spill_begins : Rising n 0 takes → Rising n 0 puts → Spilling takes 0
   spill_begins t r = record { from = 0; rising = t; ahead = r; later = λ q h. refl; same = refl }
 
   module _ {rest : List Arc} {i : ℕ} (s : Spilling rest i) where
-    pub spill_ends : length puts ≤ i → any (spilling [] m takes) puts ≡ false
+    pub spill_ends : length puts ≤ i → any (spilling caps m takes) puts ≡ false
     unfolding any
     spill_ends h = s.same ∙ go (drop i puts) (omega (arith, length-drop i puts))
       where
-        go : (l : List Arc) → length l < 1 → any (spilling [] m takes) l ≡ false
+        go : (l : List Arc) → length l < 1 → any (spilling caps m takes) l ≡ false
         go [] h = refl
         go (a ∷ l) h = absurd (omega arith)
 
@@ -137,7 +141,7 @@ module _ (takes puts : List Arc) (m : List ℕ) (n : ℕ) where
 
       -- a put that does not spill is passed, with any takes that have no weight at its place or a later one
       passes : {rest' : List Arc} → Rising n 0 rest' → ((q : ℕ) → (get_or puts i other).place ≤ q → weight_in rest q ≡ weight_in rest' q)
-          → spilling [] m takes (get_or puts i other) ≡ false → Spilling rest' (i + 1)
+          → spilling caps m takes (get_or puts i other) ≡ false → Spilling rest' (i + 1)
       unfolding any
       passes r f k =
           record {
@@ -148,8 +152,8 @@ module _ (takes puts : List Arc) (m : List ℕ) (n : ℕ) where
             same = s.same ∙ rw (split, k);
           }
 
-      pub spill_fits : spilling [] m [] (get_or puts i other) ≡ false → Spilling rest (i + 1)
-      spill_fits k = passes s.rising (λ q l. refl) (fits m takes (get_or puts i other) k)
+      pub spill_fits : spilling caps m [] (get_or puts i other) ≡ false → Spilling rest (i + 1)
+      spill_fits k = passes s.rising (λ q l. refl) (fits caps m takes (get_or puts i other) k)
 
       -- tested with the take that is found
       module _ {rest' : List Arc} (sought : Sought rest (get_or puts i other).place rest') {w : ℕ}
@@ -159,9 +163,9 @@ module _ (takes puts : List Arc) (m : List ℕ) (n : ℕ) where
             weighs n (sought.rises n s.rising)
             ∙ sym (s.later (get_or puts i other).place first.0 ∙ sought.passed (get_or puts i other).place (omega arith))
 
-        pub spill_goes : spilling [] m takes (get_or puts i other) ≡ false → Spilling rest' (i + 1)
+        pub spill_goes : spilling caps m takes (get_or puts i other) ≡ false → Spilling rest' (i + 1)
         spill_goes k = passes (from_0 (sought.rises n s.rising)) sought.passed k
 
-        pub spill_hit : spilling [] m takes (get_or puts i other) ≡ true → any (spilling [] m takes) puts ≡ true
+        pub spill_hit : spilling caps m takes (get_or puts i other) ≡ true → any (spilling caps m takes) puts ≡ true
         unfolding any
         spill_hit k = s.same ∙ rw (split, k)

@@ -9,7 +9,7 @@ ghost use Rattle.reading.specs.Basics.{any};
 ghost use Rattle.firing.specs.Firing.{fire, fired};
 ghost use Rattle.firing.specs.Arcs.{Rising, Proper, row, weights, weight_in};
 ghost use Rattle.firing.specs.Replies.{answer_number};
-ghost use Rattle.firing.specs.internal.RowLists.{EndsWithin, row_in, row_held};
+ghost use Rattle.firing.specs.internal.RowLists.{EndsWithin, row_in, row_held, RowWithin};
 ghost use Rattle.firing.specs.internal.Steps.{lacking, hindering, spilling, SmallCapacities, Sought, changed};
 
 pub use kind::Kind;
@@ -83,6 +83,16 @@ pub fn row_arcs(arcs: &[Arc], ends: Ends) -> RowArcs
         puts: &arcs[ends.takes..ends.puts],
         hinders: &arcs[ends.puts..ends.hinders],
     }
+}
+
+// The same where the ends may be out of turn or past the list: it is tested once, and then there is no row.
+pub fn row_within(arcs: &[Arc], ends: Ends) -> Option<RowArcs>
+    ensures { RowWithin arcs.now ends.takes ends.puts ends.hinders result }
+{
+    if ends.puts < ends.takes || ends.hinders < ends.puts || arcs.len() < ends.hinders {
+        return None;
+    }
+    Some(row_arcs(arcs, ends))
 }
 
 // Whether some take is above its count.
@@ -175,14 +185,17 @@ pub fn answer(row: RowArcs, m: &[u16]) -> Answer
     }
 }
 
-// Moves the marking by a row's takes and puts, where the row was answered 0.
-fn move_row(takes: &[Arc], puts: &[Arc], m: &mut [u16])
+// Moves the marking by a row's takes and puts where the row was answered `Fired`, under whatever capacities.
+#[inline]
+pub fn move_row(takes: &[Arc], puts: &[Arc], answer: Answer, m: &mut [u16])
     ensures { (caps : List ℕ) (hinders : List _) → SmallCapacities caps → Proper (length m.old) (row takes.now puts.now hinders)
-        → 0 ≡ (fire caps (weights (row takes.now puts.now hinders)) m.old).answer
-        → fired 0 m.new ≡ fire caps (weights (row takes.now puts.now hinders)) m.old }
+        → answer_number answer ≡ (fire caps (weights (row takes.now puts.now hinders)) m.old).answer
+        → fired (answer_number answer) m.new ≡ fire caps (weights (row takes.now puts.now hinders)) m.old }
 {
-    change(takes, |count, weight| count.saturating_sub(weight), m);
-    change(puts, |count, weight| count.wrapping_add(weight), m);
+    if answer == Answer::Fired {
+        change(takes, |count, weight| count.saturating_sub(weight), m);
+        change(puts, |count, weight| count.wrapping_add(weight), m);
+    }
 }
 
 // Fires a row of which no take is lacking: its answer, and the marking after it.
@@ -193,9 +206,7 @@ pub fn fire_rest(row: RowArcs, m: &mut [u16]) -> Answer
         → fired (answer_number result) m.new ≡ fire [] (weights (row_held row.entry)) m.old }
 {
     let answer = rest_answer(row, m);
-    if answer == Answer::Fired {
-        move_row(row.takes, row.puts, m);
-    }
+    move_row(row.takes, row.puts, answer, m);
     answer
 }
 

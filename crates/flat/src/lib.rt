@@ -8,9 +8,12 @@ ghost use Rattle.flat_file.specs.Flat.{fire_images, first_row, flat_sizes};
 ghost use Rattle.flat_file.specs.internal.ReaderEnums.{most_rows, most_arcs};
 ghost use Rattle.flat.specs.Replies.{fire_called, first_reply, sizes_reply};
 
-use firing::{Arc, Searched};
-use flat_file::{FlatSizes, scan_file};
-use reading::{Reason, Refusal, once_more, refused};
+use firing::Arc;
+pub use firing::Searched;
+pub use flat_file::FlatSizes;
+use flat_file::scan_file;
+pub use reading::Refusal;
+use reading::{Reason, once_more, refused};
 use rows::Rows;
 
 // How many flat places and rows a flat file has, or the refusal.

@@ -1,5 +1,5 @@
 -- Rows in one lent list of arcs.
-use Rattle.std.specs.Prelude.{◌≤◌, ◌-◌}
+use Rattle.std.specs.Prelude.{◌≡◌, ◌≤◌, ◌-◌, Option, Some, None}
 use Rattle.reading.specs.Basics.{ℕ, List, length, take, drop}
 use Rattle.firing.specs.Arcs.{Arc, Row, row}
 use Rattle.firing.specs.declared.RowArcs.{RowArcs}
@@ -19,3 +19,8 @@ EndsWithin arcs takes puts hinders = (takes ≤ puts) × (puts ≤ hinders) × (
 -- the row that three slices hold
 abbrev pub row_held : RowArcs → Row
 row_held r = row r.takes.now r.puts.now r.hinders.now
+
+-- that row, or none where they don't
+abbrev pub RowWithin : List Arc → ℕ → ℕ → ℕ → Option RowArcs → Type 0
+RowWithin arcs takes puts hinders None = EndsWithin arcs takes puts hinders → ⊥
+RowWithin arcs takes puts hinders (Some r) = EndsWithin arcs takes puts hinders × (row_held r ≡ row_in arcs takes puts hinders)

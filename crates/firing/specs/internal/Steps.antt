@@ -1,5 +1,5 @@
 -- Firing arc by arc: the three tests, and the change.
-use Rattle.reading.specs.Basics.{ℕ, Bool, List, get_or, ltb, leb}
+use Rattle.reading.specs.Basics.{ℕ, Bool, List, length, get_or, ltb, leb}
 use Rattle.std.specs.Prelude.{◌≡◌, ◌≤◌, ◌<◌, [], set, ◌+◌, ◌-◌, ◌%◌, ◌&&◌, ◌∷◌}
 use Rattle.firing.specs.Firing.{capacity}
 use Rattle.firing.specs.Arcs.{Arc, Rising, weight_in}
@@ -24,6 +24,7 @@ SmallCapacities caps = (p : ℕ) → capacity caps p < 65536
 pub record Sought (arcs : List Arc) (p : ℕ) (rest : List Arc) : Type 0 where
   pub passed : (q : ℕ) → p ≤ q → weight_in arcs q ≡ weight_in rest q
   pub rises : (n : ℕ) → Rising n 0 arcs → Rising n p rest
+  pub stopped : (other : Arc) → 0 < length rest → p ≤ (get_or rest 0 other).place
 
 -- the marking after an arc, and after arc by arc, has changed the count at its place
 abbrev pub changed_by : (ℕ → ℕ → ℕ) → Arc → List ℕ → List ℕ
