@@ -56,5 +56,5 @@ module _ (d : Drawn) (order env : List ℕ) {r : Option Numbered} where
   pub told_nothing : r ≡ None → NamedTold d order env r → named (net_of d) order ≡ none
   told_nothing e told = subst (NamedTold d order env) e told
 
-  pub told_of : {b : Numbered} → r ≡ Some b → NamedTold d order env r → (b.transition.drawing ≡ d) × Names (net_of d) order b.transition.number b.index env
+  pub told_of : {b : Numbered} → r ≡ Some b → NamedTold d order env r → Names (net_of d) order b.transition b.index env
   told_of e told = subst (NamedTold d order env) e told

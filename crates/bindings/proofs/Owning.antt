@@ -16,10 +16,12 @@ use Rattle.net_file.specs.Limits.{Limits}
 use Rattle.net_file.specs.Formed.{Formed}
 use Rattle.bindings.specs.Effect.{stands_for}
 use Rattle.bindings.specs.internal.Numbers.{digits}
-use Rattle.bindings.specs.internal.Bindings.{Binds, binding, numbered}
+use Rattle.bindings.specs.internal.Bindings.{Binds, binding, numbered, its_sizes}
 use Rattle.plan.specs.declared.own.Own.{Own}
-use Rattle.plan.specs.internal.Layout.{slot_size, OwnTold}
+use Rattle.plan.specs.internal.Layout.{own_in, slot_size, OwnTold}
 use Rattle.prepared.specs.internal.TransitionVariables.{own_of}
+use Rattle.prepared.specs.internal.Prepared.{Prepared}
+use Rattle.prepared.specs.internal.Drawn.{DrawnTransition, its_net, IsDrawn}
 use Rattle.bindings.specs.internal.SlotSteps.{colours_at}
 use Rattle.bindings.proofs.Digits.{product-with}
 use Rattle.bindings.proofs.Used.{used_below}
@@ -136,6 +138,10 @@ first_binds n t slots v e = zero_at slots v ∙ sym (zero_stands (theirs n t) (t
 abbrev pub SlotTold : Net → ℕ → ℕ → Option Own → Type 0
 SlotTold n t k own = OwnTold (get_or (own_of n (transition_at n t)) k 0) own
 
+-- it is told by the net's table
+pub slot_by : {s plan : List ℕ} {n : Net} → Prepared s n plan → {t k : ℕ} → t < length n.transitions → k < 4 → (own : Option Own) → OwnTold (get_or (own_in plan) (t * 4 + k) 0) own → SlotTold n t k own
+slot_by p {t} {k} lt few own told = rw (p.owned.slot t k lt few) at told
+
 -- slot k holds a variable, and the size of its set
 pub record SlotHeld (variables sizes : List ℕ) (k : ℕ) (own : Own) : Type 0 where
   pub inside : k < length variables
@@ -228,3 +234,12 @@ module _ {n : Net} (l : Limits n) {t : ℕ} (lt : t < length n.transitions) wher
       let inside : k < length (their_sizes n t) = omega (arith, held.inside, sizes_are n t) in
       rw (all, held.size, so, add-one k)
       (sym (ap product (take-suc (their_sizes n t) k 0 inside) ∙ product-with (take k (their_sizes n t)) (get_or (their_sizes n t) k 0)))
+
+  pub space_ends : {space : ℕ} (k : ℕ) → 4 ≤ k → space ≡ product (take k (their_sizes n t)) → space ≡ product (their_sizes n t)
+  space_ends k all so = so ∙ ap product (take_all k (their_sizes n t) (let h : length (their_sizes n t) ≤ k = omega (arith, few_theirs l lt) in h))
+
+-- what is told of each net that a table is of holds of a transition of a drawing
+pub its_space : (transition : DrawnTransition) {plan : List ℕ} {t space : ℕ} → plan ≡ transition.drawing.plan → IsDrawn transition.drawing.file transition.drawing.plan
+    → t ≡ transition.number → t < length (its_net transition).transitions
+    → ((file : List ℕ) (n : Net) → Prepared file n plan → t < length n.transitions → space ≡ product (their_sizes n t)) → space ≡ product (its_sizes transition)
+its_space transition is known number inside told = rw (is, number) at told transition.drawing.file (its_net transition) known (rw number at inside)

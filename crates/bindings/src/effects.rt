@@ -1,10 +1,11 @@
 // Whether a binding has an effect.
-ghost use Rattle.std.specs.Prelude.{◌≡◌, List, ℕ};
-ghost use Rattle.prepared.specs.internal.Drawn.{its_net, Stands};
+ghost use Rattle.std.specs.Prelude.{◌≡◌, ◌<◌, List, ℕ};
+ghost use Rattle.prepared.specs.internal.Drawn.{its_net};
 ghost use Rattle.bindings.specs.Effect.{legal};
 ghost use Rattle.bindings.specs.internal.Bindings.{Binds, binding};
 ghost use Rattle.bindings.specs.internal.Legal.{every_row};
 
+use plan::guard_of;
 use prepared::Transition;
 
 // Whether a transition's binding has an effect: it has no guard, or its guard holds.
@@ -19,9 +20,9 @@ pub fn has_effect(transition: &Transition, env: &[u8; 32]) -> bool
 }
 
 // Whether each of a transition's bindings has an effect, whatever its colours: it has no guard.
-pub fn every_binding_has_row(transition: &Transition) -> bool
-    ensures is { result ≡ every_row transition.now.drawing.plan transition.now.number }
-    ensures known { Stands transition.now }
+pub fn every_binding_has_row(plan: &[u32; 3584], t: usize) -> bool
+    requires { t < 32 }
+    ensures { result ≡ every_row plan.now t }
 {
-    transition.guard().is_none()
+    guard_of(plan, t).is_none()
 }

@@ -1,10 +1,12 @@
 // Bindings by each transition's own variables: how many, and the next one.
-ghost use Rattle.std.specs.Prelude.{◌≡◌, ℕ, ◌≤◌, ◌<◌, ◌+◌};
+ghost use Rattle.std.specs.Prelude.{◌≡◌, List, ℕ, ◌≤◌, ◌<◌, ◌+◌, length};
 ghost use Rattle.reading.specs.Basics.{product};
+ghost use Rattle.net.specs.Net.{Net, sizes_of, transition_at};
+ghost use Rattle.prepared.specs.internal.Prepared.{Prepared};
 ghost use Rattle.bindings.specs.internal.Bindings.{its_sizes, BindsIts};
 ghost use Rattle.bindings.specs.internal.SlotSteps.{colours_at, Turned, Skipped};
 
-use plan::Own;
+use plan::{Own, own_of};
 use prepared::Transition;
 
 // How many colours a slot's variable has; 1 for a slot that is not used.
@@ -15,14 +17,15 @@ pub fn colours_of(own: Option<Own>) -> usize
     own.map_or(1, |own| own.size.into())
 }
 
-// How many bindings a transition has.
-pub fn space_of(transition: &Transition) -> usize
-    ensures is { result ≡ product (its_sizes transition.now) }
+// How many bindings a transition has, by its net's table.
+pub fn space_of(plan: &[u32; 3584], t: usize) -> usize
+    requires { t < 32 }
+    ensures is { (file : List ℕ) (n : Net) → Prepared file n plan.now → t < length n.transitions → result ≡ product (sizes_of n (transition_at n t)) }
     ensures small { result ≤ 4228250625 }
 {
     let mut space: usize = 1;
     for k in 0..4 {
-        space *= colours_of(transition.own(k));
+        space *= colours_of(own_of(plan, t, k));
     }
     space
 }

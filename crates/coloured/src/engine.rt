@@ -41,7 +41,7 @@ impl<const ARCS: usize> Orders<'_, ARCS> {
         let Some(named) = name_order(self.drawing, order, env) else {
             return Answer::NoBinding;
         };
-        match load_bound(&named.transition, env, m, arcs) {
+        match load_bound(&self.drawing.transition(named.transition), env, m, arcs) {
             Ok(ends) => fire_rest(row_arcs(arcs, ends), m),
             Err(answer) => answer,
         }

@@ -8,10 +8,9 @@ use Rattle.reading.specs.Basics.{ℕ, List, none, some, length, over}
 use Rattle.reading.specs.Reading.{Outcome, accepted, refused, refusing}
 use Rattle.net.specs.Net.{Net}
 use Rattle.prepared.specs.internal.Drawn.{Drawn, net_of}
-use Rattle.bindings.specs.internal.Bindings.{its_sizes}
+use Rattle.bindings.specs.internal.Bindings.{numbered}
 use Rattle.net_file.specs.NetFile.{read_net}
 use Rattle.bindings.specs.Orders.{order_of}
-use Rattle.bindings.specs.internal.Numbers.{digits}
 use Rattle.row_numbers.specs.Unfolding.{WriteCall, images, images_call, order_call}
 use Rattle.row_numbers.specs.internal.Walked.{LocatedTold}
 use Rattle.bindings.specs.Replies.{bytes_of}
@@ -55,6 +54,6 @@ module _ (s : List ℕ) (row : ℕ) (d : Drawn) (is : read_net s ≡ accepted (n
   order_none e h = rw (is, subst (LocatedTold d row) e h)
 
   pub order_found : {b : Numbered} {r : reply.Option Numbered} (o : Order) → r ≡ reply.Some b → LocatedTold d row r
-      → bytes_of o ≡ order_of (record { transition = b.transition.number; colours = digits (its_sizes b.transition) b.index }) → accepted (some (bytes_of o)) ≡ order_call s row
+      → bytes_of o ≡ order_of (numbered (net_of d) b.transition b.index) → accepted (some (bytes_of o)) ≡ order_call s row
   unfolding order_call
-  order_found o e h f = let (here, w) = subst (LocatedTold d row) e h in rw (is, w) (ap (λ l. accepted (some l)) (rw here at f))
+  order_found o e h f = rw (is, (subst (LocatedTold d row) e h).1) (ap (λ l. accepted (some l)) f)

@@ -1,9 +1,9 @@
 // The images of a list of orders, by the table of row numbers.
 ghost use Rattle.std.specs.Prelude.{◌≡◌, ◌≤◌, ◌<◌, ◌+◌, ◌*◌, ◌/◌, length};
 ghost use Rattle.reading.specs.Basics.{over, product};
+ghost use Rattle.net.specs.Net.{sizes_of, transition_at};
 ghost use Rattle.net_file.specs.Limits.{Limits};
 ghost use Rattle.prepared.specs.internal.Drawn.{net_of};
-ghost use Rattle.bindings.specs.internal.Bindings.{its_sizes};
 ghost use Rattle.row_numbers.specs.Unfolding.{row_number, image, images};
 ghost use Rattle.row_numbers.specs.internal.Walked.{order_at, entries, Starts};
 ghost use Rattle.flat_file.specs.internal.Output.{Appended};
@@ -35,15 +35,16 @@ struct RowTable<'a> {
 
 impl RowTable<'_> {
     // The row number of a binding: where every binding of its transition has a row they follow each other from its start on, else they stand in the table from there on.
-    fn row_at(&self, binding: &Numbered) -> u32
-        requires here { binding.now.transition.drawing ≡ self.now.drawing.now }
-        requires inside { binding.now.index < product (its_sizes binding.now.transition) }
-        ensures { result ≡ row_number (net_of self.now.drawing.now) (order_at (net_of self.now.drawing.now) binding.now.transition.number binding.now.index) }
+    fn row_at(&self, binding: Numbered) -> u32
+        requires room { binding.transition < 32 }
+        requires here { binding.transition < length (net_of self.now.drawing.now).transitions }
+        requires inside { binding.index < product (sizes_of (net_of self.now.drawing.now) (transition_at (net_of self.now.drawing.now) binding.transition)) }
+        ensures { result ≡ row_number (net_of self.now.drawing.now) (order_at (net_of self.now.drawing.now) binding.transition binding.index) }
     {
+        let Numbered { transition, index } = binding;
         let starts = self.starts;
-        let transition = &binding.transition;
-        let place = starts[transition.number()].saturating_add(binding.index);
-        if every_binding_has_row(transition) {
+        let place = starts[transition].saturating_add(index);
+        if every_binding_has_row(self.drawing.plan(), transition) {
             (place % 65536) as u32
         } else {
             element(self.numbers, place, 0)
@@ -56,7 +57,7 @@ impl RowTable<'_> {
         ensures { result ≡ row_number (net_of self.now.drawing.now) order.now }
     {
         match name_order(self.drawing, order, env) {
-            Some(binding) => self.row_at(&binding),
+            Some(binding) => self.row_at(binding),
             None => u32::MAX,
         }
     }

@@ -65,7 +65,7 @@ pub fn row_order(net: &[u8], row: u32) -> Result<Option<Order>, Refusal>
     let drawing = Drawing::read(net, &mut plan, &mut initial)?;
     // A match in the place of `map`, whose closure would need its own clauses.
     match seek_row(&drawing, row as usize) {
-        Some(binding) => Ok(Some(order_at(&binding.transition, binding.index))),
+        Some(binding) => Ok(Some(order_at(&drawing.transition(binding.transition), binding.index))),
         None => Ok(None),
     }
 }

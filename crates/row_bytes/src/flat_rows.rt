@@ -21,7 +21,9 @@ impl<const ARCS: usize> Stretch<'_, ARCS> {
         ensures is { result ≡ length (bytes_at self.now.transition i) }
         ensures small { result ≤ 61441 }
     {
-        if has_row(&self.transition, self.marks, self.base + i) {
+        let plan = self.transition.plan();
+        let t = self.transition.number();
+        if has_row(plan, t, self.marks, self.base + i) {
             let ends = load_row(&self.transition, env, arcs);
             return 1 + 5 * ends.hinders;
         }
@@ -69,14 +71,16 @@ impl<const ARCS: usize> Stretch<'_, ARCS> {
             marks,
             ..
         } = *self;
+        let plan = self.transition.plan();
+        let t = self.transition.number();
         let mut env = [0u8; 32];
         let mut next = at;
         let mut i: usize = 0;
         while i < many {
-            if has_none(&self.transition, marks, base + i, many - i) {
+            if has_none(plan, t, marks, base + i, many - i) {
                 skip_bindings(&self.transition, 32, &mut env);
                 i += 32;
-            } else if has_row(&self.transition, marks, base + i) {
+            } else if has_row(plan, t, marks, base + i) {
                 next = self.write_bound(&env, arcs, out, next);
                 next_binding(&self.transition, &mut env);
                 i += 1;

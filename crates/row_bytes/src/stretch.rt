@@ -46,13 +46,13 @@ impl<'a, const ARCS: usize> Iterator for Stretches<'a, ARCS> {
         if drawing.transitions() <= t {
             return None;
         }
-        let transition = drawing.transition(t);
-        let many = space_of(&transition);
+        let plan = drawing.plan();
+        let many = space_of(plan, t);
         let base = self.base;
         self.t += 1;
-        self.base += entries_of(&transition);
+        self.base += entries_of(plan, t, many);
         Some(Stretch {
-            transition,
+            transition: drawing.transition(t),
             marks,
             many,
             base,

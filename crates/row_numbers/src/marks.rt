@@ -3,7 +3,8 @@ ghost use Rattle.std.specs.Prelude.{◌≡◌, true, false, ◌||◌, ◌&&◌, 
 ghost use Rattle.reading.specs.Basics.{product};
 ghost use Rattle.prepared.specs.internal.Drawn.{net_of, its_net};
 ghost use Rattle.bindings.specs.internal.Bindings.{its_sizes, BindsIts};
-ghost use Rattle.row_numbers.specs.internal.Walked.{its_every_row, it_takes, its_effects};
+ghost use Rattle.bindings.specs.internal.Legal.{every_row};
+ghost use Rattle.row_numbers.specs.internal.Walked.{it_takes, its_effects};
 ghost use Rattle.row_numbers.specs.internal.Marks.{mark_at, has_row, Blank, BindingsMarked, Marked, RowsCounted};
 
 use bindings::{every_binding_has_row, has_effect, next_binding, space_of};
@@ -27,18 +28,20 @@ fn mark_at(marks: &[u32; 2048], k: usize) -> bool
 }
 
 // Whether a binding has a row: where every binding has one it has, else its mark tells.
-pub fn has_row(transition: &Transition, marks: &[u32; 2048], k: usize) -> bool
-    ensures { k < 65536 → result ≡ has_row (its_every_row transition.now) marks.now k }
+pub fn has_row(plan: &[u32; 3584], t: usize, marks: &[u32; 2048], k: usize) -> bool
+    requires { t < 32 }
+    ensures { k < 65536 → result ≡ has_row (every_row plan.now t) marks.now k }
 {
-    every_binding_has_row(transition) || mark_at(marks, k)
+    every_binding_has_row(plan, t) || mark_at(marks, k)
 }
 
 // Whether the transition's bindings have marks, so many are left, at least 32, and none of the next 32 has a row: their marks are one word, from number k on.
-pub fn has_none(transition: &Transition, marks: &[u32; 2048], k: usize, left: usize) -> bool
-    ensures { result ≡ true → (its_every_row transition.now ≡ false) × (32 ≤ left)
+pub fn has_none(plan: &[u32; 3584], t: usize, marks: &[u32; 2048], k: usize, left: usize) -> bool
+    requires { t < 32 }
+    ensures { result ≡ true → (every_row plan.now t ≡ false) × (32 ≤ left)
         × ((j : ℕ) → j < 32 → mark_at marks.now (k + j) ≡ false) }
 {
-    if every_binding_has_row(transition) || left < 32 || 0 < k % 32 {
+    if every_binding_has_row(plan, t) || left < 32 || 0 < k % 32 {
         return false;
     }
     element(marks, k / 32, 1) == 0
@@ -65,7 +68,7 @@ fn mark_those(transition: &Transition, base: usize, marks: &mut [u32; 2048]) -> 
 {
     let mut env = [0u8; 32];
     let mut count: usize = 0;
-    for i in 0..space_of(transition) {
+    for i in 0..space_of(transition.plan(), transition.number()) {
         count += usize::from(mark_one(transition, &env, base + i, marks));
         next_binding(transition, &mut env);
     }
@@ -78,14 +81,14 @@ pub fn mark_all(drawing: &Drawing, marks: &mut [u32; 2048], counts: &mut [usize;
         → Marked (net_of drawing.now) drawing.now.plan marks.new (length (net_of drawing.now).transitions)
         × RowsCounted (net_of drawing.now) counts.new (length (net_of drawing.now).transitions) }
 {
+    let plan = drawing.plan();
     let mut base: usize = 0;
     for t in 0..drawing.transitions() {
-        let transition = drawing.transition(t);
-        let many = space_of(&transition);
-        if every_binding_has_row(&transition) {
+        let many = space_of(plan, t);
+        if every_binding_has_row(plan, t) {
             counts[t] = many;
         } else {
-            counts[t] = mark_those(&transition, base, marks);
+            counts[t] = mark_those(&drawing.transition(t), base, marks);
             base += many;
         }
     }

@@ -1,4 +1,5 @@
 // The way back: from a row number to its binding.
+ghost use Rattle.std.specs.Prelude.{◌<◌, IfSome};
 ghost use Rattle.row_numbers.specs.internal.Walked.{SoughtTold, LocatedTold};
 
 use crate::walk::count_one;
@@ -11,7 +12,7 @@ fn seek_guarded(transition: &Transition, row: usize) -> Result<usize, usize>
 {
     let mut env = [0u8; 32];
     let mut count: usize = 0;
-    for i in 0..space_of(transition) {
+    for i in 0..space_of(transition.plan(), transition.number()) {
         let next = count + count_one(transition, &env);
         if row < next {
             return Ok(i);
@@ -26,22 +27,29 @@ fn seek_guarded(transition: &Transition, row: usize) -> Result<usize, usize>
 fn seek_in(transition: &Transition, row: usize) -> Result<usize, usize>
     ensures { SoughtTold transition.now row result }
 {
-    if !every_binding_has_row(transition) {
+    let plan = transition.plan();
+    let t = transition.number();
+    if !every_binding_has_row(plan, t) {
         return seek_guarded(transition, row);
     }
-    let size = space_of(transition);
+    let size = space_of(plan, t);
     (row < size).then_some(row).ok_or(size)
 }
 
 // The binding of a row, if there is one.
-pub fn seek_row<'a>(drawing: &Drawing<'a>, row: usize) -> Option<Numbered<'a>>
-    ensures { LocatedTold drawing.now row result }
+pub fn seek_row(drawing: &Drawing, row: usize) -> Option<Numbered>
+    ensures told { LocatedTold drawing.now row result }
+    ensures room { IfSome result (λ b. b.transition < 32) }
 {
     let mut left = row;
     for t in 0..drawing.transitions() {
-        let transition = drawing.transition(t);
-        match seek_in(&transition, left) {
-            Ok(index) => return Some(Numbered { transition, index }),
+        match seek_in(&drawing.transition(t), left) {
+            Ok(index) => {
+                return Some(Numbered {
+                    transition: t,
+                    index,
+                });
+            }
             Err(rows) => left -= rows,
         }
     }

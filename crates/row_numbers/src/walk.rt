@@ -3,7 +3,8 @@ ghost use Rattle.std.specs.Prelude.{◌≡◌, ℕ, ◌≤◌, ◌<◌, ◌+◌,
 ghost use Rattle.reading.specs.Basics.{product};
 ghost use Rattle.prepared.specs.internal.Drawn.{net_of, its_net, IsDrawn};
 ghost use Rattle.bindings.specs.internal.Bindings.{its_sizes, BindsIts};
-ghost use Rattle.row_numbers.specs.internal.Walked.{its_every_row, it_takes, its_effects, entries_at, entries, NumbersFrom, Starts};
+ghost use Rattle.bindings.specs.internal.Legal.{every_row};
+ghost use Rattle.row_numbers.specs.internal.Walked.{it_takes, its_effects, entries_at, entries, NumbersFrom, Starts};
 
 use bindings::{every_binding_has_row, has_effect, next_binding, space_of};
 use prepared::{Drawing, Transition};
@@ -39,7 +40,7 @@ fn number_those(transition: &Transition, base: usize, count: usize, numbers: &mu
 {
     let mut env = [0u8; 32];
     let mut total = count;
-    for i in 0..space_of(transition) {
+    for i in 0..space_of(transition.plan(), transition.number()) {
         let next = total + count_one(transition, &env);
         store(numbers, base + i, number_of(total, next));
         total = next;
@@ -48,15 +49,16 @@ fn number_those(transition: &Transition, base: usize, count: usize, numbers: &mu
     total
 }
 
-// How many entries a transition has in the table: one for each binding, none where every binding has a row.
-pub fn entries_of(transition: &Transition) -> usize
-    ensures is { result ≡ entries_at (its_every_row transition.now) (product (its_sizes transition.now)) }
-    ensures small { result ≤ 4228250625 }
+// How many entries a transition with so many bindings has in the table: one for each, none where every binding has a row.
+pub fn entries_of(plan: &[u32; 3584], t: usize, size: usize) -> usize
+    requires { t < 32 }
+    ensures is { result ≡ entries_at (every_row plan.now t) size }
+    ensures small { result ≤ size }
 {
-    if every_binding_has_row(transition) {
+    if every_binding_has_row(plan, t) {
         0
     } else {
-        space_of(transition)
+        size
     }
 }
 
@@ -64,9 +66,10 @@ pub fn entries_of(transition: &Transition) -> usize
 pub fn count_entries(drawing: &Drawing) -> usize
     ensures { result ≡ entries (net_of drawing.now) drawing.now.plan (length (net_of drawing.now).transitions) }
 {
+    let plan = drawing.plan();
     let mut total: usize = 0;
     for t in 0..drawing.transitions() {
-        total += entries_of(&drawing.transition(t));
+        total += entries_of(plan, t, space_of(plan, t));
     }
     total
 }
@@ -77,17 +80,17 @@ pub fn number_all(drawing: &Drawing, starts: &mut [usize; 32], numbers: &mut [u3
         → Starts (net_of drawing.now) drawing.now.plan starts.new numbers.new (length (net_of drawing.now).transitions) }
     ensures known { IsDrawn drawing.now.file drawing.now.plan }
 {
+    let plan = drawing.plan();
     let mut base: usize = 0;
     let mut count: usize = 0;
     for t in 0..drawing.transitions() {
-        let transition = drawing.transition(t);
-        let size = space_of(&transition);
-        if every_binding_has_row(&transition) {
+        let size = space_of(plan, t);
+        if every_binding_has_row(plan, t) {
             starts[t] = count;
             count += size;
         } else {
             starts[t] = base;
-            count = number_those(&transition, base, count, numbers);
+            count = number_those(&drawing.transition(t), base, count, numbers);
             base += size;
         }
     }

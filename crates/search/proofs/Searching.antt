@@ -1,7 +1,7 @@
 -- The search for the first order that fires, transition by transition. Assumes nothing.
 use Rattle.std.specs.Prelude.{◌+◌, if◌then◌else◌}
 use mathlib.Core.Path.{◌≡◌, refl, sym, ap, subst, ◌∙◌}
-use Prim.Native.Nat.{◌<◌}
+use Prim.Native.Nat.{◌≤◌, ◌<◌}
 use native.Mathlib.Omega.{arith}
 use native.Mathlib.Nat.{add-zero}
 use Rattle.reading.specs.Basics.{ℕ, zero, suc, Bool, true, false, List, map, some, length, get_elem?, eqb, numbers_from, below, product}
@@ -30,7 +30,7 @@ seek_begin n m = record { none = search_begin _ _; at = refl }
 
 -- a search of so many numbers from a on tries each up to the one that it finds, or all
 abbrev Counted : ℕ → ℕ → First ℕ → Type 0
-Counted many a (found i tried) = i + 1 ≡ a + tried
+Counted many a (found i tried) = (i + 1 ≡ a + tried) × (tried ≤ many)
 Counted many a (nothing tried) = many ≡ tried
 
 counted : (probe : ℕ → Bool) (many a : ℕ) → Counted many a (first probe (numbers_from a many))
@@ -39,8 +39,8 @@ counted probe zero a = refl
 counted probe (suc many) a = go (probe a) (first probe (numbers_from (a + 1) many)) (counted probe many (a + 1))
   where
     go : (t : Bool) (x : First ℕ) → Counted many (a + 1) x → Counted (suc many) a (if t then found a 1 else one_more x)
-    go true x c = refl
-    go false (found i tried) c = omega arith
+    go true x c = (refl, omega arith)
+    go false (found i tried) c = (omega (arith, c.0), omega (arith, c.1))
     go false (nothing tried) c = omega arith
 
 module _ {s plan : List ℕ} {n : Net} (ready : Prepared s n plan) (m : List ℕ) (t tried : ℕ) (inside : t < length n.transitions) (here : Seeking n m tried t) where
@@ -67,11 +67,11 @@ module _ {s plan : List ℕ} {n : Net} (ready : Prepared s n plan) (m : List ℕ
   whole = stretch test (map order_of (bindings n)) tried (λ j. order_of (numbered n t j)) probe many 0 (rw add-zero here.none) tries
 
   -- one of them fires
-  pub seek_found : {i k : ℕ} → first probe (below many) ≡ found i k → first test (map order_of (bindings n)) ≡ found (order_of (numbered n t i)) (tried + k)
+  pub seek_found : {i k : ℕ} → first probe (below many) ≡ found i k → (first test (map order_of (bindings n)) ≡ found (order_of (numbered n t i)) (tried + k)) × (i < many)
   seek_found {i} {k} is =
-      let c : i + 1 ≡ 0 + k = subst (Counted many 0) is (counted probe many 0) in
-      let e : tried + i + 1 ≡ tried + k = omega arith in
-      rw e at (subst (Stretch test (map order_of (bindings n)) tried (λ j. order_of (numbered n t j)) probe (0 + many)) is whole)
+      let c : Counted many 0 (found i k) = subst (Counted many 0) is (counted probe many 0) in
+      let e : tried + i + 1 ≡ tried + k = omega (arith, c.0) in
+      (rw e at (subst (Stretch test (map order_of (bindings n)) tried (λ j. order_of (numbered n t j)) probe (0 + many)) is whole), omega (arith, c.0, c.1))
 
   -- none does: the next transition
   pub seek_next : {k : ℕ} → first probe (below many) ≡ nothing k → Seeking n m (tried + k) (t + 1)

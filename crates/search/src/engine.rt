@@ -8,7 +8,7 @@ ghost use Rattle.bindings.specs.Replies.{bytes_of};
 ghost use Rattle.bindings.specs.internal.Bindings.{BindsIts, its_sizes};
 ghost use Rattle.prepared.specs.internal.Drawn.{net_of};
 ghost use Rattle.rows.specs.internal.Effects.{room};
-ghost use Rattle.search.specs.internal.Searched.{fires_its, first_fires, search_told};
+ghost use Rattle.search.specs.internal.Searched.{fires_its, first_fires, search_told, SearchWithin};
 
 use bindings::{Numbered, Order, next_binding, order_at, space_of};
 use firing::{Answer, Arc, Searched, rest_answer, row_arcs};
@@ -26,7 +26,7 @@ struct Marked<'a, const ARCS: usize> {
     ghost sized: { length marking.now ≡ flat_place_count (net_of drawing.now) },
 }
 
-impl<'a, const ARCS: usize> Marked<'a, ARCS> {
+impl<const ARCS: usize> Marked<'_, ARCS> {
     // Whether a binding of a transition, whose colours env has, would fire. It and the next ask that the transition is one of the drawing: a struct of both
     // would be made at each.
     fn fires_bound(self, transition: &Transition, env: &[u8; 32], arcs: &mut [Arc; ARCS]) -> bool
@@ -45,7 +45,7 @@ impl<'a, const ARCS: usize> Marked<'a, ARCS> {
         ensures is { first (fires_its transition.now self.entry.marking.now) (below (product (its_sizes transition.now))) ≡ searched (λ i. i) result }
         ensures small { result.tried ≤ 4228250625 }
     {
-        let many = space_of(transition);
+        let many = space_of(transition.plan(), transition.number());
         let mut env = [0u8; 32];
         for i in 0..many {
             if self.fires_bound(transition, &env, arcs) {
@@ -63,17 +63,20 @@ impl<'a, const ARCS: usize> Marked<'a, ARCS> {
     }
 
     // The first binding that would fire.
-    fn search_all(self, arcs: &mut [Arc; ARCS]) -> Searched<Numbered<'a>>
-        ensures { first_fires (net_of self.entry.drawing.now) self.entry.marking.now ≡ search_told result }
+    fn search_all(self, arcs: &mut [Arc; ARCS]) -> Searched<Numbered>
+        ensures told { first_fires (net_of self.entry.drawing.now) self.entry.marking.now ≡ search_told (net_of self.entry.drawing.now) result }
+        ensures within { SearchWithin (net_of self.entry.drawing.now) result }
     {
         let mut tried = 0;
         for t in 0..self.drawing.transitions() {
-            let transition = self.drawing.transition(t);
-            let here = self.search_bindings(&transition, arcs);
+            let here = self.search_bindings(&self.drawing.transition(t), arcs);
             tried += here.tried;
             if let Some(index) = here.found {
                 return Searched {
-                    found: Some(Numbered { transition, index }),
+                    found: Some(Numbered {
+                        transition: t,
+                        index,
+                    }),
                     tried,
                 };
             }
@@ -91,7 +94,7 @@ impl<'a, const ARCS: usize> Marked<'a, ARCS> {
             return Searched { found: None, tried };
         };
         Searched {
-            found: Some(order_at(&b.transition, b.index)),
+            found: Some(order_at(&self.drawing.transition(b.transition), b.index)),
             tried,
         }
     }

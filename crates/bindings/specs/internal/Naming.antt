@@ -17,4 +17,4 @@ pub record Names (n : Net) (order : List ℕ) (t index : ℕ) (env : List ℕ) :
 -- what the code says of an order
 abbrev pub NamedTold : Drawn → List ℕ → List ℕ → Option Numbered → Type 0
 NamedTold d order env None = named (net_of d) order ≡ none
-NamedTold d order env (Some b) = (b.transition.drawing ≡ d) × Names (net_of d) order b.transition.number b.index env
+NamedTold d order env (Some b) = Names (net_of d) order b.transition b.index env

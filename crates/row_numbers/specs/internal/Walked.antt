@@ -76,5 +76,5 @@ SoughtTold t row (Err rows) = (rows ≤ row) × (rows ≡ its_effects t (product
 
 -- among all
 abbrev pub LocatedTold : Drawn → ℕ → Option Numbered → Type 0
-LocatedTold d row (Some b) = (b.transition.drawing ≡ d) × (order_of_row (net_of d) row ≡ some (order_at (net_of d) b.transition.number b.index))
+LocatedTold d row (Some b) = (b.transition < length (net_of d).transitions) × (order_of_row (net_of d) row ≡ some (order_at (net_of d) b.transition b.index))
 LocatedTold d row None = order_of_row (net_of d) row ≡ none

@@ -7,6 +7,7 @@ use native.Mathlib.Omega.{arith}
 use borrow.Author.Tests.{ltb-true, ltb-false}
 use Rattle.reading.specs.Basics.{ℕ, Bool, true, false, ltb}
 use Rattle.prepared.specs.internal.Drawn.{DrawnTransition}
+use Rattle.bindings.proofs.Owning.{its_space}
 use Rattle.row_numbers.specs.internal.Walked.{SoughtTold}
 use Rattle.row_numbers.proofs.Tabled.{every_takes, effects-every}
 use Rattle.row_numbers.proofs.seek.seek_in.Goals as goal
@@ -22,9 +23,10 @@ sought t row size here past = go (ltb row size) refl
 
 pub returns : goal.returns
 returns c =
-    let (p, lt) = c.every_binding_has_row.ensures.known in
-    let every = sym c.every_binding_has_row.ensures.is ∙ c.if-not-every_binding_has_row.false in
-    let size = c.space_of-size.ensures.is in
+    let p = c.plan-plan.ensures.known in
+    let lt = rw c.number-t.ensures.is at c.number-t.ensures.inside in
+    let every = rw (c.plan-plan.ensures.is, c.number-t.ensures.is) at (sym c.every_binding_has_row.ensures ∙ c.if-not-every_binding_has_row.false) in
+    let size = its_space c.args.transition.now c.plan-plan.ensures.is p c.number-t.ensures.is c.number-t.ensures.inside c.space_of-size.ensures.is in
     rw (c.ok_or.ensures.value, c.then_some.ensures) (sought c.args.transition.now c.args.row c.space_of-size.result
     (λ h. (omega (arith, size), sym (every_takes p lt every c.args.row), effects-every p lt every c.args.row))
     (λ h. (h, size ∙ effects-every p lt every _)))

@@ -19,7 +19,7 @@ loop-i-init g c = record {
 pub loop-i-preserved-then-has_none : goal.loop-i-preserved-then-has_none
 loop-i-preserved-then-has_none g c =
     let so_far = c.loop-i.invariant in
-    let none = c.has_none.ensures c.if-has_none.true in
+    let none = (rw (c.plan-plan.ensures.is, c.number-t.ensures.is) at c.has_none.ensures) c.if-has_none.true in
     let over = known_over c.args.self.now.known c.loop-i.i (omega (arith, none.1)) none.0 none.2 in
     record {
       inside = omega (arith, none.1);
@@ -30,14 +30,14 @@ loop-i-preserved-then-has_none g c =
 
 pub write_bound-next-requires : goal.write_bound-next-requires
 write_bound-next-requires g c =
-    let bound = bound_here c.args.self.now.known c.loop-i-test.true c.has_row.ensures (c.loop-i.invariant.binds c.loop-i-test.true) c.if-has_row.true in
+    let bound = bound_here c.args.self.now.known c.loop-i-test.true (rw (c.plan-plan.ensures.is, c.number-t.ensures.is) at c.has_row.ensures) (c.loop-i.invariant.binds c.loop-i-test.true) c.if-has_row.true in
     let rest = measure_rest (bytes_at c.args.self.now.transition) _ c.args.at c.loop-i.invariant.measured c.loop-i-test.true in
     (omega arith, (omega arith, (bound, omega (arith, rest, c.requires, ap length (all_given c.args.self.now.known)))))
 
 pub loop-i-preserved-then-has_row : goal.loop-i-preserved-then-has_row
 loop-i-preserved-then-has_row g c =
     let so_far = c.loop-i.invariant in
-    let written = c.write_bound-next.ensures (bound_here c.args.self.now.known c.loop-i-test.true c.has_row.ensures (so_far.binds c.loop-i-test.true) c.if-has_row.true) in
+    let written = c.write_bound-next.ensures (bound_here c.args.self.now.known c.loop-i-test.true (rw (c.plan-plan.ensures.is, c.number-t.ensures.is) at c.has_row.ensures) (so_far.binds c.loop-i-test.true) c.if-has_row.true) in
     record {
       inside = omega arith;
       binds = λ lt. c.next_binding.ensures _ (omega (arith, c.args.self.now.known.size)) (so_far.binds c.loop-i-test.true);
@@ -48,7 +48,7 @@ loop-i-preserved-then-has_row g c =
 pub loop-i-preserved : goal.loop-i-preserved
 loop-i-preserved g c =
     let so_far = c.loop-i.invariant in
-    let past = known_past c.args.self.now.known c.loop-i-test.true c.has_row.ensures c.if-has_row.false in
+    let past = known_past c.args.self.now.known c.loop-i-test.true (rw (c.plan-plan.ensures.is, c.number-t.ensures.is) at c.has_row.ensures) c.if-has_row.false in
     record {
       inside = omega arith;
       binds = λ lt. c.next_binding-else-has_row.ensures _ (omega (arith, c.args.self.now.known.size)) (so_far.binds c.loop-i-test.true);

@@ -1,3 +1,4 @@
+use mathlib.Core.Path.{◌≡◌}
 use Prim.Native.Nat.{◌<◌}
 use Rattle.reading.specs.Basics.{below, product}
 use Rattle.firing.proofs.Running.{Searching}
@@ -9,4 +10,5 @@ abbrev pub invariant-loop-i : goal.invariant-loop-i
 invariant-loop-i g l = record {
   seeking : Searching (fires_its l.transition l.self.marking.now) (below (product (its_sizes l.transition))) l.i;
   binds : l.i < l.many → BindsIts l.transition l.i l.env;
+  all : l.many ≡ product (its_sizes l.transition);
 }
