@@ -18,7 +18,7 @@ returns-then-left-eq0 t c places =
 
 pub returns-in_err-a-in-34 : goal.returns-in_err-a-in-34
 returns-in_err-a-in-34 t c places =
-    let p = err_from_is_err_and c.from_residual.result c.from_residual.ensures.1 in
+    let p = err_from_is_err_and c.from_residual-in_err-a-in-34.result c.from_residual-in_err-a-in-34.ensures.1 in
     rw (p.1, p.2) (two_read _ _ _ _ (omega arith) (omega arith) _ c.after-next.ensures (omega arith) (omega arith)
     (λ join joins. two_first _ _ _ join joins _ (c.in_err-a-in-34.ensures places)))
 
@@ -31,9 +31,14 @@ returns-in_err-c-in-34 t c places =
 pub returns-in-32 : goal.returns-in-32
 returns-in-32 t c places = true_read _ _ _ _ (omega arith) (omega arith) _ c.after-next.ensures c.in-32.is
 
-pub returns-in-33 : goal.returns-in-33
-returns-in-33 t c places =
-    c.read_guard.ensures places ∙ opposite_read _ _ _ _ (omega arith) (omega arith) _ c.after-next.ensures c.in-33.is
+pub returns-in_err-a-in-33 : goal.returns-in_err-a-in-33
+returns-in_err-a-in-33 t c places =
+    let p = err_from_is_err_and c.from_residual.result c.from_residual.ensures.1 in
+    rw (p.1, p.2) (c.in_err-a-in-33.ensures places ∙ opposite_read _ _ _ _ (omega arith) (omega arith) _ c.after-next.ensures c.in-33.is)
+
+pub returns-in_ok-a-in-33 : goal.returns-in_ok-a-in-33
+returns-in_ok-a-in-33 t c places =
+    c.in_ok-a-in-33.ensures places ∙ opposite_read _ _ _ _ (omega arith) (omega arith) _ c.after-next.ensures c.in-33.is
 
 pub returns-in_ok-c-in-34 : goal.returns-in_ok-c-in-34
 returns-in_ok-c-in-34 t c places =

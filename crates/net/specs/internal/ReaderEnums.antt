@@ -56,3 +56,7 @@ place_in (Two first second) = pair first second
 -- the width of a byte's operands; none: no command
 abbrev pub width_told : ℕ → Option ℕ
 width_told b = given (width_of b) None λ width. Some width
+
+-- the table's number for a byte: 255 where there is no command
+abbrev pub entry_told : ℕ → ℕ
+entry_told b = given (width_of b) 255 λ width. width
