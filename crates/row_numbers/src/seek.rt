@@ -36,7 +36,9 @@ fn seek_in(transition: &Transition, row: usize) -> Result<usize, usize>
     (row < size).then_some(row).ok_or(size)
 }
 
-// The binding of a row, if there is one.
+// The binding of a row, if there is one. A function of its own in the built code too: built into its caller, a net just read would be put together anew at
+// each binding.
+#[inline(never)]
 pub fn seek_row(drawing: &Drawing, row: usize) -> Option<Numbered>
     ensures told { LocatedTold drawing.now row result }
     ensures room { IfSome result (λ b. b.transition < 32) }
