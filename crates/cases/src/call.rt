@@ -34,19 +34,19 @@ impl TryFrom<u8> for Call {
     }
 }
 
-// Its name, as the line in front of a case has it.
+// Its name with the line's end, as the line in front of a case ends: one piece, so one write.
 impl fmt::Display for Call {
     fn fmt<W: fmt::Write>(&self, f: &mut fmt::Formatter<W>) -> fmt::Result {
         match self {
-            Call::FlatSizes => write!(f, "flat_sizes"),
-            Call::FirstRow => write!(f, "first_row"),
-            Call::FireImages => write!(f, "fire_images"),
-            Call::Unfold => write!(f, "unfold"),
-            Call::Images => write!(f, "images"),
-            Call::RowOrder => write!(f, "row_order"),
-            Call::FireOrders => write!(f, "fire_orders"),
-            Call::FirstOrder => write!(f, "first_order"),
-            Call::NetSizes => write!(f, "net_sizes"),
+            Call::FlatSizes => write!(f, "flat_sizes\n"),
+            Call::FirstRow => write!(f, "first_row\n"),
+            Call::FireImages => write!(f, "fire_images\n"),
+            Call::Unfold => write!(f, "unfold\n"),
+            Call::Images => write!(f, "images\n"),
+            Call::RowOrder => write!(f, "row_order\n"),
+            Call::FireOrders => write!(f, "fire_orders\n"),
+            Call::FirstOrder => write!(f, "first_order\n"),
+            Call::NetSizes => write!(f, "net_sizes\n"),
         }
     }
 }

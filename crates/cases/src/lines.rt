@@ -4,14 +4,14 @@ use std::io;
 use std::io::{Read, Write};
 use streams::{file_buffer, list_buffer, marking_buffer, read_bytes, read_counts, say_list};
 
-// A line of a count, or of the refusal.
+// A line of a count behind its words, or of the refusal.
 pub fn say_reply<W: Write>(
     to: &mut W,
     words: &str,
     reply: Result<usize, Refusal>,
 ) -> io::Result<()> {
     match reply {
-        Ok(count) => writeln!(to, "{words} {count}"),
+        Ok(count) => writeln!(to, "{words}{count}"),
         Err(refusal) => writeln!(to, "{refusal}"),
     }
 }
@@ -31,7 +31,7 @@ where
     let marking = read_counts(from, &mut marking);
     let list = read_bytes(from, &mut list);
     let answers = read_bytes(from, &mut answers);
-    say_reply(to, "answered", fire(file, marking, list, answers))?;
+    say_reply(to, "answered ", fire(file, marking, list, answers))?;
     say_list(to, "marking", marking)?;
     say_list(to, "answers", answers)
 }

@@ -19,10 +19,10 @@ use streams::read_call;
 // Runs one call by its number, and answers whether there is such a call.
 fn run<R: Read, W: Write>(from: &mut R, to: &mut W, call: u8, number: u64) -> io::Result<bool> {
     let Ok(call) = Call::try_from(call) else {
-        writeln!(to, "case {number} of no call")?;
+        write!(to, "case {number} {}", "of no call\n")?;
         return Ok(false);
     };
-    writeln!(to, "case {number} {call}")?;
+    write!(to, "case {number} {call}")?;
     match call {
         Call::FlatSizes => sizes_case(from, to)?,
         Call::FirstRow => first_case(from, to)?,

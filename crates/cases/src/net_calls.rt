@@ -12,7 +12,7 @@ pub fn unfold_case<R: Read, W: Write>(from: &mut R, to: &mut W) -> io::Result<()
     let mut out = file_buffer();
     let file = read_bytes(from, &mut file);
     let out = read_bytes(from, &mut out);
-    say_reply(to, "written", unfolding::unfold(file, out))?;
+    say_reply(to, "written ", unfolding::unfold(file, out))?;
     say_list(to, "output", out)
 }
 
@@ -23,7 +23,7 @@ pub fn images_case<R: Read, W: Write>(from: &mut R, to: &mut W) -> io::Result<()
     let file = read_bytes(from, &mut file);
     let orders = read_bytes(from, &mut orders);
     let out = read_bytes(from, &mut out);
-    say_reply(to, "answered", images::images(file, orders, out))?;
+    say_reply(to, "answered ", images::images(file, orders, out))?;
     say_list(to, "output", out)
 }
 
@@ -32,8 +32,8 @@ fn say_order<W: Write>(to: &mut W, word: &str, order: Order) -> io::Result<()> {
     let [first, second, third, fourth] = order.colours;
     write!(
         to,
-        "{word} 96 {} {first} {second} {third} {fourth}",
-        order.transition
+        "{word}{}{} {first} {second} {third} {fourth}",
+        "96 ", order.transition
     )
 }
 
@@ -43,7 +43,7 @@ pub fn order_case<R: Read, W: Write>(from: &mut R, to: &mut W) -> io::Result<()>
     let row = read_row(from);
     match images::row_order(file, row) {
         Ok(Some(order)) => {
-            say_order(to, "order", order)?;
+            say_order(to, "order ", order)?;
             writeln!(to)
         }
         Ok(None) => writeln!(to, "none"),
@@ -66,7 +66,7 @@ pub fn first_order_case<R: Read, W: Write>(from: &mut R, to: &mut W) -> io::Resu
     };
     match searched.found {
         Some(order) => {
-            say_order(to, "found", order)?;
+            say_order(to, "found ", order)?;
             writeln!(to, " tried {}", searched.tried)
         }
         None => writeln!(to, "nothing tried {}", searched.tried),
