@@ -17,6 +17,7 @@ use reading::{Reason, once_more, refused};
 use rows::Rows;
 
 // How many flat places and rows a flat file has, or the refusal.
+#[tactic(auto, using(crate::proofs::Calling::the_reply))]
 pub fn flat_sizes(flat: &[u8]) -> Result<FlatSizes, Refusal>
     ensures { sizes_reply result ≡ flat_sizes flat.now }
 {

@@ -15,6 +15,7 @@ pub struct NetSizes {
 }
 
 // The file is read into tables of its own; no count of tokens is kept.
+#[tactic(auto, using(crate::proofs::Counting::no_sizes, crate::proofs::Counting::the_sizes))]
 pub fn net_sizes(net: &[u8]) -> Result<NetSizes, Refusal>
     ensures { net_reply result ≡ net_sizes net.now }
 {

@@ -5,7 +5,7 @@ use Rattle.multiset.proofs.load.fill.Goals.{then-weight-lt1-via-then-weight-lt1,
 
 pub returns-then-weight-lt1-clause-is : goal.returns-then-weight-lt1-clause-is
 returns-then-weight-lt1-clause-is c = λ fits. elim c.then-weight-lt1.branch [
-  | then-weight-lt1-via-then-weight-lt1 w ↦ fill_none _ _ _ _ w.if-weight-lt1.true
+  | then-weight-lt1-via-then-weight-lt1 w ↦ fill_none _ _ _ _ (omega arith)
   | then-weight-lt1-via-else-weight-lt1+then-room-many w ↦ absurd (omega arith)
 ]
 

@@ -1,4 +1,4 @@
-use Rattle.std.proofs.Common.{◌≡◌, ◌+◌, ◌*◌, ◌-◌, arith, rules, ap, ◌∙◌}
+use Rattle.std.proofs.Common.{arith, rules, ap, ◌∙◌}
 use Rattle.firing.specs.Firing.{fired}
 use Rattle.firing.proofs.Running.{run_begin, run_item, run_items_end}
 use Rattle.flat_file.specs.Flat.{fire_image}
@@ -11,9 +11,8 @@ pub loop-i-preserved : goal.loop-i-preserved
 loop-i-preserved g c =
     record {
       runs = λ f held.
-          let e : c.loop-i.i * 5 + 5 - c.loop-i.i * 5 ≡ 5 = omega arith in
           run_item (fire_image f) 5 c.args.images.now _ _ (c.loop-i.invariant.runs f held) _ _ c.loop-i-test.true c.requires
-          (ap (λ a. fired a c.fire_nth.new.m) c.number.ensures ∙ rw e at (c.fire_nth.ensures f (rw c.loop-i.invariant.same held))) c.fire_nth.auto.m;
+          (ap (λ a. fired a c.fire_nth.new.m) c.number.ensures ∙ (c.fire_nth.ensures f (rw c.loop-i.invariant.same held) ∙ grind arith)) c.fire_nth.auto.m;
       same = search rules;
     }
 
