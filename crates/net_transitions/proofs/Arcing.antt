@@ -1,15 +1,14 @@
 -- How arcs are read, and where the loop over them stands. Assumes nothing.
-use Rattle.std.specs.Prelude.{◌+◌, ◌*◌, ◌∷◌, ◌++◌, Result, Ok, Err}
+use Rattle.std.specs.Prelude.{◌+◌, ◌*◌, ◌∷◌, Result, Ok, Err}
 use mathlib.Core.Path.{◌≡◌, refl, sym, ap, fun_ext, ◌∙◌}
 use mathlib.Core.Bool.{Bool, true, false, ◌&&◌, ◌||◌}
 use Prim.Native.Nat.{◌≤◌, ◌<◌, ◌-◌}
 use native.Mathlib.Omega.{arith}
-use borrow.Author.Tests.{lt-ltb, le-ltb, eq-eqb, ne_eqb, eqb-true, eqb-false}
+use borrow.Author.Tests.{lt-ltb, le-ltb, eq-eqb, ne_eqb, eqb-true, eqb-false, ltb-true, ltb-false}
 use lib.Bits.{bit_or}
-use lib.ListN.{set, length-set, replicate, length-append}
-use Rattle.std.proofs.lemmas.List.{get_or-replicate, length-replicate}
-use lib.Seq.{get_or-set_same, get_or-set_other, length-take-le}
-use Rattle.reading.specs.Basics.{ℕ, zero, suc, List, [], Option, some, none, option_map, absent, length, get_or, take, with, find, any, eqb, ltb, byte_at}
+use lib.ListN.{set, length-set}
+use lib.Seq.{get_or-set_same, get_or-set_other}
+use Rattle.reading.specs.Basics.{ℕ, zero, suc, List, [], Option, some, none, option_map, absent, length, get_or, with, find, any, eqb, ltb, byte_at}
 use Rattle.reading.specs.Reading.{Answer, fine, fault, under, whole}
 use Rattle.reading.specs.Refusals.{number_of}
 use Rattle.reading.proofs.Commands.{end, other, passes, done, fails, later, standing_none, stands_cut, stands_fails, stands_goes, both_hold, first_fails, second_fails}
@@ -32,7 +31,6 @@ use Rattle.net.proofs.Answers.{bits_or}
 use Rattle.net_parts.proofs.Placing.{length_places}
 use Rattle.net_parts.proofs.Tokening.{find_new, find-same}
 use Rattle.net.proofs.Inside.{expression_ends}
-use Rattle.net_transitions.proofs.Lent.{part_in, part_before}
 
 -- the place of a number, by its sets
 pub place_at_lem : (kinds : List PlaceSets) (p : ℕ) (instead : PlaceSets) → p < length kinds → get_or (places_of kinds) p (single 0) ≡ place_in (get_or kinds p instead)
@@ -227,22 +225,74 @@ pub record Arcing (s : List ℕ) (n : Net) (start : ℕ) (old table : List ℕ) 
   pub holds : RowHolds s n arcs (λ i. get_or table (from + i) 0)
   pub used : uses ≡ bits (λ v. any (λ a. in_expression v a.expression) arcs) 32
 
--- from a row that is 0 everywhere
-pub arcing_begins : (s : List ℕ) (n : Net) (start : ℕ) (zs : List ℕ) {old row : List ℕ} {from slots : ℕ} → from ≤ length old → row ≡ replicate slots 0 → slots ≡ 96 → length n.places ≤ 32
-    → Arcing s n start old (take from old ++ (row ++ zs)) from 0 start
+-- ---- a row whose slots are set to 0, place by place: those of so many places are, and no other slot of the table changes
+pub record Cleared (old table : List ℕ) (from places : ℕ) : Type 0 where
+  pub sized : from + 96 ≤ length table
+  pub zeros : (k p : ℕ) → k < 3 → p < places → get_or table (from + (k * 32 + p)) 0 ≡ 0
+  pub kept : (i : ℕ) → ((k p : ℕ) → k < 3 → p < places → i ≡ from + (k * 32 + p) → ⊥) → get_or table i 0 ≡ get_or old i 0
+
+-- what is 0 but at one slot is 0 everywhere, when that is set to 0
+set_zero : (l : List ℕ) (j i : ℕ) → j < length l → ((i ≡ j → ⊥) → get_or l i 0 ≡ 0) → get_or (set l j 0) i 0 ≡ 0
+set_zero l j i inside others = go (eqb i j) refl
+  where
+    go : (t : Bool) → eqb i j ≡ t → get_or (set l j 0) i 0 ≡ 0
+    go true e = rw (eqb-true i j e) (get_or-set_same l j 0 0 inside)
+    go false e = get_or-set_other l j i 0 0 (eqb-false i j e) ∙ others (eqb-false i j e)
+
+pub cleared_begins : (table : List ℕ) (from : ℕ) → from + 96 ≤ length table → Cleared table table from 0
+cleared_begins table from sized = record { sized = sized; zeros = λ k p hk hp. absurd (omega arith); kept = λ i other. refl }
+
+pub cleared_goes : {old table : List ℕ} {from q : ℕ} → Cleared old table from q → q < 32 → Cleared old (set (set (set table (from + q) 0) (from + 32 + q) 0) (from + 64 + q) 0) from (q + 1)
+cleared_goes {old} {table} {from} {q} l lt = record {
+  sized = rw (length-set two (from + 64 + q) 0, second) l.sized;
+  zeros = λ k p hk hp.
+      set_zero two (from + 64 + q) (from + (k * 32 + p)) (omega (arith, second, l.sized)) (λ c. set_zero one (from + 32 + q) (from + (k * 32 + p)) (omega (arith, first, l.sized))
+      (λ b. set_zero table (from + q) (from + (k * 32 + p)) (omega (arith, l.sized)) (λ a. l.zeros k p hk (below k p hk hp a b c))));
+  kept = λ i other.
+      get_or-set_other two (from + 64 + q) i 0 0 (λ e. other 2 q (omega arith) (omega arith) (omega arith)) ∙ get_or-set_other one (from + 32 + q) i 0 0 (λ e. other 1 q (omega arith) (omega arith) (omega arith))
+      ∙ get_or-set_other table (from + q) i 0 0 (λ e. other 0 q (omega arith) (omega arith) (omega arith)) ∙ l.kept i (λ k p hk hp. other k p hk (omega arith));
+}
+  where
+    one : List ℕ
+    one = set table (from + q) 0
+
+    two : List ℕ
+    two = set one (from + 32 + q) 0
+
+    first : length one ≡ length table
+    first = length-set table (from + q) 0
+
+    second : length two ≡ length table
+    second = length-set one (from + 32 + q) 0 ∙ first
+
+    below : (k p : ℕ) → k < 3 → p < q + 1 → (from + (k * 32 + p) ≡ from + q → ⊥) → (from + (k * 32 + p) ≡ from + 32 + q → ⊥) → (from + (k * 32 + p) ≡ from + 64 + q → ⊥) → p < q
+    below k p hk hp a b c = go (ltb p q) refl
+      where
+        none_else : (k : ℕ) → k < 3 → q ≤ p → (from + (k * 32 + p) ≡ from + q → ⊥) → (from + (k * 32 + p) ≡ from + 32 + q → ⊥) → (from + (k * 32 + p) ≡ from + 64 + q → ⊥) → ⊥
+        none_else zero h le a b c = a (omega arith)
+        none_else (suc zero) h le a b c = b (omega arith)
+        none_else (suc (suc zero)) h le a b c = c (omega arith)
+        none_else (suc (suc (suc k))) h le a b c = omega arith
+
+        go : (t : Bool) → ltb p q ≡ t → p < q
+        go true e = ltb-true p q e
+        go false e = absurd (none_else k hk (ltb-false p q e) a b c)
+
+-- from a row whose slots of the net's places are 0
+pub arcing_begins : (s : List ℕ) (n : Net) (start : ℕ) {old table : List ℕ} {from : ℕ} → from + 96 ≤ length table
+    → ((k p : ℕ) → k < 3 → p < length n.places → get_or table (from + (k * 32 + p)) 0 ≡ 0)
+    → ((i : ℕ) → ((k p : ℕ) → k < 3 → p < length n.places → i ≡ from + (k * 32 + p) → ⊥) → get_or table i 0 ≡ get_or old i 0) → Arcing s n start old table from 0 start
 unfolding find any bits
-arcing_begins s n start zs {old} {row} {from} {slots} le zeros all few =
-    let long : length row ≡ 96 = ap length zeros ∙ length-replicate slots 0 ∙ all in
-    record {
-      arcs = [];
-      sized = rw (length-append (take from old) (row ++ zs), length-append row zs, length-take-le from old le) (omega arith);
-      kept = λ i lt. part_before old (row ++ zs) from i le lt;
-      after = omega arith;
-      within = λ h. h;
-      reading = begins s (arc_part s n) [] start;
-      holds = λ k p hk hp. part_in old row zs from (k * 32 + p) le (omega arith) ∙ ap (λ l. get_or l (k * 32 + p) 0) zeros ∙ get_or-replicate slots (k * 32 + p) 0 0 (omega arith);
-      used = refl;
-    }
+arcing_begins s n start {old} {table} {from} sized zeros kept = record {
+  arcs = [];
+  sized = sized;
+  kept = λ i lt. kept i (λ k p hk hp e. omega arith);
+  after = omega arith;
+  within = λ h. h;
+  reading = begins s (arc_part s n) [] start;
+  holds = zeros;
+  used = refl;
+}
 
 module _ {s : List ℕ} {n : Net} {start : ℕ} {old table : List ℕ} {from uses at : ℕ} (here : Arcing s n start old table from uses at) where
   pub arcing_ends : ((arcs : List Arc) → RowHolds s n arcs (λ i. get_or table (from + i) 0) → arc_part s n arcs at ≡ none) → ArcsRead s n start (λ i. get_or table (from + i) 0) uses at

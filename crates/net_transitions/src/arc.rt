@@ -1,5 +1,5 @@
 // The arcs of a transition: where each arc's expression stands goes into a row of 96 slots of the table, 32 a kind.
-ghost use Rattle.std.specs.Prelude.{◌≡◌, List, ℕ, ◌≤◌, ◌<◌, ◌+◌, length, get_or};
+ghost use Rattle.std.specs.Prelude.{◌≡◌, List, ℕ, ◌≤◌, ◌<◌, ◌+◌, ◌*◌, length, get_or};
 ghost use Rattle.net.specs.Net.{Arc};
 ghost use Rattle.net_transitions.specs.internal.TransitionTables.{over, RowHolds, ArcTold, ArcRoom, ArcsTold, ArcsRoom};
 
@@ -54,6 +54,20 @@ fn arc_at(
     }))
 }
 
+// Sets the slots of so many places to 0, one a kind, in the row of the table from a slot on; no other slot changes.
+fn clear_row(arcs: &mut [u32; 3072], from: usize, places: usize)
+    requires row_in_bounds { from + 96 ≤ 3072 }
+    requires few_places { places ≤ 32 }
+    ensures zeros { (k p : ℕ) → k < 3 → p < places → get_or arcs.new (from + (k * 32 + p)) 0 ≡ 0 }
+    ensures kept { (i : ℕ) → ((k p : ℕ) → k < 3 → p < places → i ≡ from + (k * 32 + p) → ⊥) → get_or arcs.new i 0 ≡ get_or arcs.old i 0 }
+{
+    for p in 0..places {
+        arcs[from + p] = 0;
+        arcs[from + 32 + p] = 0;
+        arcs[from + 64 + p] = 0;
+    }
+}
+
 // The arcs of one transition, into the row from a slot on: the place after them and the variables in their expressions; or the first fault.
 pub fn read_arcs(
     ground: &Ground,
@@ -66,7 +80,8 @@ pub fn read_arcs(
     ensures room { ArcsRoom (length ground.now.scope.file.now) start result }
     ensures kept { (i : ℕ) → i < from → get_or arcs.new i 0 ≡ get_or arcs.old i 0 }
 {
-    arcs[from..from + 96].fill(0);
+    // What stands in the slots of no place of the net is never looked at.
+    clear_row(arcs, from, ground.kinds.len());
     let mut uses = 0;
     let mut at = start;
     // A while: a step is done, more or a fault.

@@ -5,7 +5,7 @@ use Rattle.net_transitions.proofs.Arcing.{arcing_begins, arcing_goes, arcing_end
 use Rattle.net_transitions.proofs.arc.read_arcs.Goals as goal
 
 pub loop-arc-init : goal.loop-arc-init
-loop-arc-init c = arcing_begins _ _ _ _ (omega arith) (c.fill.ensures.after (λ y h. h)) (omega arith) (rw length_places c.args.ground.now.few_places)
+loop-arc-init c = arcing_begins _ _ _ (omega arith) (rw length_places c.clear_row.ensures.zeros) (rw length_places c.clear_row.ensures.kept)
 
 pub returns-in_err-arc-clause-is : goal.returns-in_err-arc-clause-is
 returns-in_err-arc-clause-is c =
